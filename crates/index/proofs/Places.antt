@@ -1,0 +1,69 @@
+-- Where a key stands.
+-- Assumes nothing.
+use mathlib.Core.Path.{_≡_, sym, ap, _∙_}
+use mathlib.Core.Logic.{⊎-elim}
+use mathlib.Core.Bool.{true}
+use mathlib.Core.List.{List, [], _∷_}
+use Prim.Native.Nat.{ℕ, zero, suc, _≤_, _<_, zero-le, suc-le-suc}
+use native.Mathlib.Nat.{le-refl, le-of-suc-le-suc, not-suc-le-zero, eq-or-lt-of-le, le-antisymm}
+use native.Mathlib.Omega.{arith}
+use lib.ListN.{length, getD}
+use borrow.Author.Tests.{eq-eqb, ne-eqb}
+use Rattle.index.specs.Index.{all, keyAt, rises, usedCount, indexed, seek, LowerBound}
+use Rattle.index.proofs.Logic.{same-or-not, lt-or-ge, le-of-not-lt}
+use Rattle.index.proofs.Orders.{sorted, slot-lt, held-listed, distinct, index-count, index-rises}
+
+seek-here : (h : ℕ) (ks : List ℕ) (k : ℕ) → h ≡ k → seek (h ∷ ks) k ≡ 0
+unfolding seek
+seek-here h ks k e = rw (eq-eqb h k e)
+
+seek-there : (h : ℕ) (ks : List ℕ) (k : ℕ) → (h ≡ k → ⊥) → seek (h ∷ ks) k ≡ suc (seek ks k)
+unfolding seek
+seek-there h ks k n = rw (ne-eqb h k n)
+
+pub seek-hit : (ks : List ℕ) (k : ℕ) → seek ks k < length ks → getD ks (seek ks k) 0 ≡ k
+seek-hit [] k l = absurd (not-suc-le-zero l)
+seek-hit (h ∷ ks) k l =
+    ⊎-elim (λ e. rw (seek-here h ks k e) e) (λ n. rw (seek-there h ks k n) (seek-hit ks k (le-of-suc-le-suc (rw (seek-there h ks k n) at l)))) (same-or-not h k)
+
+pub seek-upto : (ks : List ℕ) (k s : ℕ) → s < length ks → getD ks s 0 ≡ k → seek ks k ≤ s
+seek-upto [] k s l e = absurd (not-suc-le-zero l)
+seek-upto (h ∷ ks) k zero l e = rw (seek-here h ks k e) zero-le
+seek-upto (h ∷ ks) k (suc s) l e =
+    ⊎-elim (λ q. rw (seek-here h ks k q) zero-le) (λ n. rw (seek-there h ks k n) (suc-le-suc (seek-upto ks k s (le-of-suc-le-suc l) e))) (same-or-not h k)
+
+pub seek-le : (ks : List ℕ) (k : ℕ) → seek ks k ≤ length ks
+unfolding seek
+seek-le [] k = zero-le
+seek-le (x ∷ ks) k = ⊎-elim (λ e. rw (seek-here x ks k e) zero-le) (λ n. rw (seek-there x ks k n) (suc-le-suc (seek-le ks k))) (same-or-not x k)
+
+module _ (ks os : List ℕ) (n : ℕ) (up : all (rises ks os) n ≡ true) (cnt : usedCount ks ≡ n) (k : ℕ) (pos : 0 < k) where
+  -- a key of the table stands at one place
+  pub place-at : (s : ℕ) → s < length ks → getD ks s 0 ≡ k → seek ks k ≡ s
+  place-at s l e =
+      let u = seek-upto ks k s l e in
+      let v : seek ks k < length ks = omega arith in
+      distinct ks os n up cnt (seek ks k) s (rw (seek-hit ks k v) pos) (seek-hit ks k v ∙ sym e)
+
+  -- a key at no rank stands nowhere
+  pub place-none : ((i : ℕ) → i < n → keyAt ks os i ≡ k → ⊥) → seek ks k ≡ length ks
+  place-none never =
+      le-antisymm (seek-le ks k) (le-of-not-lt (λ v.
+      let w = held-listed ks os n up cnt (seek ks k) (rw (seek-hit ks k v) pos) in
+      never (w .rank) (w .rank-lt) (ap (λ (s : ℕ). getD ks s 0) (w .is) ∙ seek-hit ks k v)))
+
+-- what a search by rank tells
+module _ (ks os : List ℕ) (n k r : ℕ) (ix : indexed ks os n ≡ true) (pos : 0 < k) (lb : LowerBound ks os n k r) where
+  pub find-past : n ≤ r → length ks ≡ seek ks k
+  find-past l = sym (place-none ks os n (index-rises ks os n ix) (index-count ks os n ix) k pos (λ i m e. let h = lb .below i (omega arith) in omega arith))
+
+  pub find-gap : r < n → (keyAt ks os r ≡ k → ⊥) → length ks ≡ seek ks k
+  find-gap l ne =
+      sym (place-none ks os n (index-rises ks os n ix) (index-count ks os n ix) k pos (λ i m e.
+      ⊎-elim (λ (a : i < r). let h = lb .below i a in omega arith)
+      (λ (b : r ≤ i).
+      ⊎-elim (λ (q : r ≡ i). ne (ap (keyAt ks os) q ∙ e)) (λ (lt : r < i). let h = sorted ks os n (index-rises ks os n ix) r i lt m in let g = lb .above r (le-refl r) l in omega arith) (eq-or-lt-of-le b))
+      (lt-or-ge i r)))
+
+  pub find-at : r < n → keyAt ks os r ≡ k → getD os r 0 ≡ seek ks k
+  find-at l e = sym (place-at ks os n (index-rises ks os n ix) (index-count ks os n ix) k pos (getD os r 0) (slot-lt ks os n (index-rises ks os n ix) r l) e)

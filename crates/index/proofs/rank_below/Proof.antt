@@ -1,0 +1,93 @@
+use mathlib.Core.Logic.{⊎-elim}
+use Prim.Native.Nat.{ℕ, _+_, _-_, _/_, _≤_, _<_}
+use native.Mathlib.Omega.{arith}
+use native.Mathlib.Nat.{le-trans, lt-of-le-of-lt}
+use borrow.Author.Needs.{needs}
+use Rattle.index.proofs.Orders.{sorted-le, slot-lt}
+use Rattle.index.specs.Index.{keyAt}
+use Rattle.index.proofs.rank_below.Statement.{statement}
+use Rattle.index.proofs.rank_below.Tie as tie
+
+abbrev Inv-loop : tie.InvT-loop
+Inv-loop keys order n k base₀ len₀ base len = (base + len ≤ n) × ((i : ℕ) → i < base → keyAt keys order i < k) × ((i : ℕ) → base + len ≤ i → i < n → k ≤ keyAt keys order i)
+
+abbrev μ-loop : tie.MeasureT-loop
+μ-loop keys order n k base₀ len₀ base len = len
+
+loop-holds : tie.Need-loop-holds Inv-loop μ-loop
+loop-holds c = (search needs, (λ i l. omega arith), (λ i l m. omega arith))
+
+add-half : tie.Need-add-half Inv-loop μ-loop
+add-half c = search needs
+
+add-s : tie.Need-add-s Inv-loop μ-loop
+add-s c = search needs
+
+sub-s : tie.Need-sub-s Inv-loop μ-loop
+sub-s c = search needs
+
+mul-s : tie.Need-mul-s Inv-loop μ-loop
+mul-s c = search needs
+
+shared-slice-read-s : tie.Need-shared-slice-read-s Inv-loop μ-loop
+shared-slice-read-s c = search needs
+
+cast-s : tie.Need-cast-s Inv-loop μ-loop
+cast-s c =
+    let l = c .before .before .loop in
+    omega (arith, c .shared-slice-known .given (l .base + (l .len + 1) / 2 - 1))
+
+mul-if1 : tie.Need-mul-if1 Inv-loop μ-loop
+mul-if1 c =
+    let l = c .before .before .loop in
+    let h = slot-lt _ _ _ (c .before .before .before .pre .1) (l .base + (l .len + 1) / 2 - 1) (omega arith) in
+    search needs
+
+shared-slice-read-if1 : tie.Need-shared-slice-read-if1 Inv-loop μ-loop
+shared-slice-read-if1 c =
+    let l = c .before .before .before .loop in
+    slot-lt _ _ _ (c .before .before .before .before .pre .1) (l .base + (l .len + 1) / 2 - 1) (omega arith)
+
+add-base : tie.Need-add-base Inv-loop μ-loop
+add-base c = ⊎-elim (λ w. omega arith) (λ w. omega arith) (c .before .if1 .came)
+
+sub-len : tie.Need-sub-len Inv-loop μ-loop
+sub-len c = search needs
+
+loop-less : tie.Need-loop-less Inv-loop μ-loop
+loop-less c = search needs
+
+loop-again : tie.Need-loop-again Inv-loop μ-loop
+loop-again c =
+    let l = c .before .before .before .before .before .loop in
+    let up = c .before .before .before .before .before .before .pre .1 in
+    let m = l .base + (l .len + 1) / 2 - 1 in
+    ⊎-elim (λ w. (omega arith, (λ i a. lt-of-le-of-lt (sorted-le _ _ _ up i m (omega arith) (omega arith)) (w .0 .taken)), (λ i a b. l .inv .2 i (omega arith) b)))
+    (λ w. (omega arith, (λ i a. l .inv .1 i (omega arith)), (λ i a b. le-trans (w .0 .left) (sorted-le _ _ _ up m i (omega arith) b))))
+    (c .before .if1 .came)
+
+returns : tie.Need-returns Inv-loop μ-loop
+returns c =
+    let l = c .before .loop in
+    record { within = omega arith; below = l .inv .1; above = λ i a b. l .inv .2 i (omega arith) b }
+
+pub rank-below-spec : {M : Type 1} → statement M
+rank-below-spec =
+    tie.close
+    (tie.spec
+    Inv-loop
+    μ-loop
+    loop-holds
+    add-half
+    add-s
+    sub-s
+    mul-s
+    shared-slice-read-s
+    cast-s
+    mul-if1
+    shared-slice-read-if1
+    add-base
+    sub-len
+    loop-less
+    loop-again
+    returns)

@@ -1,0 +1,113 @@
+// A table of keys, and an order of its places by ascending key. A place with key 0 is free.
+// The table of chunk holders and the table of pages are both of this form.
+ghost use mathlib.Core.Path.{_≡_};
+ghost use mathlib.Core.Bool.{true};
+ghost use Prim.Native.Nat.{_+_, _<_, _≤_};
+ghost use lib.ListN.{length, set};
+ghost use Rattle.index.specs.Index.{all, rises, usedCount, indexed, seek, LowerBound, MovedUp, Insertable};
+
+// How many places are in use.
+fn count_used(keys: &[u64]) -> usize
+    ensures { λ r. ⌜ r ≡ usedCount (now (keys .entry)) ⌝ }
+{
+    let mut n: usize = 0;
+    let mut i = 0;
+    while i < keys.len() {
+        if keys[i] != 0 {
+            n += 1;
+        }
+        i += 1;
+    }
+    n
+}
+
+// Whether the keys of the first n places of the order rise strictly from above 0.
+fn rising(keys: &[u64], order: &[u32], n: usize) -> bool
+    requires { ⌜ n ≤ length (now order) ⌝ }
+    ensures { λ r. ⌜ r ≡ all (rises (now (keys .entry)) (now (order .entry))) n ⌝ }
+{
+    let mut prev: u64 = 0;
+    let mut i = 0;
+    while i < n {
+        let s = order[i] as usize;
+        if keys.len() <= s {
+            return false;
+        }
+        let k = keys[s];
+        if k <= prev {
+            return false;
+        }
+        prev = k;
+        i += 1;
+    }
+    true
+}
+
+// Whether the first n of the order are the places in use, each once, by ascending key. As many as are in use, and rising: so none is missing.
+pub fn index_ok(keys: &[u64], order: &[u32], n: usize) -> bool
+    ensures { λ r. ⌜ r ≡ indexed (now (keys .entry)) (now (order .entry)) n ⌝ }
+{
+    if order.len() < n {
+        return false;
+    }
+    if count_used(keys) != n {
+        return false;
+    }
+    rising(keys, order, n)
+}
+
+// The first rank whose key is at least k. `base` and `len` bracket it, and `base` moves up by a half or not at all.
+fn rank_below(keys: &[u64], order: &[u32], n: usize, k: u64) -> usize
+    requires { ⌜ (n ≤ length (now order)) × (all (rises (now keys) (now order)) n ≡ true) ⌝ }
+    ensures { λ r. ⌜ LowerBound (now (keys .entry)) (now (order .entry)) n k r ⌝ }
+{
+    let mut base: usize = 0;
+    let mut len = n;
+    while 0 < len {
+        let half = (len + 1) / 2;
+        let s = order[base + half - 1] as usize;
+        let step = if keys[s] < k { half } else { 0 };
+        base += step;
+        len -= half;
+    }
+    base
+}
+
+// The place of the key k, or the number of places where none has it.
+pub fn find(keys: &[u64], order: &[u32], n: usize, k: u64) -> usize
+    requires { ⌜ (indexed (now keys) (now order) n ≡ true) × (0 < k) ⌝ }
+    ensures { λ r. ⌜ r ≡ seek (now (keys .entry)) k ⌝ }
+{
+    let i = rank_below(keys, order, n, k);
+    if n <= i {
+        return keys.len();
+    }
+    let s = order[i] as usize;
+    if keys[s] == k {
+        return s;
+    }
+    keys.len()
+}
+
+// Moves what stands from `at` to n up by one.
+fn move_up(order: &mut [u32], at: usize, n: usize)
+    requires { ⌜ (at ≤ n) × (n < length (now order)) ⌝ }
+    ensures { λ _. ⌜ MovedUp (now (order .entry)) (now (order .exit)) at n ⌝ }
+{
+    let mut j = n;
+    while at < j {
+        order[j] = order[j - 1];
+        j -= 1;
+    }
+}
+
+// Gives the free place s the key k, which no place has.
+pub fn insert(keys: &mut [u64], order: &mut [u32], n: usize, s: u32, k: u64)
+    requires { ⌜ Insertable (now keys) (now order) n s k ⌝ }
+    ensures { λ _. ⌜ (now (keys .exit) ≡ set (now (keys .entry)) s k) × (indexed (now (keys .exit)) (now (order .exit)) (n + 1) ≡ true) ⌝ }
+{
+    let at = rank_below(keys, order, n, k);
+    move_up(order, at, n);
+    order[at] = s;
+    keys[s as usize] = k;
+}

@@ -1,0 +1,26 @@
+-- Page arithmetic: a number that leaves 32 bits, either way, is refused with 4.
+-- Assumes nothing.
+use mathlib.Core.List.{[], _∷_}
+use Prim.Native.Nat.{ℕ, _+_, _-_, _^_}
+use lib.Dec.{leb, ltb}
+use Rattle.outcome.specs.Outcome.{Outcome, refused, done, firstOf}
+use Rattle.page_ids.specs.declared.PageAnswer.{PageAnswer}
+use Rattle.page_ids.specs.declared.PageAnswer.the-variants as page
+use Rattle.page_ids.specs.declared.BaseAnswer.{BaseAnswer}
+use Rattle.page_ids.specs.declared.BaseAnswer.the-variants as base
+
+-- 01's number, or the page id, of an answer
+abbrev pub toldPage : PageAnswer → Outcome ℕ
+toldPage (page.Refused n) = refused n
+toldPage (page.Page p) = done (p .0)
+
+-- 01's number, or the base page, of an answer
+abbrev pub toldBase : BaseAnswer → Outcome ℕ
+toldBase (base.Refused n) = refused n
+toldBase (base.Base b) = done (b .0)
+
+abbrev pub sum : ℕ → ℕ → Outcome ℕ
+sum a b = firstOf ((leb (2 ^ 32) (a + b), refused 4) ∷ []) (done (a + b))
+
+abbrev pub difference : ℕ → ℕ → Outcome ℕ
+difference a b = firstOf ((ltb a b, refused 4) ∷ []) (done (a - b))

@@ -1,0 +1,127 @@
+// A frame by value, its gas, and what an access to its heap or aux heap pays.
+// vm2: `use_gas` of state.rs and `grow_heap` of heap_access.rs.
+ghost use mathlib.Core.Path.{_≡_};
+ghost use Rattle.state.specs.Access.{newBound, used, grown, accessed};
+use page_ids::Address;
+use page_ids::PageId;
+
+pub mod quote;
+
+pub struct Frame {
+    pub gas: u32,
+    pub heap: PageId,
+    pub aux: PageId,
+    pub heap_bound: u32,
+    pub aux_bound: u32,
+    pub panicked: bool,
+}
+
+// Which of a frame's two pages an instruction reads or writes.
+pub enum Area {
+    Heap,
+    Aux,
+}
+
+// The gas that is left, and whether the amount was paid.
+pub struct Gas {
+    pub left: u32,
+    pub paid: bool,
+}
+
+// Gas and bound after an access, and whether it was paid.
+pub struct Growth {
+    pub gas: u32,
+    pub bound: u32,
+    pub paid: bool,
+}
+
+// The frame after an access, and whether it was paid.
+pub struct Step {
+    pub frame: Frame,
+    pub paid: bool,
+}
+
+// The bound that an access at an address asks for: a wrapping sum, which the operand limit keeps from wrapping.
+pub fn new_bound(address: Address) -> u32
+    ensures { λ r. ⌜ r ≡ newBound (address .0) ⌝ }
+{
+    std::num::wrapping_add_u32(address.0, 32)
+}
+
+// Uses gas; too little of it is emptied.
+pub fn use_gas(gas: u32, amount: u32) -> Gas
+    ensures { λ r. ⌜ r ≡ used gas amount ⌝ }
+{
+    if amount <= gas {
+        return Gas {
+            left: gas - amount,
+            paid: true,
+        };
+    }
+    Gas {
+        left: 0,
+        paid: false,
+    }
+}
+
+// Gas and bound after an access that asks for the bound `new`.
+pub fn grow(gas: u32, bound: u32, new: u32) -> Growth
+    ensures { λ r. ⌜ r ≡ grown gas bound new ⌝ }
+{
+    if new <= bound {
+        return Growth {
+            gas,
+            bound,
+            paid: true,
+        };
+    }
+    let gas = use_gas(gas, new - bound);
+    if gas.paid {
+        return Growth {
+            gas: gas.left,
+            bound: new,
+            paid: true,
+        };
+    }
+    Growth {
+        gas: 0,
+        bound: bound,
+        paid: false,
+    }
+}
+
+// The step that loads and stores take: the growth of one area is paid from the frame's gas.
+pub fn access(frame: Frame, area: Area, new: u32) -> Step
+    ensures { λ r. ⌜ r ≡ accessed frame area new ⌝ }
+{
+    let mut after = frame;
+    match area {
+        Area::Heap => {
+            let grown = grow(frame.gas, frame.heap_bound, new);
+            after.gas = grown.gas;
+            after.heap_bound = grown.bound;
+            return Step {
+                frame: after,
+                paid: grown.paid,
+            };
+        }
+        Area::Aux => {
+            let grown = grow(frame.gas, frame.aux_bound, new);
+            after.gas = grown.gas;
+            after.aux_bound = grown.bound;
+            return Step {
+                frame: after,
+                paid: grown.paid,
+            };
+        }
+    }
+}
+
+// The same step on a frame that is lent: tells whether it paid, which is true where nothing is due.
+pub fn grow_heap(frame: &mut Frame, area: Area, new: u32) -> bool
+    ensures { λ r. ⌜ (now (frame .exit) ≡ accessed (now (frame .entry)) area new .frame) × (r ≡ accessed (now (frame .entry)) area new .paid) ⌝ }
+{
+    let after = access(*frame, area, new);
+    *frame = after.frame;
+    after.paid
+}

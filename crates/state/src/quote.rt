@@ -1,0 +1,47 @@
+// The quote: what a list of accesses to one area would pay for its growth.
+ghost use mathlib.Core.Path.{_≡_};
+ghost use Rattle.state.specs.Quote.{higher, highest, told, quoted};
+
+pub enum Quoted {
+    Refused(u32),
+    Due(u32),
+}
+
+// The higher of an address's bound and `bound`.
+fn higher_of(address: u32, bound: u32) -> u32
+    ensures { λ r. ⌜ r ≡ higher address bound ⌝ }
+{
+    if address > 4294967263 {
+        return bound;
+    }
+    if bound < address + 32 {
+        return address + 32;
+    }
+    bound
+}
+
+// The highest bound that the addresses ask for, 0 where nothing counts.
+fn highest_of(list: &[u32]) -> u32
+    ensures { λ r. ⌜ r ≡ highest (now (list .entry)) ⌝ }
+{
+    let mut i = list.len();
+    let mut bound = 0;
+    while i > 0 {
+        i -= 1;
+        bound = higher_of(list[i], bound);
+    }
+    bound
+}
+
+pub fn quote(list: &[u32], bound: u32) -> Quoted
+    ensures { λ r. ⌜ told r ≡ quoted (now (list .entry)) bound ⌝ }
+{
+    if list.len() > 4096 {
+        return Quoted::Refused(8);
+    }
+    let new = highest_of(list);
+    if new > bound {
+        return Quoted::Due(new - bound);
+    }
+    Quoted::Due(0)
+}

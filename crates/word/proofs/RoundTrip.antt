@@ -1,0 +1,89 @@
+-- The round trips. A word's number fixes its limbs, and a number of 32 bytes fixes the bytes: so
+-- `from_big_endian (to_big_endian w)` is w, and `to_big_endian (from_big_endian b)` is b.
+-- Assumes nothing.
+use mathlib.Core.Path.{_≡_, refl, sym, ap, _∙_, subst}
+use mathlib.Core.Bool.{Bool, true, false}
+use mathlib.Core.List.{List}
+use mathlib.Core.Logic.{_⊎_, inl, inr, ⊎-elim}
+use Prim.Native.Nat.{ℕ, zero, suc, _+_, _*_, _%_, _<_, _≤_, _^_}
+use native.Mathlib.Omega.{arith}
+use native.Mathlib.Nat.{not-suc-le-zero, mod-eq-of-lt, lt-of-lt-of-le}
+use lib.Dec.{ltb}
+use lib.ListN.{length, getD}
+use lib.Seq.{ext-getD}
+use borrow.Author.Tests.{ltb-true, ltb-false}
+use Rattle.word.specs.Value.{value, bytesAt, bigEndian, lastAddress}
+
+-- i is below n, or the last below n + 1
+last? : (i n : ℕ) → i < suc n → (i < n) ⊎ (i ≡ 0 + n)
+last? i n l = go (ltb i n) refl
+  where
+    at-end : n ≤ i → i ≡ 0 + n
+    at-end m = omega arith
+
+    go : (t : Bool) → ltb i n ≡ t → (i < n) ⊎ (i ≡ 0 + n)
+    go true e = inl (ltb-true i n e)
+    go false e = inr (at-end (ltb-false i n e))
+
+-- two lists of n elements are the same if their first n elements are
+same : (b c : List ℕ) (n : ℕ) → length b ≡ n → length c ≡ n → ((i : ℕ) → i < n → getD b i 0 ≡ getD c i 0) → b ≡ c
+same b c n k l f = ext-getD 0 b c (k ∙ sym l) (λ i m. f i (subst (λ (q : ℕ). i < q) k m))
+
+limb : (a h b k : ℕ) → a < 2 ^ 64 → b < 2 ^ 64 → a + 2 ^ 64 * h ≡ b + 2 ^ 64 * k → (a ≡ b) × (h ≡ k)
+limb a h b k l m e = (omega arith, omega arith)
+
+-- four limbs of the same number are the same
+pub limbs-same : (l m : List ℕ) → length l ≡ 4 → length m ≡ 4 → ((i : ℕ) → getD l i 0 < 2 ^ 64) → ((i : ℕ) → getD m i 0 < 2 ^ 64) → value l ≡ value m → l ≡ m
+unfolding value
+limbs-same l m four four′ f g e = same l m 4 four four′ each
+  where
+    all : (getD l 0 0 ≡ getD m 0 0) × (getD l 1 0 ≡ getD m 1 0) × (getD l 2 0 ≡ getD m 2 0) × (getD l 3 0 ≡ getD m 3 0)
+    all =
+        let e₀ = limb (getD l 0 0) _ (getD m 0 0) _ (f 0) (g 0) e in
+        let e₁ = limb (getD l 1 0) _ (getD m 1 0) _ (f 1) (g 1) (e₀ .1) in
+        let e₂ = limb (getD l 2 0) _ (getD m 2 0) _ (f 2) (g 2) (e₁ .1) in
+        (e₀ .0, e₁ .0, e₂ .0, e₂ .1)
+
+    past : (i : ℕ) → suc (suc (suc (suc i))) < 4 → ⊥
+    past i k = omega arith
+
+    each : (i : ℕ) → i < 4 → getD l i 0 ≡ getD m i 0
+    each zero k = all .0
+    each (suc zero) k = all .1
+    each (suc (suc zero)) k = all .2
+    each (suc (suc (suc zero))) k = all .3
+    each (suc (suc (suc (suc i)))) k = absurd (past i k)
+
+byte : (x a y b : ℕ) → a < 256 → b < 256 → 256 * x + a ≡ 256 * y + b → (x ≡ y) × (a ≡ b)
+byte x a y b l m e = (omega arith, omega arith)
+
+bytes-each : (b c : List ℕ) (n : ℕ) → ((i : ℕ) → getD b i 0 < 256) → ((i : ℕ) → getD c i 0 < 256) → bytesAt b 0 n ≡ bytesAt c 0 n → (i : ℕ) → i < n → getD b i 0 ≡ getD c i 0
+unfolding bytesAt
+bytes-each b c zero f g e i l = absurd (not-suc-le-zero l)
+bytes-each b c (suc n) f g e i l =
+    let w = byte (bytesAt b 0 n) (getD b (0 + n) 0) (bytesAt c 0 n) (getD c (0 + n) 0) (f (0 + n)) (g (0 + n)) e in
+    ⊎-elim
+    (λ (k : i < n). bytes-each b c n f g (w .0) i k)
+    (λ (q : i ≡ 0 + n). subst (λ (j : ℕ). getD b j 0 ≡ getD c j 0) (sym q) (w .1))
+    (last? i n l)
+
+-- 32 bytes of the same number are the same
+pub bytes-same : (b c : List ℕ) → length b ≡ 32 → length c ≡ 32 → ((i : ℕ) → getD b i 0 < 256) → ((i : ℕ) → getD c i 0 < 256) → bigEndian b ≡ bigEndian c → b ≡ c
+bytes-same b c k l f g e = same b c 32 k l (bytes-each b c 32 f g e)
+
+-- limbs, to bytes and back: what `to_big_endian` and then `from_big_endian` ensure gives the limbs again
+pub limbs-again : (l b m : List ℕ) → length l ≡ 4 → length m ≡ 4 → ((i : ℕ) → getD l i 0 < 2 ^ 64) → ((i : ℕ) → getD m i 0 < 2 ^ 64)
+    → bigEndian b ≡ value l → value m ≡ bigEndian b → m ≡ l
+limbs-again l b m j k f g to from = limbs-same m l k j g f (from ∙ to)
+
+-- bytes, to limbs and back
+pub bytes-again : (b l c : List ℕ) → length b ≡ 32 → length c ≡ 32 → ((i : ℕ) → getD b i 0 < 256) → ((i : ℕ) → getD c i 0 < 256)
+    → value l ≡ bigEndian b → bigEndian c ≡ value l → c ≡ b
+bytes-again b l c j k f g from to = bytes-same c b k j g f (to ∙ from)
+
+small : (v : ℕ) → v ≤ lastAddress → v + 32 < 2 ^ 32
+small v l = omega arith
+
+-- the incremented operand of an accepted access does not wrap
+pub plus-32-small : (l m : List ℕ) → value l ≤ lastAddress → value m ≡ (value l + 32) % 2 ^ 256 → value m ≡ value l + 32
+plus-32-small l m k e = e ∙ mod-eq-of-lt (lt-of-lt-of-le (small (value l) k) (ltb-true 4294967295 (2 ^ 256) refl))

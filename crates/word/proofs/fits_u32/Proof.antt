@@ -1,0 +1,58 @@
+use mathlib.Core.Path.{sym, ap, _∙_}
+use Prim.Native.Nat.{ℕ}
+use native.Mathlib.Omega.{arith}
+use lib.Dec.{ltb}
+use lib.ListN.{getD}
+use borrow.Author.Tests.{lt-ltb, le-ltb}
+use borrow.Author.Needs.{needs}
+use Rattle.word.specs.Value.{value}
+use Rattle.word.proofs.Bytes.{limbs}
+use Rattle.word.proofs.Limbs.{above-a, above-b, above-c, above-d, only-a}
+use Rattle.word.proofs.fits_u32.Statement.{statement}
+use Rattle.word.proofs.fits_u32.Tie as tie
+
+array-read-if1 : tie.Need-array-read-if1
+array-read-if1 c = search needs
+
+returns : tie.Need-returns
+unfolding value
+returns c = let l = c .before .before .args .w .limbs in sym (le-ltb (value l) 4294967296 (above-a 4294967295 (omega arith) (getD l 0 0) (getD l 1 0) (getD l 2 0) (getD l 3 0) (c .if1 .taken)))
+
+array-read-if2 : tie.Need-array-read-if2
+array-read-if2 c = search needs
+
+returns-2 : tie.Need-returns-2
+unfolding value
+returns-2 c = let l = c .before .before .before .args .w .limbs in sym (le-ltb (value l) 4294967296 (above-b 4294967295 (omega arith) (getD l 0 0) (getD l 1 0) (getD l 2 0) (getD l 3 0) (c .if2 .taken)))
+
+array-read-if3 : tie.Need-array-read-if3
+array-read-if3 c = search needs
+
+returns-3 : tie.Need-returns-3
+unfolding value
+returns-3 c = let l = c .before .before .before .before .args .w .limbs in sym (le-ltb (value l) 4294967296 (above-c 4294967295 (omega arith) (getD l 0 0) (getD l 1 0) (getD l 2 0) (getD l 3 0) (c .if3 .taken)))
+
+array-read-if4 : tie.Need-array-read-if4
+array-read-if4 c = search needs
+
+returns-4 : tie.Need-returns-4
+unfolding value
+returns-4 c = let l = c .before .before .before .before .before .args .w .limbs in sym (le-ltb (value l) 4294967296 (above-d 4294967295 (omega arith) (getD l 0 0) (getD l 1 0) (getD l 2 0) (getD l 3 0) (c .if4 .taken)))
+
+returns-5 : tie.Need-returns-5
+unfolding value
+returns-5 c = let l = c .before .before .before .before .before .args .w .limbs in sym (ap (λ (v : ℕ). ltb v 4294967296) (only-a (getD l 0 0) (getD l 1 0) (getD l 2 0) (getD l 3 0) (c .before .before .if2 .left) (c .before .if3 .left) (c .if4 .left)) ∙ lt-ltb (getD l 0 0) 4294967296 (omega (arith, c .before .before .before .if1 .left)))
+
+pub fits-u32-spec : {M : Type 1} → statement M
+fits-u32-spec =
+    tie.close
+    (tie.spec
+    array-read-if1
+    returns
+    array-read-if2
+    returns-2
+    array-read-if3
+    returns-3
+    array-read-if4
+    returns-4
+    returns-5)

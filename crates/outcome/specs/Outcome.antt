@@ -1,16 +1,27 @@
 -- What a call answers, and the order of its checks.
 -- Assumes nothing.
-use mathlib.Core.Bool.{Bool, cond}
+use mathlib.Core.Bool.{Bool, true, false, cond}
 use mathlib.Core.List.{List, [], _∷_}
 use Prim.Native.Nat.{ℕ}
+use Rattle.outcome.specs.declared.Answer.{Answer}
+use Rattle.outcome.specs.declared.Answer.the-variants.{Done, Refused}
 
 -- A call is refused with a number of 01's table, or carried out with an answer.
 pub data Outcome (A : Type 0) : Type 0 where
   refused : ℕ → Outcome A
   done : A → Outcome A
 
+abbrev pub carriedOut : {A : Type 0} → Outcome A → Bool
+carriedOut (refused n) = false
+carriedOut (done a) = true
+
 -- The value beside the first condition that holds, or `otherwise` where none does.
 -- 01's 'table order is check order' is a list of conditions, each with its refusal, and the answer as the value otherwise.
 abbrev pub firstOf : {A : Type 0} → List (Bool × A) → A → A
 firstOf [] otherwise = otherwise
 firstOf ((holds, value) ∷ rest) otherwise = cond holds value (firstOf rest otherwise)
+
+-- 01's number of an answer that gives no value
+abbrev pub told : Answer → Outcome (Unit {0})
+told Done = done tt
+told (Refused n) = refused n

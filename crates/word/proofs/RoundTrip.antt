@@ -13,21 +13,7 @@ use lib.ListN.{length, getD}
 use lib.Seq.{ext-getD}
 use borrow.Author.Tests.{ltb-true, ltb-false}
 use Rattle.word.specs.Value.{value, bytesAt, bigEndian, lastAddress}
-
--- i is below n, or the last below n + 1
-last? : (i n : ℕ) → i < suc n → (i < n) ⊎ (i ≡ 0 + n)
-last? i n l = go (ltb i n) refl
-  where
-    at-end : n ≤ i → i ≡ 0 + n
-    at-end m = omega arith
-
-    go : (t : Bool) → ltb i n ≡ t → (i < n) ⊎ (i ≡ 0 + n)
-    go true e = inl (ltb-true i n e)
-    go false e = inr (at-end (ltb-false i n e))
-
--- two lists of n elements are the same if their first n elements are
-same : (b c : List ℕ) (n : ℕ) → length b ≡ n → length c ≡ n → ((i : ℕ) → i < n → getD b i 0 ≡ getD c i 0) → b ≡ c
-same b c n k l f = ext-getD 0 b c (k ∙ sym l) (λ i m. f i (subst (λ (q : ℕ). i < q) k m))
+use Rattle.word.proofs.Digits.{Small, last?, same}
 
 limb : (a h b k : ℕ) → a < 2 ^ 64 → b < 2 ^ 64 → a + 2 ^ 64 * h ≡ b + 2 ^ 64 * k → (a ≡ b) × (h ≡ k)
 limb a h b k l m e = (omega arith, omega arith)
@@ -57,18 +43,18 @@ limbs-same l m four four′ f g e = same l m 4 four four′ each
 byte : (x a y b : ℕ) → a < 256 → b < 256 → 256 * x + a ≡ 256 * y + b → (x ≡ y) × (a ≡ b)
 byte x a y b l m e = (omega arith, omega arith)
 
-bytes-each : (b c : List ℕ) (n : ℕ) → ((i : ℕ) → getD b i 0 < 256) → ((i : ℕ) → getD c i 0 < 256) → bytesAt b 0 n ≡ bytesAt c 0 n → (i : ℕ) → i < n → getD b i 0 ≡ getD c i 0
+bytes-each : (b c : List ℕ) (n : ℕ) → Small b → Small c → bytesAt b 0 n ≡ bytesAt c 0 n → (i : ℕ) → i < n → getD b i 0 ≡ getD c i 0
 unfolding bytesAt
 bytes-each b c zero f g e i l = absurd (not-suc-le-zero l)
 bytes-each b c (suc n) f g e i l =
-    let w = byte (bytesAt b 0 n) (getD b (0 + n) 0) (bytesAt c 0 n) (getD c (0 + n) 0) (f (0 + n)) (g (0 + n)) e in
+    let w = byte (bytesAt b 0 n) (getD b (0 + n) 0) (bytesAt c 0 n) (getD c (0 + n) 0) (f .byte (0 + n)) (g .byte (0 + n)) e in
     ⊎-elim
     (λ (k : i < n). bytes-each b c n f g (w .0) i k)
     (λ (q : i ≡ 0 + n). subst (λ (j : ℕ). getD b j 0 ≡ getD c j 0) (sym q) (w .1))
     (last? i n l)
 
 -- 32 bytes of the same number are the same
-pub bytes-same : (b c : List ℕ) → length b ≡ 32 → length c ≡ 32 → ((i : ℕ) → getD b i 0 < 256) → ((i : ℕ) → getD c i 0 < 256) → bigEndian b ≡ bigEndian c → b ≡ c
+pub bytes-same : (b c : List ℕ) → length b ≡ 32 → length c ≡ 32 → Small b → Small c → bigEndian b ≡ bigEndian c → b ≡ c
 bytes-same b c k l f g e = same b c 32 k l (bytes-each b c 32 f g e)
 
 -- limbs, to bytes and back: what `to_big_endian` and then `from_big_endian` ensure gives the limbs again
@@ -77,7 +63,7 @@ pub limbs-again : (l b m : List ℕ) → length l ≡ 4 → length m ≡ 4 → (
 limbs-again l b m j k f g to from = limbs-same m l k j g f (from ∙ to)
 
 -- bytes, to limbs and back
-pub bytes-again : (b l c : List ℕ) → length b ≡ 32 → length c ≡ 32 → ((i : ℕ) → getD b i 0 < 256) → ((i : ℕ) → getD c i 0 < 256)
+pub bytes-again : (b l c : List ℕ) → length b ≡ 32 → length c ≡ 32 → Small b → Small c
     → value l ≡ bigEndian b → bigEndian c ≡ value l → c ≡ b
 bytes-again b l c j k f g from to = bytes-same c b k j g f (to ∙ from)
 

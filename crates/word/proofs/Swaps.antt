@@ -2,13 +2,14 @@
 -- Assumes nothing.
 use mathlib.Core.Path.{_≡_, refl, sym, ap, _∙_}
 use mathlib.Core.List.{List}
-use Prim.Native.Nat.{ℕ, _+_, _*_, _/_, _%_, _<_, _^_}
+use Prim.Native.Nat.{ℕ, zero, suc, _+_, _*_, _/_, _%_, _<_, _^_}
 use native.Mathlib.Omega.{arith}
 use native.Mathlib.Nat.{mod-add-div, div-div-eq-div-mul}
-use lib.ListN.{replicate}
-use Rattle.word.specs.Value.{limbsValue, bytesAt}
+use lib.ListN.{length, getD, replicate}
+use Rattle.word.specs.Value.{limbsValue, bytesAt, digits}
 use Rattle.word.specs.Swap.{Swapped, lowFirst}
 use Rattle.word.proofs.Bytes.{limbs}
+use Rattle.word.proofs.Digits.{Small, small-set, digits-of}
 
 -- a number's digits
 digit : (x k : ℕ) → x / k ≡ x / k % 256 + 256 * (x / (k * 256))
@@ -121,10 +122,33 @@ whole-is x₃ x₂ x₁ x₀ s₃ s₂ s₁ s₀ w₃ w₂ w₁ w₀ =
     ∙ ap (λ (x : ℕ). limbsValue x₀ x₁ x (bytesAt (whole s₃ s₂ s₁ s₀) 0 8)) (swapped x₂ s₂ w₂)
     ∙ ap (limbsValue x₀ x₁ x₂) (swapped x₃ s₃ w₃)
 
-pub written : (x₃ x₂ x₁ x₀ s₃ s₂ s₁ s₀ : ℕ) {r₁ r₂ r₃ r₄ : List ℕ} → r₁ ≡ lowFirst (replicate 32 0) 0 s₃ → r₂ ≡ lowFirst r₁ 8 s₂ → r₃ ≡ lowFirst r₂ 16 s₁ → r₄ ≡ lowFirst r₃ 24 s₀
-    → Swapped x₃ s₃ → Swapped x₂ s₂ → Swapped x₁ s₁ → Swapped x₀ s₀ → bytesAt r₄ 0 32 ≡ limbsValue x₀ x₁ x₂ x₃
-unfolding whole
-written x₃ x₂ x₁ x₀ s₃ s₂ s₁ s₀ e₁ e₂ e₃ e₄ w₃ w₂ w₁ w₀ =
-    ap (λ (r : List ℕ). bytesAt r 0 32)
-    (e₄ ∙ ap (λ (r : List ℕ). lowFirst r 24 s₀) (e₃ ∙ ap (λ (r : List ℕ). lowFirst r 16 s₁) (e₂ ∙ ap (λ (r : List ℕ). lowFirst r 8 s₂) e₁)))
-    ∙ whole-is x₃ x₂ x₁ x₀ s₃ s₂ s₁ s₀ w₃ w₂ w₁ w₀
+-- the bytes of a limb, written low first after a swap, are bytes
+small-limb : (b : List ℕ) (at x s : ℕ) → Small b → Swapped x s → Small (lowFirst b at s)
+small-limb b at x s f w =
+    let top : s / 2 ^ 56 < 256 = let t = w .b₇ in let l = rest x in omega arith in
+    small-set (at + 7) (s / 2 ^ 56) (small-set (at + 6) (s / 2 ^ 48 % 256) (small-set (at + 5) (s / 2 ^ 40 % 256) (small-set (at + 4) (s / 2 ^ 32 % 256) (small-set (at + 3) (s / 2 ^ 24 % 256) (small-set (at + 2) (s / 2 ^ 16 % 256) (small-set (at + 1) (s / 2 ^ 8 % 256) (small-set at (s % 256) f (rest _)) (rest _)) (rest _)) (rest _)) (rest _)) (rest _)) (rest _)) top
+
+zero-byte : (n i : ℕ) → getD (replicate n 0) i 0 < 256
+zero-byte zero i = omega arith
+zero-byte (suc n) zero = omega arith
+zero-byte (suc n) (suc i) = zero-byte n i
+
+module _ (x₃ x₂ x₁ x₀ s₃ s₂ s₁ s₀ : ℕ) (w₃ : Swapped x₃ s₃) (w₂ : Swapped x₂ s₂) (w₁ : Swapped x₁ s₁) (w₀ : Swapped x₀ s₀) where
+  whole-small : Small (whole s₃ s₂ s₁ s₀)
+  unfolding whole
+  whole-small = small-limb _ 24 x₀ s₀ (small-limb _ 16 x₁ s₁ (small-limb _ 8 x₂ s₂ (small-limb (replicate 32 0) 0 x₃ s₃ (record { byte = zero-byte 32 }) w₃) w₂) w₁) w₀
+
+  whole-long : length (whole s₃ s₂ s₁ s₀) ≡ 32
+  unfolding whole
+  whole-long = refl
+
+  module _ {r₁ r₂ r₃ r₄ : List ℕ} (e₁ : r₁ ≡ lowFirst (replicate 32 0) 0 s₃) (e₂ : r₂ ≡ lowFirst r₁ 8 s₂) (e₃ : r₃ ≡ lowFirst r₂ 16 s₁) (e₄ : r₄ ≡ lowFirst r₃ 24 s₀) where
+    r-is : r₄ ≡ whole s₃ s₂ s₁ s₀
+    unfolding whole
+    r-is = e₄ ∙ ap (λ (r : List ℕ). lowFirst r 24 s₀) (e₃ ∙ ap (λ (r : List ℕ). lowFirst r 16 s₁) (e₂ ∙ ap (λ (r : List ℕ). lowFirst r 8 s₂) e₁))
+
+    -- four limbs, swapped and written out, are the bytes of the word
+    pub written : (bytesAt r₄ 0 32 ≡ limbsValue x₀ x₁ x₂ x₃) × (r₄ ≡ digits 32 (limbsValue x₀ x₁ x₂ x₃))
+    written =
+        let number = whole-is x₃ x₂ x₁ x₀ s₃ s₂ s₁ s₀ w₃ w₂ w₁ w₀ in
+        (ap (λ (r : List ℕ). bytesAt r 0 32) r-is ∙ number, r-is ∙ digits-of (whole s₃ s₂ s₁ s₀) 32 whole-long whole-small ∙ ap (digits 32) number)

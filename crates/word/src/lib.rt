@@ -3,7 +3,7 @@
 ghost use mathlib.Core.Path.{_≡_};
 ghost use Prim.Native.Nat.{_+_, _*_, _%_, _≤_, _<_, _^_};
 ghost use lib.Dec.{ltb};
-ghost use Rattle.word.specs.Value.{value, limbsValue, bytesAt, bigEndian, lastAddress};
+ghost use Rattle.word.specs.Value.{value, limbsValue, bytesAt, bigEndian, wordBytes, lastAddress};
 ghost use Rattle.word.specs.Swap.{Swapped, lowFirst};
 
 pub struct Word {
@@ -74,7 +74,7 @@ fn le_put(b: &mut [u8; 32], at: usize, v: u64)
 }
 
 pub fn to_big_endian(w: Word) -> [u8; 32]
-    ensures { λ r. ⌜ bigEndian r ≡ value (w .limbs) ⌝ }
+    ensures { λ r. ⌜ (bigEndian r ≡ value (w .limbs)) × (r ≡ wordBytes (value (w .limbs))) ⌝ }
 {
     let l = w.limbs;
     let mut b = [0u8; 32];

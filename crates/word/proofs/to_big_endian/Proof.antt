@@ -44,7 +44,11 @@ le-put-requires-4 c κs = search needs
 
 returns : tie.Need-returns
 unfolding value
-returns c = let l = c .before .before .before .before .before .before .before .before .before .before .before .before .before .args .w .limbs in written (getD l 3 0) (getD l 2 0) (getD l 1 0) (getD l 0 0) _ _ _ _ (c .before .before .before .before .before .before .before .before .before .le-put .ensures) (c .before .before .before .before .before .before .le-put2 .ensures) (c .before .before .before .le-put3 .ensures) (c .le-put4 .ensures) (c .before .before .before .before .before .before .before .before .before .before .swap .ensures) (c .before .before .before .before .before .before .before .swap2 .ensures) (c .before .before .before .before .swap3 .ensures) (c .before .swap4 .ensures)
+returns c =
+    let limbs = c .before .before .before .before .before .before .before .before .before .before .before .before .before .args .w .limbs in
+    written (getD limbs 3 0) (getD limbs 2 0) (getD limbs 1 0) (getD limbs 0 0) _ _ _ _
+    (c .before .before .before .before .before .before .before .before .before .before .swap .ensures) (c .before .before .before .before .before .before .before .swap2 .ensures) (c .before .before .before .before .swap3 .ensures) (c .before .swap4 .ensures)
+    (c .before .before .before .before .before .before .before .before .before .le-put .ensures) (c .before .before .before .before .before .before .le-put2 .ensures) (c .before .before .before .le-put3 .ensures) (c .le-put4 .ensures)
 
 pub to-big-endian-spec : {M : Type 1} → statement M
 to-big-endian-spec =

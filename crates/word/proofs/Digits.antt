@@ -23,6 +23,7 @@ last? i n l = go (ltb i n) refl
   where
     at-end : n ≤ i → i ≡ 0 + n
     at-end m = omega arith
+
     go : (t : Bool) → ltb i n ≡ t → (i < n) ⊎ (i ≡ 0 + n)
     go true e = inl (ltb-true i n e)
     go false e = inr (at-end (ltb-false i n e))

@@ -1,0 +1,105 @@
+-- Ranges of chunks, held one after the other.
+-- Assumes nothing.
+use mathlib.Core.Path.{_≡_, refl, sym, ap, _∙_}
+use mathlib.Core.Logic.{⊎-elim}
+use mathlib.Core.Bool.{Bool, true, false, cond, _&&_, _||_}
+use Prim.Native.Nat.{ℕ, zero, suc, _+_, _-_, _≤_, _<_}
+use native.Mathlib.Nat.{le-refl}
+use native.Mathlib.Numerals.{add-one}
+use native.Mathlib.Omega.{arith}
+use lib.Dec.{ltb, leb, eqb}
+use borrow.Author.Tests.{lt-ltb, le-ltb, le-leb, lt-leb, eq-eqb, ne-eqb}
+use Rattle.index.proofs.Logic.{same-or-not, lt-or-ge}
+use Rattle.view.specs.View.{View}
+use Rattle.view.specs.Steps.{missing}
+use Rattle.view.specs.Inner.{holding}
+use Rattle.view.proofs.Equal.{view-by}
+
+-- ---- how many are missing
+module _ (has : ℕ → Bool) (k : ℕ) where
+  pub missing-none : missing has k 0 ≡ 0
+  unfolding missing
+  missing-none = refl
+
+  pub missing-more : (n : ℕ) → missing has k (n + 1) ≡ missing has k n + cond (has (k + n)) 0 1
+  unfolding missing
+  missing-more n = rw (add-one n)
+
+  pub missing-one : missing has k 1 ≡ cond (has k) 0 1
+  missing-one =
+      let z : k + 0 ≡ k = omega arith in
+      let a = missing-more 0 in
+      let b = missing-none in
+      let c : _≡_ {A = ℕ} (cond (has (k + 0)) 0 1) (cond (has k) 0 1) = ap (λ (x : ℕ). cond (has x) 0 1) z in
+      omega arith
+
+  pub missing-le : (n i : ℕ) → i ≤ n → missing has k i ≤ missing has k n
+  missing-le zero i l = let e : i ≡ 0 = omega arith in rw e (le-refl (missing has k 0))
+  missing-le (suc n) i l =
+      ⊎-elim
+      (λ (e : i ≡ suc n). rw e (le-refl (missing has k (suc n))))
+      (λ (ne : i ≡ suc n → ⊥).
+      let h = missing-le n i (omega arith) in
+      let q : missing has k (suc n) ≡ missing has k n + cond (has (k + n)) 0 1 = ap (missing has k) (sym (add-one n)) ∙ missing-more n in
+      omega arith)
+      (same-or-not i (suc n))
+
+-- ---- the chunks of a range
+-- of one
+pub only : (k j : ℕ) → (leb k j && ltb j (k + 1)) ≡ eqb j k
+only k j =
+    ⊎-elim
+    (λ (e : j ≡ k). rw (eq-eqb j k e, le-leb k j (omega arith), lt-ltb j (k + 1) (omega arith)))
+    (λ (ne : j ≡ k → ⊥).
+    rw (ne-eqb j k ne)
+    (⊎-elim (λ (l : j < k). rw (lt-leb k j l)) (λ (l : k ≤ j). rw (le-leb k j l) (le-ltb j (k + 1) (omega arith))) (lt-or-ge j k)))
+    (same-or-not j k)
+
+-- of one more
+more : (k n j : ℕ) → (leb k j && ltb j (k + (n + 1))) ≡ (eqb j (k + n) || (leb k j && ltb j (k + n)))
+more k n j =
+    ⊎-elim
+    (λ (e : j ≡ k + n). rw (eq-eqb j (k + n) e, le-leb k j (omega arith)) (lt-ltb j (k + (n + 1)) (omega arith)))
+    (λ (ne : j ≡ k + n → ⊥).
+    rw (ne-eqb j (k + n) ne)
+    (⊎-elim
+    (λ (l : j < k). rw (lt-leb k j l))
+    (λ (l : k ≤ j).
+    rw (le-leb k j l)
+    (⊎-elim (λ (u : j < k + n). lt-ltb j (k + (n + 1)) (omega arith) ∙ sym (lt-ltb j (k + n) u)) (λ (u : k + n ≤ j). le-ltb j (k + (n + 1)) (omega arith) ∙ sym (le-ltb j (k + n) u)) (lt-or-ge j (k + n))))
+    (lt-or-ge j k)))
+    (same-or-not j (k + n))
+
+-- of none
+none : (k j : ℕ) → (leb k j && ltb j (k + 0)) ≡ false
+none k j = ⊎-elim (λ (l : j < k). rw (lt-leb k j l)) (λ (l : k ≤ j). rw (le-leb k j l) (le-ltb j (k + 0) (omega arith))) (lt-or-ge j k)
+
+spread : (a x y h : Bool) → ((a && (x || y)) || h) ≡ ((a && x) || ((a && y) || h))
+spread true true y h = refl
+spread true false y h = refl
+spread false x y h = refl
+
+off : (a b h : Bool) → b ≡ false → ((a && b) || h) ≡ h
+off true b h e = rw e
+off false b h e = refl
+
+module _ (p k : ℕ) (v : View) where
+  pub holding-none : v ≡ holding p k 0 v
+  holding-none =
+      view-by v (holding p k 0 v) (λ q a. refl) (λ q j. sym (off (eqb q p) _ (v .held q j) (none k j))) (let h = missing-none (v .held p) k in omega arith) (λ q. refl) refl refl (λ j. refl)
+
+  -- the next chunk is held as it was
+  pub next-held : (n : ℕ) → holding p k n v .held p (k + n) ≡ v .held p (k + n)
+  next-held n = off (eqb p p) _ (v .held p (k + n)) (rw (le-leb k (k + n) (omega arith)) (le-ltb (k + n) (k + n) (le-refl (k + n))))
+
+  pub holding-more : (n : ℕ) → holding p (k + n) 1 (holding p k n v) ≡ holding p k (n + 1) v
+  holding-more n =
+      view-by (holding p (k + n) 1 (holding p k n v)) (holding p k (n + 1) v) (λ q a. refl)
+      (λ q j. rw (only (k + n) j, more k n j) (sym (spread (eqb q p) (eqb j (k + n)) (leb k j && ltb j (k + n)) (v .held q j))))
+      pools (λ q. refl) refl refl (λ j. refl)
+    where
+      pools : v .pool - missing (v .held p) k n - missing (holding p k n v .held p) (k + n) 1 ≡ v .pool - missing (v .held p) k (n + 1)
+      pools =
+          let a = missing-more (v .held p) k n in
+          let b : missing (holding p k n v .held p) (k + n) 1 ≡ cond (v .held p (k + n)) 0 1 = missing-one (holding p k n v .held p) (k + n) ∙ ap (λ (x : Bool). cond x 0 1) (next-held n) in
+          omega arith

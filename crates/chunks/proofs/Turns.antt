@@ -1,0 +1,114 @@
+-- The chunks of a range, held one after the other.
+-- Assumes nothing.
+use mathlib.Core.Path.{_≡_, refl, sym, ap, _∙_}
+use mathlib.Core.Bool.{Bool, true, cond}
+use mathlib.Core.List.{List}
+use Prim.Native.Nat.{ℕ, _+_, _≤_, _<_}
+use native.Mathlib.Omega.{arith}
+use lib.Dec.{ltb}
+use lib.ListN.{length, getD, take}
+use borrow.Author.Tests.{lt-ltb, le-ltb, ltb-true}
+use Rattle.index.specs.Index.{seek}
+use Rattle.index.proofs.Places.{seek-hit}
+use Rattle.store.specs.Mem.{Mem, mem, slotCount, heldNow, holders, entries}
+use Rattle.store.specs.Hold.{lacks, Held}
+use Rattle.formed.specs.Parts.{keyOf, entryOf, allocated, holds}
+use Rattle.formed.specs.WellFormed.{WellFormed, keyEntry, keyChunk}
+use Rattle.formed.proofs.Keys.{key-entry, key-chunk}
+use Rattle.formed.proofs.Sense.{pool-is, holds-near}
+use Rattle.view.specs.View.{View, viewOf, settingOf}
+use Rattle.view.specs.Steps.{missing}
+use Rattle.view.specs.Does.{Shows}
+use Rattle.view.specs.Inner.{holding, HoldAsks}
+use Rattle.chunks.proofs.Asks.{slots-asks, lacks-is}
+use Rattle.chunks.proofs.Ranges.{missing-more, missing-le, next-held, holding-none, holding-more}
+use Rattle.chunks.proofs.Taking.{Took, took, took-shows}
+
+-- one chunk: what `hold` leaves of a well-formed memory, given the key of chunk n of the allocated page p
+module _ (bytes keys order words : List ℕ) (f : WellFormed (mem bytes keys order words)) (p n k : ℕ) (listed : allocated (mem bytes keys order words) p ≡ true)
+    (near : n ≤ 16777216) (is : k ≡ keyOf (entryOf (mem bytes keys order words) p) n) where
+  abbrev m : Mem
+  m = mem bytes keys order words
+
+  used : 0 < getD (entries m) (keyEntry k) 0
+  unfolding allocated
+  used =
+      let l = ltb-true (entryOf m p) (length (entries m)) listed in
+      let h = seek-hit (entries m) (p + 1) l in
+      let e : keyEntry k ≡ entryOf m p = ap keyEntry is ∙ key-entry (entryOf m p) n (omega arith) in
+      let g : getD (entries m) (keyEntry k) 0 ≡ getD (entries m) (entryOf m p) 0 = ap (λ (x : ℕ). getD (entries m) x 0) e in
+      omega arith
+
+  pub held-took : (s : ℕ) (keys' order' words' : List ℕ) → Held k keys order words s keys' order' words' → Took k keys order words keys' order' words'
+  held-took s keys' order' words' h = took k keys order words (slots-asks m f) (omega arith) s keys' order' words' h
+
+  pub held-shows : (s : ℕ) (keys' order' words' : List ℕ) → Held k keys order words s keys' order' words' → Shows (settingOf m) (holding p n 1 (viewOf m)) (mem bytes keys' order' words')
+  held-shows s keys' order' words' h =
+      let c : keyChunk k ≡ n = ap keyChunk is ∙ key-chunk (entryOf m p) n (omega arith) in
+      took-shows bytes keys order words keys' order' words' f k (omega arith) used (omega arith) (held-took s keys' order' words' h) p n listed near is
+
+-- m is m₀ after the n chunks from k on of page p were held; the pages stand at the entries where they stood
+pub record After (m₀ : Mem) (p k n : ℕ) (m : Mem) : Type 0 where
+  pub shows : Shows (settingOf m₀) (holding p k n (viewOf m₀)) m
+  pub pages : entries m ≡ entries m₀
+
+pub after-none : (m : Mem) (p k : ℕ) → WellFormed m → After m p k 0 m
+after-none m p k f = record { shows = record { formed = f; setting = refl; view = holding-none p k (viewOf m) }; pages = refl }
+
+-- the next one
+module _ (m₀ : Mem) (p k count : ℕ) (asks : HoldAsks m₀ p k count) (i : ℕ) (more : i < count) (bytes keys order words : List ℕ) (a : After m₀ p k i (mem bytes keys order words))
+    (e key : ℕ) (at : e ≡ entryOf m₀ p) (is : key ≡ keyOf e (k + i)) where
+  abbrev m₁ : Mem
+  m₁ = mem bytes keys order words
+
+  near : k + i ≤ 16777216
+  near = let t = asks .top in omega arith
+
+  entry-now : entryOf m₁ p ≡ entryOf m₀ p
+  entry-now = ap (λ (x : List ℕ). seek x (p + 1)) (a .pages)
+
+  key-now : key ≡ keyOf (entryOf m₁ p) (k + i)
+  key-now = let q = entry-now in omega arith
+
+  listed-now : allocated m₁ p ≡ true
+  listed-now = ap (λ (v : View). v .allocated p) (a .shows .view) ∙ asks .listed
+
+  pub turn-room : lacks (take (slotCount words) keys) key + heldNow words ≤ slotCount words
+  turn-room =
+      let f = a .shows .formed in
+      let l : lacks (holders m₁) key ≡ cond (holds m₀ p (k + i)) 0 1 =
+      ap (lacks (holders m₁)) key-now ∙ lacks-is m₁ f p (k + i) near ∙ ap (λ (v : View). cond (v .held p (k + i)) 0 1) (a .shows .view) ∙ ap (λ (b : Bool). cond b 0 1) (next-held p k (viewOf m₀) i) in
+      let q = pool-is m₁ f in
+      let g = ap (λ (v : View). v .pool) (a .shows .view) in
+      let s = missing-more (viewOf m₀ .held p) k i in
+      let t = missing-le (viewOf m₀ .held p) k count (i + 1) (omega arith) in
+      let r = asks .room in
+      omega arith
+
+  pub turn-after : (s : ℕ) (keys' order' words' : List ℕ) → Held key keys order words s keys' order' words' → After m₀ p k (i + 1) (mem bytes keys' order' words')
+  turn-after s keys' order' words' h =
+      let f = a .shows .formed in
+      let d = held-shows bytes keys order words f p (k + i) key listed-now near key-now s keys' order' words' h in
+      let w = held-took bytes keys order words f p (k + i) key listed-now near key-now s keys' order' words' h in
+      record {
+        shows = record {
+          formed = d .formed;
+          setting = d .setting ∙ a .shows .setting;
+          view = d .view ∙ ap (holding p (k + i) 1) (a .shows .view) ∙ holding-more p k (viewOf m₀) i;
+        };
+        pages = w .pages ∙ a .pages;
+      }
+
+-- ---- counting those that are missing
+module _ (m : Mem) (f : WellFormed m) (p k i : ℕ) (near : k + i ≤ 16777216) (key s : ℕ) (is : key ≡ keyOf (entryOf m p) (k + i)) (at : s ≡ seek (holders m) key) where
+  holds-now : holds m p (k + i) ≡ ltb s (slotCount (m .words))
+  holds-now = holds-near m p (k + i) near ∙ ap (λ (x : ℕ). ltb x (slotCount (m .words))) (ap (seek (holders m)) (sym is) ∙ sym at)
+
+  pub count-lack : slotCount (m .words) ≤ s → missing (holds m p) k (i + 1) ≡ missing (holds m p) k i + 1
+  count-lack l = missing-more (holds m p) k i ∙ ap (λ (b : Bool). missing (holds m p) k i + cond b 0 1) (holds-now ∙ le-ltb s (slotCount (m .words)) l)
+
+  pub count-hold : s < slotCount (m .words) → missing (holds m p) k (i + 1) ≡ missing (holds m p) k i
+  count-hold l =
+      let h = missing-more (holds m p) k i in
+      let g : _≡_ {A = ℕ} (cond (holds m p (k + i)) 0 1) 0 = ap (λ (b : Bool). cond b 0 1) (holds-now ∙ lt-ltb s (slotCount (m .words)) l) in
+      omega arith

@@ -1,0 +1,121 @@
+use mathlib.Core.Path.{subst, _≡_, refl}
+use Prim.Native.Nat.{ℕ, _+_, _*_, _-_, _≤_}
+use native.Mathlib.Nat.{le-antisymm}
+use native.Mathlib.Omega.{arith}
+use lib.ListN.{length}
+use borrow.Author.Needs.{needs}
+use Rattle.store.specs.Mem.{mem}
+use Rattle.view.specs.View.{viewOf, settingOf}
+use Rattle.view.specs.Does.{Shows}
+use Rattle.view.specs.Inner.{holding}
+use Rattle.chunks.proofs.Asks.{slots-asks, pages-asks, entry-few}
+use Rattle.chunks.proofs.Turns.{After, after-none, turn-room, turn-after}
+use Rattle.chunks.proofs.hold_chunks.Statement.{statement}
+use Rattle.chunks.proofs.hold_chunks.Tie as tie
+
+abbrev Inv-loop : tie.InvT-loop
+Inv-loop bytes keys₀ order₀ words₀ page first count e k i₀ keys order words i =
+    (i ≤ count) × (length keys ≡ length keys₀) × (length order ≡ length order₀) × (length words ≡ length words₀) × After (mem bytes keys₀ order₀ words₀) page first i (mem bytes keys order words)
+
+abbrev μ-loop : tie.MeasureT-loop
+μ-loop bytes keys₀ order₀ words₀ page first count e k i₀ keys order words i = count - i
+
+entry-of-requires : tie.Need-entry-of-requires Inv-loop μ-loop
+entry-of-requires c κs =
+    let start = c .before .before .before .before .before .before .before in
+    pages-asks _ (start .pre .formed)
+
+mul-k : tie.Need-mul-k Inv-loop μ-loop
+mul-k c =
+    let at-entry-of = c in
+    let start = at-entry-of .before .before .before .before .before .before .before .before in
+    omega (arith, entry-few (mem (start .args .bytes .now) (start .args .keys .now) (start .args .order .now) (start .args .words .now)) (start .pre .formed) (start .args .page), at-entry-of .entry-of .ensures, start .pre .top)
+
+add-k : tie.Need-add-k Inv-loop μ-loop
+add-k c =
+    let at-entry-of = c in
+    let start = at-entry-of .before .before .before .before .before .before .before .before in
+    omega (arith, entry-few (mem (start .args .bytes .now) (start .args .keys .now) (start .args .order .now) (start .args .words .now)) (start .pre .formed) (start .args .page), at-entry-of .entry-of .ensures, start .pre .top)
+
+add-k-2 : tie.Need-add-k-2 Inv-loop μ-loop
+add-k-2 c =
+    let at-entry-of = c in
+    let start = at-entry-of .before .before .before .before .before .before .before .before in
+    omega (arith, entry-few (mem (start .args .bytes .now) (start .args .keys .now) (start .args .order .now) (start .args .words .now)) (start .pre .formed) (start .args .page), at-entry-of .entry-of .ensures, start .pre .top)
+
+loop-holds : tie.Need-loop-holds Inv-loop μ-loop
+loop-holds c =
+    let start = c .before .before .before .before .before .before .before .before in
+    (search needs, refl, refl, refl, after-none _ _ _ (start .pre .formed))
+
+cast-hold : tie.Need-cast-hold Inv-loop μ-loop
+cast-hold c = search needs
+
+add-hold : tie.Need-add-hold Inv-loop μ-loop
+add-hold c =
+    let at-loop-test = c .before .before .before in
+    let at-entry-of = at-loop-test .before .before in
+    let start = at-entry-of .before .before .before .before .before .before .before .before in
+    omega (arith, entry-few (mem (start .args .bytes .now) (start .args .keys .now) (start .args .order .now) (start .args .words .now)) (start .pre .formed) (start .args .page), at-entry-of .entry-of .ensures, at-loop-test .loop-test .taken, start .pre .top)
+
+hold-requires : tie.Need-hold-requires Inv-loop μ-loop
+hold-requires c κs =
+    let at-loop-test = c .before .before .before in
+    let at-loop = at-loop-test .before in
+    let at-entry-of = at-loop .before in
+    let start = at-entry-of .before .before .before .before .before .before .before .before in
+    (slots-asks _ (at-loop .loop .inv .4 .shows .formed), (omega arith, turn-room _ _ _ _ (start .pre) (at-loop .loop .i) (at-loop-test .loop-test .taken) _ _ _ _ (at-loop .loop .inv .4) _ (at-entry-of .entry-of .result * 33554432 + 1 + start .args .first + at-loop .loop .i) (at-entry-of .entry-of .ensures) (omega arith)))
+
+add-i : tie.Need-add-i Inv-loop μ-loop
+add-i c = search needs
+
+loop-less : tie.Need-loop-less Inv-loop μ-loop
+loop-less c = search needs
+
+loop-again : tie.Need-loop-again Inv-loop μ-loop
+loop-again c =
+    let at-hold = c .before .before .before .before .before .before in
+    let at-loop-test = at-hold .before .before .before .before in
+    let at-loop = at-loop-test .before in
+    let at-entry-of = at-loop .before in
+    let start = at-entry-of .before .before .before .before .before .before .before .before in
+    (search needs, search needs, search needs, search needs, turn-after _ _ _ _ (start .pre) (at-loop .loop .i) (at-loop-test .loop-test .taken) _ _ _ _ (at-loop .loop .inv .4) _ (at-entry-of .entry-of .result * 33554432 + 1 + start .args .first + at-loop .loop .i) (at-entry-of .entry-of .ensures) (omega arith) _ _ _ _ (at-hold .hold .ensures))
+
+same-length : tie.Need-same-length Inv-loop μ-loop
+same-length c = search needs
+
+same-length-2 : tie.Need-same-length-2 Inv-loop μ-loop
+same-length-2 c = search needs
+
+same-length-3 : tie.Need-same-length-3 Inv-loop μ-loop
+same-length-3 c = search needs
+
+returns : tie.Need-returns Inv-loop μ-loop
+returns c =
+    let at-loop-test = c in
+    let at-loop = at-loop-test .before in
+    let start = at-loop .before .before .before .before .before .before .before .before .before in
+    let m = mem (start .args .bytes .now) (start .args .keys .now) (start .args .order .now) (start .args .words .now) in
+    subst (λ (x : ℕ). Shows (settingOf m) (holding (start .args .page) (start .args .first) x (viewOf m)) (mem (start .args .bytes .now) (at-loop .loop .keys) (at-loop .loop .order) (at-loop .loop .words))) (le-antisymm (at-loop .loop .inv .0) (at-loop-test .loop-test .left)) (at-loop .loop .inv .4 .shows)
+
+pub hold-chunks-spec : {M : Type 1} → statement M
+hold-chunks-spec =
+    tie.close
+    (tie.spec
+    Inv-loop
+    μ-loop
+    entry-of-requires
+    mul-k
+    add-k
+    add-k-2
+    loop-holds
+    cast-hold
+    add-hold
+    hold-requires
+    add-i
+    loop-less
+    loop-again
+    same-length
+    same-length-2
+    same-length-3
+    returns)

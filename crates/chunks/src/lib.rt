@@ -1,0 +1,61 @@
+// Chunks: which of a range are missing, and the missing ones taken from the pool.
+ghost use mathlib.Core.Path.{_≡_};
+ghost use Prim.Native.Nat.{_+_, _≤_};
+ghost use Rattle.store.specs.Mem.{mem};
+ghost use Rattle.formed.specs.WellFormed.{WellFormed};
+ghost use Rattle.view.specs.View.{settingOf, viewOf};
+ghost use Rattle.view.specs.Steps.{missing};
+ghost use Rattle.view.specs.Does.{Shows};
+ghost use Rattle.view.specs.Inner.{holding, HoldAsks};
+
+// How many of the chunks first, .., first + count - 1 the page does not hold.
+pub fn lacking(
+    bytes: &[u8],
+    keys: &[u64],
+    order: &[u32],
+    words: &[u64],
+    page: u32,
+    first: u32,
+    count: u32,
+) -> u32
+    requires { ⌜ (WellFormed (mem (now bytes) (now keys) (now order) (now words))) × (first + count ≤ 16777217) ⌝ }
+    ensures { λ r. ⌜ r ≡ missing (viewOf (mem (now (bytes .entry)) (now (keys .entry)) (now (order .entry)) (now (words .entry))) .held page) first count ⌝ }
+{
+    let e = store::entry_of(keys, order, words, page);
+    // The key of the first chunk; the next ones follow it.
+    let k = e as u64 * 33554432 + 1 + first as u64;
+    let c = words[6] as usize;
+    let mut n = 0;
+    let mut i = 0;
+    while i < count {
+        let s = store::slot_of(keys, order, words, k + i as u64);
+        if s >= c {
+            n += 1;
+        }
+        i += 1;
+    }
+    n
+}
+
+// The page, which is allocated, holds them all.
+pub fn hold_chunks(
+    bytes: &[u8],
+    keys: &mut [u64],
+    order: &mut [u32],
+    words: &mut [u64],
+    page: u32,
+    first: u32,
+    count: u32,
+)
+    requires { ⌜ HoldAsks (mem (now bytes) (now keys) (now order) (now words)) page first count ⌝ }
+    ensures { λ _. ⌜ Shows (settingOf (mem (now (bytes .entry)) (now (keys .entry)) (now (order .entry)) (now (words .entry)))) (holding page first count (viewOf (mem (now (bytes .entry)) (now (keys .entry)) (now (order .entry)) (now (words .entry))))) (mem (now (bytes .entry)) (now (keys .exit)) (now (order .exit)) (now (words .exit))) ⌝ }
+{
+    let e = store::entry_of(keys, order, words, page);
+    // The key of the first chunk; the next ones follow it.
+    let k = e as u64 * 33554432 + 1 + first as u64;
+    let mut i = 0;
+    while i < count {
+        store::hold(keys, order, words, k + i as u64);
+        i += 1;
+    }
+}

@@ -1,0 +1,13 @@
+-- The laws that the proofs of this crate and of those above it share.
+
+pub mod Bools
+pub mod Sizes
+pub mod Pages
+pub mod Keys
+pub mod Slots
+pub mod Journals
+pub mod Facts
+pub mod Stages
+pub mod Meaning
+pub mod Sense
+pub mod Examples

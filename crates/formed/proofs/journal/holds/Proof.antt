@@ -1,0 +1,25 @@
+use mathlib.Core.Path.{sym}
+use native.Mathlib.Omega.{arith}
+use lib.ListN.{List·getD-eq-default}
+use borrow.Author.Tests.{ne-eqb}
+use borrow.Author.Needs.{needs}
+use Rattle.formed.proofs.journal.holds.Statement.{statement}
+use Rattle.formed.proofs.journal.holds.Tie as tie
+
+returns : tie.Need-returns
+returns c =
+    let at-if1 = c in
+    let start = at-if1 .before in
+    rw (List·getD-eq-default (start .args .holders .now) 0 (at-if1 .if1 .taken)) (sym (ne-eqb 0 (start .args .k) (λ e. omega arith)))
+
+mul-result : tie.Need-mul-result
+mul-result c = search needs
+
+shared-slice-read-result : tie.Need-shared-slice-read-result
+shared-slice-read-result c = search needs
+
+returns-2 : tie.Need-returns-2
+returns-2 c = search needs
+
+pub holds-spec : {M : Type 1} → statement M
+holds-spec = tie.close (tie.spec returns mul-result shared-slice-read-result returns-2)

@@ -1,0 +1,110 @@
+use mathlib.Core.Bool.{true}
+use mathlib.Core.Path.{_≡_, sym, _∙_}
+use Prim.Native.Nat.{_-_, _≤_}
+use native.Mathlib.Omega.{arith}
+use borrow.Author.Tests.{not-true, not-false}
+use borrow.Author.Needs.{needs}
+use Rattle.index.specs.Index.{all}
+use Rattle.index.proofs.All.{all-none, all-more, all-fails, all-done}
+use Rattle.formed.specs.Formed.{noted}
+use Rattle.formed.proofs.journal.notes_ok.Statement.{statement}
+use Rattle.formed.proofs.journal.notes_ok.Tie as tie
+
+abbrev Inv-loop : tie.InvT-loop
+Inv-loop holders notes n k i₀ i = (i ≤ n) × (all (noted holders notes k) i ≡ true)
+
+abbrev μ-loop : tie.MeasureT-loop
+μ-loop holders notes n k i₀ i = n - i
+
+loop-holds : tie.Need-loop-holds Inv-loop μ-loop
+loop-holds c = (search needs, all-none _)
+
+mul-note-ok : tie.Need-mul-note-ok Inv-loop μ-loop
+mul-note-ok c = search needs
+
+mul-note-ok-2 : tie.Need-mul-note-ok-2 Inv-loop μ-loop
+mul-note-ok-2 c = search needs
+
+shared-slice-read-note-ok : tie.Need-shared-slice-read-note-ok Inv-loop μ-loop
+shared-slice-read-note-ok c = search needs
+
+mul-note-ok-3 : tie.Need-mul-note-ok-3 Inv-loop μ-loop
+mul-note-ok-3 c = search needs
+
+add-note-ok : tie.Need-add-note-ok Inv-loop μ-loop
+add-note-ok c = search needs
+
+mul-note-ok-4 : tie.Need-mul-note-ok-4 Inv-loop μ-loop
+mul-note-ok-4 c = search needs
+
+shared-slice-read-note-ok-2 : tie.Need-shared-slice-read-note-ok-2 Inv-loop μ-loop
+shared-slice-read-note-ok-2 c = search needs
+
+mul-note-ok-5 : tie.Need-mul-note-ok-5 Inv-loop μ-loop
+mul-note-ok-5 c = search needs
+
+add-note-ok-2 : tie.Need-add-note-ok-2 Inv-loop μ-loop
+add-note-ok-2 c = search needs
+
+mul-note-ok-6 : tie.Need-mul-note-ok-6 Inv-loop μ-loop
+mul-note-ok-6 c = search needs
+
+shared-slice-read-note-ok-3 : tie.Need-shared-slice-read-note-ok-3 Inv-loop μ-loop
+shared-slice-read-note-ok-3 c = search needs
+
+note-ok-requires : tie.Need-note-ok-requires Inv-loop μ-loop
+note-ok-requires c κs = search needs
+
+returns : tie.Need-returns Inv-loop μ-loop
+returns c =
+    let at-if1 = c in
+    let at-note-ok = at-if1 .before in
+    let at-loop-test = at-note-ok .before .before .before .before in
+    let at-loop = at-loop-test .before in
+    let start = at-loop .before .before .before in
+    sym (all-fails (noted (start .args .holders .now) (start .args .notes .now) (start .args .k)) (start .args .n) (at-loop .loop .i) (at-loop-test .loop-test .taken) (sym (at-note-ok .note-ok .ensures) ∙ not-true _ (at-if1 .if1 .taken)))
+
+add-i : tie.Need-add-i Inv-loop μ-loop
+add-i c = search needs
+
+loop-less : tie.Need-loop-less Inv-loop μ-loop
+loop-less c = search needs
+
+loop-again : tie.Need-loop-again Inv-loop μ-loop
+loop-again c =
+    let at-if1 = c in
+    let at-note-ok = at-if1 .before in
+    let at-loop = at-note-ok .before .before .before .before .before in
+    let start = at-loop .before .before .before in
+    (omega arith, all-more (noted (start .args .holders .now) (start .args .notes .now) (start .args .k)) (at-loop .loop .i) (at-loop .loop .inv .1) (sym (at-note-ok .note-ok .ensures) ∙ not-false _ (at-if1 .if1 .left)))
+
+returns-2 : tie.Need-returns-2 Inv-loop μ-loop
+returns-2 c =
+    let at-loop-test = c in
+    let at-loop = at-loop-test .before in
+    all-done _ _ (at-loop .loop .i) (at-loop .loop .inv .0) (at-loop-test .loop-test .left) (at-loop .loop .inv .1)
+
+pub notes-ok-spec : {M : Type 1} → statement M
+notes-ok-spec =
+    tie.close
+    (tie.spec
+    Inv-loop
+    μ-loop
+    loop-holds
+    mul-note-ok
+    mul-note-ok-2
+    shared-slice-read-note-ok
+    mul-note-ok-3
+    add-note-ok
+    mul-note-ok-4
+    shared-slice-read-note-ok-2
+    mul-note-ok-5
+    add-note-ok-2
+    mul-note-ok-6
+    shared-slice-read-note-ok-3
+    note-ok-requires
+    returns
+    add-i
+    loop-less
+    loop-again
+    returns-2)

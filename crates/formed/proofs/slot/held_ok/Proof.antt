@@ -1,0 +1,87 @@
+use mathlib.Core.Path.{sym, ap, _∙_}
+use native.Mathlib.Nat.{pos-of-ne-zero}
+use native.Mathlib.Omega.{arith}
+use lib.ListN.{List·getD-eq-default}
+use borrow.Author.Needs.{needs}
+use Rattle.store.proofs.Parts.{rest-part}
+use Rattle.formed.specs.Formed.{zeros}
+use Rattle.formed.proofs.Bools.{refute}
+use Rattle.formed.proofs.Slots.{held-means, held-test, held-last}
+use Rattle.formed.proofs.slot.held_ok.Statement.{statement}
+use Rattle.formed.proofs.slot.held_ok.Tie as tie
+
+sub-e : tie.Need-sub-e
+sub-e c = search needs
+
+returns : tie.Need-returns
+returns c =
+    let at-if1 = c in
+    let start = at-if1 .before .before .before in
+    refute _ (λ h. let z = List·getD-eq-default (start .args .entries .now) 0 (at-if1 .if1 .taken) in let p = held-means (start .args .entries .now) (start .args .k) (start .args .chunk .now) h .0 in omega arith)
+
+mul-if2 : tie.Need-mul-if2
+mul-if2 c = search needs
+
+shared-slice-read-if2 : tie.Need-shared-slice-read-if2
+shared-slice-read-if2 c = search needs
+
+returns-2 : tie.Need-returns-2
+returns-2 c =
+    let at-if2 = c in
+    let start = at-if2 .before .before .before .before .before in
+    refute _ (λ h. let z = at-if2 .if2 .taken in let p = held-means (start .args .entries .now) (start .args .k) (start .args .chunk .now) h .0 in omega arith)
+
+sub-c : tie.Need-sub-c
+sub-c c = search needs
+
+returns-3 : tie.Need-returns-3
+returns-3 c =
+    let at-if3 = c in
+    let start = at-if3 .before .before .before .before .before .before in
+    refute _ (λ h. let z = at-if3 .if3 .taken in let p = held-means (start .args .entries .now) (start .args .k) (start .args .chunk .now) h .1 in omega arith)
+
+sub-all-zero : tie.Need-sub-all-zero
+sub-all-zero c = search needs
+
+part-all-zero-start : tie.Need-part-all-zero-start
+part-all-zero-start c = search needs
+
+part-all-zero-end : tie.Need-part-all-zero-end
+part-all-zero-end c = search needs
+
+all-zero-requires : tie.Need-all-zero-requires
+all-zero-requires c κs = search needs
+
+returns-4 : tie.Need-returns-4
+returns-4 c =
+    let at-all-zero = c in
+    let at-if4 = at-all-zero .before .before in
+    let at-if2 = at-if4 .before .before in
+    let start = at-if2 .before .before .before .before .before in
+    at-all-zero .all-zero .ensures ∙ ap zeros (rest-part (start .args .chunk .now) 31) ∙ held-last (start .args .entries .now) (start .args .k) (start .args .chunk .now) (pos-of-ne-zero (at-if2 .if2 .left)) (at-if4 .if4 .taken)
+
+returns-5 : tie.Need-returns-5
+returns-5 c =
+    let at-if4 = c in
+    let at-if3 = at-if4 .before in
+    let at-if2 = at-if3 .before in
+    let start = at-if2 .before .before .before .before .before in
+    sym (held-test (start .args .entries .now) (start .args .k) (start .args .chunk .now) (pos-of-ne-zero (at-if2 .if2 .left)) (at-if3 .if3 .left) (λ e. absurd (at-if4 .if4 .left e)))
+
+pub held-ok-spec : {M : Type 1} → statement M
+held-ok-spec =
+    tie.close
+    (tie.spec
+    sub-e
+    returns
+    mul-if2
+    shared-slice-read-if2
+    returns-2
+    sub-c
+    returns-3
+    sub-all-zero
+    part-all-zero-start
+    part-all-zero-end
+    all-zero-requires
+    returns-4
+    returns-5)

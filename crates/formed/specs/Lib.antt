@@ -1,0 +1,5 @@
+-- The definitions that the contracts of this crate and of those above it cite.
+pub mod Pages
+pub mod Parts
+pub mod WellFormed
+pub mod Formed

@@ -1,0 +1,50 @@
+-- Which pages there are in a layout.
+-- Assumes nothing.
+use mathlib.Core.Path.{_≡_}
+use mathlib.Core.Bool.{Bool, true, false}
+use Prim.Native.Nat.{ℕ, zero, suc, _-_, _/_, _<_, _≤_}
+use lib.Dec.{leb, ltb}
+use Rattle.page_ids.specs.Decode.{Page, none, page, decoded}
+use Rattle.page_ids.specs.declared.Layout.{Layout}
+
+-- the fixed page ids in 01's order: 0 static, 1 calldata, 2 bootloader heap, 3 bootloader aux
+abbrev pub fixedId : Layout → ℕ → ℕ
+fixedId l zero = l .«static_memory» .0
+fixedId l (suc zero) = l .calldata .0
+fixedId l (suc (suc zero)) = l .«bootloader_heap» .0
+fixedId l (suc (suc (suc i))) = l .«bootloader_aux» .0
+
+-- 01's rule of refusal 1, as it holds of a memory: the four fixed page ids are distinct, and the stride is not below 4
+pub record LayoutRule (l : Layout) : Type 0 where
+  pub distinct : (i j : ℕ) → i < j → j < 4 → fixedId l i ≡ fixedId l j → ⊥
+  pub stride : 4 ≤ l .stride
+
+-- kinds 0 to 2 are dynamic, 3 to 6 fixed
+abbrev pub isDynamic : Page → Bool
+isDynamic none = false
+isDynamic (page kind group) = ltb kind 3
+
+abbrev pub isFixed : Page → Bool
+isFixed none = false
+isFixed (page kind group) = leb 3 kind
+
+unfoldable pub fixed : Layout → ℕ → Bool
+fixed l p = isFixed (decoded l p)
+
+unfoldable pub dynamic : Layout → ℕ → Bool
+dynamic l p = isDynamic (decoded l p)
+
+-- the group of a dynamic page
+abbrev pub group : Layout → ℕ → ℕ
+group l p = (p - l .base .0) / l .stride
+
+-- the journals: how many there are, the place of journal j's page among the fixed ones, and its page id
+abbrev pub journalCount : ℕ
+journalCount = 2
+
+abbrev pub journalPlace : ℕ → ℕ
+journalPlace zero = 2
+journalPlace (suc j) = 3
+
+abbrev pub journalPage : Layout → ℕ → ℕ
+journalPage l j = fixedId l (journalPlace j)

@@ -1,0 +1,29 @@
+use mathlib.Core.Path.{refl}
+use native.Mathlib.Omega.{arith}
+use borrow.Author.Needs.{needs}
+use Rattle.journal.proofs.Numbers.{number-lt}
+use Rattle.formed.specs.Pages.{journalCount}
+use Rattle.store.specs.Mem.{journalRoom}
+use Rattle.journal.proofs.number.Statement.{statement}
+use Rattle.journal.proofs.number.Tie as tie
+
+shared-slice-read-result : tie.Need-shared-slice-read-result
+shared-slice-read-result c = search needs
+
+mul-result : tie.Need-mul-result
+mul-result c =
+    let start = c .before in
+    let h = number-lt (journalRoom (start .args .words .now)) (start .args .j) (start .args .i) journalCount (start .pre .which) (start .pre .inside) in omega (arith, h, start .pre .room-hi)
+
+add-result : tie.Need-add-result
+add-result c =
+    let start = c .before in
+    let h = number-lt (journalRoom (start .args .words .now)) (start .args .j) (start .args .i) journalCount (start .pre .which) (start .pre .inside) in omega (arith, h, start .pre .room-hi)
+
+returns : tie.Need-returns
+returns c =
+    let start = c .before in
+    (refl, number-lt (journalRoom (start .args .words .now)) (start .args .j) (start .args .i) journalCount (start .pre .which) (start .pre .inside))
+
+pub number-spec : {M : Type 1} → statement M
+number-spec = tie.close (tie.spec shared-slice-read-result mul-result add-result returns)

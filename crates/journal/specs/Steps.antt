@@ -1,0 +1,72 @@
+-- What the steps of this crate ask, and what they do to the view.
+-- Assumes nothing.
+use mathlib.Core.Path.{_≡_}
+use mathlib.Core.Bool.{true, cond}
+use mathlib.Core.List.{List}
+use Prim.Native.Nat.{ℕ, _+_, _*_, _/_, _<_, _≤_}
+use lib.Dec.{eqb}
+use lib.ListN.{length, take, drop}
+use Rattle.page_ids.specs.declared.Layout.{Layout}
+use Rattle.store.specs.Mem.{Mem, layoutOf, journalRoom, journalLength}
+use Rattle.formed.specs.Pages.{journalCount, journalPage}
+use Rattle.formed.specs.Parts.{Note, tab}
+use Rattle.formed.specs.WellFormed.{WellFormed}
+use Rattle.view.specs.View.{View, viewOf}
+use Rattle.view.specs.Steps.{run, undone}
+
+-- ---- words noted
+-- the word at address a of page p, as it is now
+abbrev pub noteOf : View → ℕ → ℕ → Note
+noteOf v p a = record { address = a; old = run v p a 32 }
+
+-- the aligned words from number `first` on
+abbrev pub alignedFrom : View → ℕ → ℕ → ℕ → List Note
+alignedFrom v p first n = tab n (λ i. noteOf v p (32 * (first + i)))
+
+-- the chunks of n aligned words from number `first` on are held by journal j's page, and the journal has room for them
+pub record AlignedAsks (m : Mem) (j first n : ℕ) : Type 0 where
+  pub formed : WellFormed m
+  pub which : j < journalCount
+  pub top : 32 * (first + n) ≤ 4294967296
+  pub held : (i : ℕ) → i < n → viewOf m .held (journalPage (layoutOf (m .words)) j) (32 * (first + i) / 256) ≡ true
+  pub room : length (viewOf m .journal j) + n ≤ journalRoom (m .words)
+
+-- ---- words put back
+-- journal j is cut to its first n words
+abbrev pub cutting : ℕ → ℕ → View → View
+cutting j n v = record {
+  bytes = v .bytes;
+  held = v .held;
+  pool = v .pool;
+  allocated = v .allocated;
+  entries = v .entries;
+  dynamicLength = v .dynamicLength;
+  journal = λ i. cond (eqb i j) (take n (v .journal i)) (v .journal i);
+}
+
+-- its words from number n on are put back on page p, newest first
+abbrev pub restoring : ℕ → ℕ → ℕ → View → View
+restoring p j n v = record {
+  bytes = undone p (drop n (v .journal j)) (v .bytes);
+  held = v .held;
+  pool = v .pool;
+  allocated = v .allocated;
+  entries = v .entries;
+  dynamicLength = v .dynamicLength;
+  journal = v .journal;
+}
+
+-- both
+abbrev pub undoing : Layout → ℕ → ℕ → View → View
+undoing l j n v = cutting j n (restoring (journalPage l j) j n v)
+
+pub record UndoAsks (m : Mem) (j n : ℕ) : Type 0 where
+  pub formed : WellFormed m
+  pub which : j < journalCount
+  pub mark : n ≤ journalLength (m .words) j
+
+-- the marks of a rollback are numbers of words that the journals have
+pub record RollBackAsks (m : Mem) (heap aux : ℕ) : Type 0 where
+  pub formed : WellFormed m
+  pub heap-mark : heap ≤ length (viewOf m .journal 0)
+  pub aux-mark : aux ≤ length (viewOf m .journal 1)

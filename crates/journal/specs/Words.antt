@@ -1,0 +1,83 @@
+-- Words of 32 bytes: in the slots that hold their chunks, and in the journals.
+-- Assumes nothing.
+use mathlib.Core.Path.{_≡_}
+use mathlib.Core.Bool.{cond}
+use mathlib.Core.List.{List}
+use Prim.Native.Nat.{ℕ, _+_, _*_, _-_, _%_, _<_, _≤_}
+use lib.Dec.{ltb}
+use lib.ListN.{length, getD, set}
+use Rattle.store.specs.Mem.{headLength, slotCount, journalRoom, journalLength}
+use Rattle.formed.specs.Pages.{journalCount}
+
+-- the place of byte i of a word whose first byte is at offset r of slot s, and which goes on in slot t
+abbrev pub placeIn : ℕ → ℕ → ℕ → ℕ → ℕ
+placeIn s t r i = cond (ltb (r + i) 256) (256 * s + (r + i)) (256 * t + (r + i - 256))
+
+-- bytes' is bytes with g 0, g 1, .., g (n - 1) at the places f 0, f 1, .., f (n - 1)
+pub record Spread (f g : ℕ → ℕ) (n : ℕ) (bytes bytes' : List ℕ) : Type 0 where
+  pub on : (i : ℕ) → i < n → getD bytes' (f i) 0 ≡ g i
+  pub off : (b : ℕ) → ((i : ℕ) → i < n → b ≡ f i → ⊥) → getD bytes' b 0 ≡ getD bytes b 0
+
+-- a word at offset r of slot s, which goes on in slot t, lies in the bytes
+pub record InSlots (bytes : List ℕ) (s t r : ℕ) : Type 0 where
+  pub offset : r < 256
+  pub first-few : s < 65536
+  pub last-few : t < 65536
+  pub first : 256 * s + 256 ≤ length bytes
+  pub last : 256 * t + 256 ≤ length bytes
+
+-- ---- the journals
+-- the number of word i of journal j among those of all journals
+abbrev pub numberOf : List ℕ → ℕ → ℕ → ℕ
+numberOf w j i = journalRoom w * j + i
+
+-- where its three numbers and its 32 bytes stand
+abbrev pub notePlace : List ℕ → ℕ → ℕ → ℕ
+notePlace w j i = headLength + 3 * numberOf w j i
+
+abbrev pub oldPlace : List ℕ → ℕ → ℕ → ℕ
+oldPlace w j i = 256 * slotCount w + 32 * numberOf w j i
+
+-- bytes and words have the lengths of a memory
+pub record Long (bytes words : List ℕ) : Type 0 where
+  pub in-bytes : length bytes ≡ 256 * slotCount words + 32 * journalCount * journalRoom words
+  pub in-words : length words ≡ headLength + 3 * journalCount * journalRoom words
+  pub slots-hi : slotCount words ≤ 65536
+  pub room-hi : journalRoom words ≤ 65536
+
+-- word i of journal j has a place
+pub record Numbered (words : List ℕ) (j i : ℕ) : Type 0 where
+  pub head : headLength ≤ length words
+  pub room-hi : journalRoom words ≤ 65536
+  pub which : j < journalCount
+  pub inside : i < journalRoom words
+
+-- a word whose chunks are held at the slots s and t can be noted in journal j
+pub record NoteRoom (bytes words : List ℕ) (j s t : ℕ) : Type 0 where
+  pub long : Long bytes words
+  pub which : j < journalCount
+  pub room : journalLength words j < journalRoom words
+  pub first : s < slotCount words
+  pub last : t < slotCount words
+
+-- words with the numbers of a note at number n, and the journal's length, word l, raised
+unfoldable pub noteSet : List ℕ → ℕ → ℕ → ℕ → ℕ → ℕ → List ℕ
+noteSet w l n a s t = set (set (set (set w (headLength + 3 * n) a) (headLength + 3 * n + 1) s) (headLength + 3 * n + 2) t) l (getD w l 0 + 1)
+
+-- bytes', words' are bytes, words after the word at address a was noted so
+pub record NotedAt (bytes words : List ℕ) (j a s t : ℕ) (bytes' words' : List ℕ) : Type 0 where
+  pub words-are : words' ≡ noteSet words (12 + j) (numberOf words j (journalLength words j)) a s t
+  pub old : Spread (λ k. oldPlace words j (journalLength words j) + k) (λ k. getD bytes (placeIn s t (a % 256) k) 0) 32 bytes bytes'
+
+-- word i of journal j can be put back at the slots noted
+pub record BackAsks (bytes words : List ℕ) (j i : ℕ) : Type 0 where
+  pub long : Long bytes words
+  pub which : j < journalCount
+  pub inside : i < journalRoom words
+  pub first : getD words (notePlace words j i + 1) 0 < slotCount words
+  pub last : getD words (notePlace words j i + 2) 0 < slotCount words
+
+-- bytes' is bytes after that
+abbrev pub PutBack : List ℕ → List ℕ → ℕ → ℕ → List ℕ → Type 0
+PutBack bytes words j i bytes' =
+    Spread (placeIn (getD words (notePlace words j i + 1) 0) (getD words (notePlace words j i + 2) 0) (getD words (notePlace words j i) 0 % 256)) (λ k. getD bytes (oldPlace words j i + k) 0) 32 bytes bytes'

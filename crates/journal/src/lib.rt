@@ -1,0 +1,187 @@
+// The journals of the bootloader pages: words as they were before they were written. vm2: the rollback part of `Heaps`.
+ghost use mathlib.Core.Path.{_≡_};
+ghost use Prim.Native.Nat.{_+_, _*_, _<_, _≤_};
+ghost use lib.ListN.{length, getD};
+ghost use Rattle.store.specs.Mem.{mem, layoutOf, journalRoom};
+ghost use Rattle.formed.specs.Pages.{journalCount, journalPlace, journalPage};
+ghost use Rattle.formed.specs.Parts.{tab};
+ghost use Rattle.formed.specs.WellFormed.{WellFormed};
+ghost use Rattle.view.specs.View.{settingOf, viewOf};
+ghost use Rattle.view.specs.Steps.{wordNotes, marks, rolledBack, forgotten};
+ghost use Rattle.view.specs.Does.{Shows};
+ghost use Rattle.view.specs.Inner.{noting, NoteAsks};
+ghost use Rattle.journal.specs.Words.{placeIn, Spread, InSlots, numberOf, Numbered, NoteRoom, NotedAt, BackAsks, PutBack};
+ghost use Rattle.journal.specs.Steps.{alignedFrom, AlignedAsks, undoing, UndoAsks, RollBackAsks};
+
+// Copies n bytes. Between two parts of one buffer they go through a local array.
+fn copy(src: &[u8], from: usize, dst: &mut [u8], to: usize, n: usize)
+    requires { ⌜ (from + n ≤ length (now src)) × (to + n ≤ length (now dst)) ⌝ }
+    ensures { λ _. ⌜ Spread (λ i. to + i) (λ i. getD (now (src .entry)) (from + i) 0) n (now (dst .entry)) (now (dst .exit)) ⌝ }
+{
+    let mut i = 0;
+    while i < n {
+        dst[to + i] = src[from + i];
+        i += 1;
+    }
+}
+
+// The word that begins at offset r of slot s and goes on in slot t.
+fn word_in(bytes: &[u8], s: usize, t: usize, r: usize) -> [u8; 32]
+    requires { ⌜ InSlots (now bytes) s t r ⌝ }
+    ensures { λ v. ⌜ v ≡ tab 32 (λ i. getD (now (bytes .entry)) (placeIn s t r i) 0) ⌝ }
+{
+    let mut word = [0u8; 32];
+    if r <= 224 {
+        copy(bytes, 256 * s + r, &mut word, 0, 32);
+        return word;
+    }
+    let n = 256 - r;
+    copy(bytes, 256 * s + r, &mut word, 0, n);
+    copy(bytes, 256 * t, &mut word, n, 32 - n);
+    word
+}
+
+// Puts a word that begins at offset r of slot s and goes on in slot t.
+fn put_word(bytes: &mut [u8], s: usize, t: usize, r: usize, word: [u8; 32])
+    requires { ⌜ InSlots (now bytes) s t r ⌝ }
+    ensures { λ _. ⌜ Spread (placeIn s t r) (λ i. getD word i 0) 32 (now (bytes .entry)) (now (bytes .exit)) ⌝ }
+{
+    if r <= 224 {
+        copy(&word, 0, bytes, 256 * s + r, 32);
+        return;
+    }
+    let n = 256 - r;
+    copy(&word, 0, bytes, 256 * s + r, n);
+    copy(&word, n, bytes, 256 * t, 32 - n);
+}
+
+// The entry of journal j's page.
+fn place(j: usize) -> u64
+    requires { ⌜ j < journalCount ⌝ }
+    ensures { λ r. ⌜ (r ≡ journalPlace j) × (r < 4) ⌝ }
+{
+    if j == 0 {
+        return 2;
+    }
+    3
+}
+
+// The number of word i of journal j among those of all journals.
+fn number(words: &[u64], j: usize, i: usize) -> usize
+    requires { ⌜ Numbered (now words) j i ⌝ }
+    ensures { λ n. ⌜ (n ≡ numberOf (now (words .entry)) j i) × (n < journalCount * journalRoom (now (words .entry))) ⌝ }
+{
+    words[8] as usize * j + i
+}
+
+// Notes the word at an address, whose first and last chunk are held at the slots s and t, as the newest of journal j.
+fn note_at(bytes: &mut [u8], words: &mut [u64], j: usize, address: u32, s: usize, t: usize)
+    requires { ⌜ NoteRoom (now bytes) (now words) j s t ⌝ }
+    ensures { λ _. ⌜ NotedAt (now (bytes .entry)) (now (words .entry)) j address s t (now (bytes .exit)) (now (words .exit)) ⌝ }
+{
+    let i = words[12 + j];
+    let n = number(words, j, i as usize);
+    let c = words[6] as usize;
+    let old = word_in(bytes, s, t, (address % 256) as usize);
+    copy(&old, 0, bytes, 256 * c + 32 * n, 32);
+    let at = 16 + 3 * n;
+    words[at] = address as u64;
+    words[at + 1] = s as u64;
+    words[at + 2] = t as u64;
+    words[12 + j] = i + 1;
+}
+
+// Notes the word at an address of journal j's page, which holds the word's chunks. vm2: `record_bootloader_word_rollback`.
+pub fn note(
+    bytes: &mut [u8],
+    keys: &[u64],
+    order: &[u32],
+    words: &mut [u64],
+    j: usize,
+    address: u32,
+)
+    requires { ⌜ NoteAsks (mem (now bytes) (now keys) (now order) (now words)) j address ⌝ }
+    ensures { λ _. ⌜ Shows (settingOf (mem (now (bytes .entry)) (now (keys .entry)) (now (order .entry)) (now (words .entry)))) (noting j (wordNotes (viewOf (mem (now (bytes .entry)) (now (keys .entry)) (now (order .entry)) (now (words .entry)))) (journalPage (layoutOf (now (words .entry))) j) address) (viewOf (mem (now (bytes .entry)) (now (keys .entry)) (now (order .entry)) (now (words .entry))))) (mem (now (bytes .exit)) (now (keys .entry)) (now (order .entry)) (now (words .exit))) ⌝ }
+{
+    let k = place(j) * 33554432 + 1;
+    let s = store::slot_of(keys, order, words, k + (address / 256) as u64);
+    let t = store::slot_of(keys, order, words, k + (address as u64 + 31) / 256);
+    note_at(bytes, words, j, address, s, t);
+}
+
+// Empties the journals. vm2: `delete_history`.
+pub fn forget(bytes: &[u8], keys: &[u64], order: &[u32], words: &mut [u64])
+    requires { ⌜ WellFormed (mem (now bytes) (now keys) (now order) (now words)) ⌝ }
+    ensures { λ _. ⌜ Shows (settingOf (mem (now (bytes .entry)) (now (keys .entry)) (now (order .entry)) (now (words .entry)))) (forgotten (viewOf (mem (now (bytes .entry)) (now (keys .entry)) (now (order .entry)) (now (words .entry))))) (mem (now (bytes .entry)) (now (keys .entry)) (now (order .entry)) (now (words .exit))) ⌝ }
+{
+    words[12] = 0;
+    words[13] = 0;
+}
+
+// Puts word i of journal j back at the slots noted: no search.
+fn put_back(bytes: &mut [u8], words: &[u64], j: usize, i: usize)
+    requires { ⌜ BackAsks (now bytes) (now words) j i ⌝ }
+    ensures { λ _. ⌜ PutBack (now (bytes .entry)) (now (words .entry)) j i (now (bytes .exit)) ⌝ }
+{
+    let n = number(words, j, i);
+    let c = words[6] as usize;
+    let mut old = [0u8; 32];
+    copy(bytes, 256 * c + 32 * n, &mut old, 0, 32);
+    let at = 16 + 3 * n;
+    put_word(
+        bytes,
+        words[at + 1] as usize,
+        words[at + 2] as usize,
+        (words[at] % 256) as usize,
+        old,
+    );
+}
+
+// Puts the words of journal j from number `mark` on back, newest first, and cuts the journal there.
+fn undo(bytes: &mut [u8], keys: &[u64], order: &[u32], words: &mut [u64], j: usize, mark: u64)
+    requires { ⌜ UndoAsks (mem (now bytes) (now keys) (now order) (now words)) j mark ⌝ }
+    ensures { λ _. ⌜ Shows (settingOf (mem (now (bytes .entry)) (now (keys .entry)) (now (order .entry)) (now (words .entry)))) (undoing (layoutOf (now (words .entry))) j mark (viewOf (mem (now (bytes .entry)) (now (keys .entry)) (now (order .entry)) (now (words .entry))))) (mem (now (bytes .exit)) (now (keys .entry)) (now (order .entry)) (now (words .exit))) ⌝ }
+{
+    let mut i = words[12 + j];
+    while mark < i {
+        i -= 1;
+        put_back(bytes, words, j, i as usize);
+    }
+    words[12 + j] = mark;
+}
+
+// Puts the words back that were noted since a snapshot, and cuts the journals there. vm2: `rollback`.
+pub fn roll_back(
+    bytes: &mut [u8],
+    keys: &[u64],
+    order: &[u32],
+    words: &mut [u64],
+    heap: u64,
+    aux: u64,
+)
+    requires { ⌜ RollBackAsks (mem (now bytes) (now keys) (now order) (now words)) heap aux ⌝ }
+    ensures { λ _. ⌜ Shows (settingOf (mem (now (bytes .entry)) (now (keys .entry)) (now (order .entry)) (now (words .entry)))) (rolledBack (layoutOf (now (words .entry))) (marks heap aux) (viewOf (mem (now (bytes .entry)) (now (keys .entry)) (now (order .entry)) (now (words .entry))))) (mem (now (bytes .exit)) (now (keys .entry)) (now (order .entry)) (now (words .exit))) ⌝ }
+{
+    undo(bytes, keys, order, words, 0, heap);
+    undo(bytes, keys, order, words, 1, aux);
+}
+
+// Notes the aligned words from number `first` on of journal j's page, which holds their chunks. vm2: `record_bootloader_range_rollback`.
+pub fn note_aligned(
+    bytes: &mut [u8],
+    keys: &[u64],
+    order: &[u32],
+    words: &mut [u64],
+    j: usize,
+    first: u32,
+    count: u32,
+)
+    requires { ⌜ AlignedAsks (mem (now bytes) (now keys) (now order) (now words)) j first count ⌝ }
+    ensures { λ _. ⌜ Shows (settingOf (mem (now (bytes .entry)) (now (keys .entry)) (now (order .entry)) (now (words .entry)))) (noting j (alignedFrom (viewOf (mem (now (bytes .entry)) (now (keys .entry)) (now (order .entry)) (now (words .entry)))) (journalPage (layoutOf (now (words .entry))) j) first count) (viewOf (mem (now (bytes .entry)) (now (keys .entry)) (now (order .entry)) (now (words .entry))))) (mem (now (bytes .exit)) (now (keys .entry)) (now (order .entry)) (now (words .exit))) ⌝ }
+{
+    let mut i = 0;
+    while i < count {
+        note(bytes, keys, order, words, j, 32 * (first + i));
+        i += 1;
+    }
+}

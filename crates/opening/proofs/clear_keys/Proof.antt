@@ -1,0 +1,58 @@
+use mathlib.Core.List.{_++_}
+use mathlib.Core.Path.{_≡_, refl, _∙_}
+use Prim.Native.Nat.{_-_, _≤_}
+use native.Mathlib.Omega.{arith}
+use lib.ListN.{drop, replicate, length, length-set}
+use borrow.Author.Needs.{needs}
+use Rattle.opening.proofs.Clears.{clear-more, clear-done}
+use Rattle.opening.proofs.clear_keys.Statement.{statement}
+use Rattle.opening.proofs.clear_keys.Tie as tie
+
+abbrev Inv-loop : tie.InvT-loop
+Inv-loop keys₀ i₀ keys i = (i ≤ length keys₀) × (length keys ≡ length keys₀) × (keys ≡ replicate i 0 ++ drop i keys₀)
+
+abbrev μ-loop : tie.MeasureT-loop
+μ-loop keys₀ i₀ keys i = length keys₀ - i
+
+loop-holds : tie.Need-loop-holds Inv-loop μ-loop
+loop-holds c = (search needs, refl, refl)
+
+mul-keys : tie.Need-mul-keys Inv-loop μ-loop
+mul-keys c = search needs
+
+slice-write-keys : tie.Need-slice-write-keys Inv-loop μ-loop
+slice-write-keys c = search needs
+
+add-i : tie.Need-add-i Inv-loop μ-loop
+add-i c = search needs
+
+loop-less : tie.Need-loop-less Inv-loop μ-loop
+loop-less c = search needs
+
+loop-again : tie.Need-loop-again Inv-loop μ-loop
+loop-again c =
+    let l = c .before .loop in
+    (omega arith, length-set (l .keys) (l .i) 0 ∙ l .inv .1, clear-more (c .before .before .args .keys .now) (l .keys) (l .i) (l .inv .2) (omega arith))
+
+same-length : tie.Need-same-length Inv-loop μ-loop
+same-length c = search needs
+
+returns : tie.Need-returns Inv-loop μ-loop
+returns c =
+    let l = c .before .loop in
+    clear-done (c .before .before .args .keys .now) (l .keys) (l .i) (l .inv .2) (l .inv .0) (omega arith)
+
+pub clear-keys-spec : {M : Type 1} → statement M
+clear-keys-spec =
+    tie.close
+    (tie.spec
+    Inv-loop
+    μ-loop
+    loop-holds
+    mul-keys
+    slice-write-keys
+    add-i
+    loop-less
+    loop-again
+    same-length
+    returns)

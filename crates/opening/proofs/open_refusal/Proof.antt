@@ -1,0 +1,67 @@
+use Rattle.view.specs.Calls.{nothing}
+use mathlib.Core.Path.{sym, _∙_}
+use lib.ListN.{length}
+use borrow.Author.Tests.{not-true, not-false}
+use borrow.Author.Needs.{needs}
+use Rattle.store.specs.Mem.{mem}
+use Rattle.opening.specs.Opening.{setting}
+use Rattle.opening.proofs.Refusals.{refused-1, refused-2, refused-10, refused-not}
+use Rattle.opening.proofs.open_refusal.Statement.{statement}
+use Rattle.opening.proofs.open_refusal.Tie as tie
+
+bad-layout-requires : tie.Need-bad-layout-requires
+bad-layout-requires c κs = search needs
+
+returns : tie.Need-returns
+returns c =
+    let at-if1 = c in
+    let at-bad-layout = at-if1 .before in
+    let start = at-bad-layout .before .before .before .before .before .before in
+    refused-1 nothing (setting (start .args .layout) (start .args .chunks) (start .args .pages) (start .args .room)) (mem (start .args .bytes .now) (start .args .keys .now) (start .args .order .now) (start .args .words .now)) (length (start .args .calldata .now)) (sym (at-bad-layout .bad-layout .ensures) ∙ at-if1 .if1 .taken)
+
+sizes-right-requires : tie.Need-sizes-right-requires
+sizes-right-requires c κs = search needs
+
+returns-2 : tie.Need-returns-2
+returns-2 c =
+    let at-if2 = c in
+    let at-sizes-right = at-if2 .before in
+    let at-if1 = at-sizes-right .before in
+    let at-bad-layout = at-if1 .before in
+    let start = at-bad-layout .before .before .before .before .before .before in
+    refused-2 nothing (setting (start .args .layout) (start .args .chunks) (start .args .pages) (start .args .room)) (mem (start .args .bytes .now) (start .args .keys .now) (start .args .order .now) (start .args .words .now)) (length (start .args .calldata .now)) (sym (at-bad-layout .bad-layout .ensures) ∙ at-if1 .if1 .left) (sym (at-sizes-right .sizes-right .ensures (start .args .layout)) ∙ not-true _ (at-if2 .if2 .taken))
+
+mul-if3 : tie.Need-mul-if3
+mul-if3 c = search needs
+
+returns-3 : tie.Need-returns-3
+returns-3 c =
+    let at-if3 = c in
+    let at-if2 = at-if3 .before in
+    let at-sizes-right = at-if2 .before in
+    let at-if1 = at-sizes-right .before in
+    let at-bad-layout = at-if1 .before in
+    let start = at-bad-layout .before .before .before .before .before .before in
+    refused-10 nothing (setting (start .args .layout) (start .args .chunks) (start .args .pages) (start .args .room)) (mem (start .args .bytes .now) (start .args .keys .now) (start .args .order .now) (start .args .words .now)) (length (start .args .calldata .now)) (sym (at-bad-layout .bad-layout .ensures) ∙ at-if1 .if1 .left) (sym (at-sizes-right .sizes-right .ensures (start .args .layout)) ∙ not-false _ (at-if2 .if2 .left)) (at-if3 .if3 .taken)
+
+returns-4 : tie.Need-returns-4
+returns-4 c =
+    let at-if3 = c in
+    let at-if2 = at-if3 .before in
+    let at-sizes-right = at-if2 .before in
+    let at-if1 = at-sizes-right .before in
+    let at-bad-layout = at-if1 .before in
+    let start = at-bad-layout .before .before .before .before .before .before in
+    refused-not nothing (setting (start .args .layout) (start .args .chunks) (start .args .pages) (start .args .room)) (mem (start .args .bytes .now) (start .args .keys .now) (start .args .order .now) (start .args .words .now)) (length (start .args .calldata .now)) (sym (at-bad-layout .bad-layout .ensures) ∙ at-if1 .if1 .left) (sym (at-sizes-right .sizes-right .ensures (start .args .layout)) ∙ not-false _ (at-if2 .if2 .left)) (at-if3 .if3 .left)
+
+pub open-refusal-spec : {M : Type 1} → statement M
+open-refusal-spec =
+    tie.close
+    (tie.spec
+    bad-layout-requires
+    returns
+    sizes-right-requires
+    returns-2
+    mul-if3
+    returns-3
+    returns-4)

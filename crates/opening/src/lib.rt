@@ -1,0 +1,277 @@
+// Opens a memory in lent buffers, whatever they hold.
+ghost use mathlib.Core.Path.{_≡_};
+ghost use Prim.Native.Nat.{_≤_};
+ghost use lib.ListN.{length, replicate};
+ghost use Rattle.store.specs.Mem.{mem, headLength};
+ghost use Rattle.view.specs.View.{settingOf};
+ghost use Rattle.view.specs.Steps.{fresh, opened};
+ghost use Rattle.view.specs.Calls.{nothing, told, OpenDoes};
+ghost use Rattle.view.specs.Does.{Shows};
+ghost use Rattle.page_ids.specs.declared.Layout.{Layout};
+ghost use Rattle.opening.specs.Opening.{layoutFrom, setting, headed, sizesRight, OpenAsks, FixedAsks, FirstPages, openingOutcome, numbered, CalldataAsks};
+use outcome::Answer;
+use page_ids::Layout;
+
+// Every byte becomes 0.
+fn clear_bytes(bytes: &mut [u8])
+    ensures { λ _. ⌜ now (bytes .exit) ≡ replicate (length (now (bytes .entry))) 0 ⌝ }
+{
+    let mut i = 0;
+    while i < bytes.len() {
+        bytes[i] = 0;
+        i += 1;
+    }
+}
+
+// Every key becomes 0: no slot is held, and no entry is in use.
+fn clear_keys(keys: &mut [u64])
+    ensures { λ _. ⌜ now (keys .exit) ≡ replicate (length (now (keys .entry))) 0 ⌝ }
+{
+    let mut i = 0;
+    while i < keys.len() {
+        keys[i] = 0;
+        i += 1;
+    }
+}
+
+// The head: layout and counts, no slot held, four entries in use, dynamic length 0, and no word in a journal.
+fn write_head(
+    words: &mut [u64],
+    statics: u32,
+    calldata: u32,
+    heap: u32,
+    aux: u32,
+    base: u32,
+    stride: u32,
+    chunks: u32,
+    pages: u32,
+    room: u32,
+)
+    requires { ⌜ headLength ≤ length (now words) ⌝ }
+    ensures { λ _. ⌜ now (words .exit) ≡ headed (setting (layoutFrom statics calldata heap aux base stride) chunks pages room) (now (words .entry)) ⌝ }
+{
+    words[0] = statics as u64;
+    words[1] = calldata as u64;
+    words[2] = heap as u64;
+    words[3] = aux as u64;
+    words[4] = base as u64;
+    words[5] = stride as u64;
+    words[6] = chunks as u64;
+    words[7] = pages as u64;
+    words[8] = room as u64;
+    words[9] = 0;
+    words[10] = 4;
+    words[11] = 0;
+    words[12] = 0;
+    words[13] = 0;
+}
+
+// Lists the four fixed pages, whose ids the head has, as entries 0 to 3.
+fn list_fixed(entries: &mut [u64], order: &mut [u32], words: &[u64])
+    requires { ⌜ FixedAsks (now entries) (now order) (now words) ⌝ }
+    ensures { λ _. ⌜ FirstPages (now (words .entry)) (now (entries .exit)) (now (order .exit)) 4 ⌝ }
+{
+    let mut i: usize = 0;
+    while i < 4 {
+        index::insert(entries, order, i, i as u32, words[i] + 1);
+        i += 1;
+    }
+}
+
+// `start`, of the layout's six numbers.
+fn start_with(
+    bytes: &mut [u8],
+    keys: &mut [u64],
+    order: &mut [u32],
+    words: &mut [u64],
+    statics: u32,
+    calldata: u32,
+    heap: u32,
+    aux: u32,
+    base: u32,
+    stride: u32,
+    chunks: u32,
+    pages: u32,
+    room: u32,
+)
+    requires { ⌜ OpenAsks (setting (layoutFrom statics calldata heap aux base stride) chunks pages room) (mem (now bytes) (now keys) (now order) (now words)) ⌝ }
+    ensures { λ _. let s = setting (layoutFrom statics calldata heap aux base stride) chunks pages room in ⌜ Shows s (fresh s) (mem (now (bytes .exit)) (now (keys .exit)) (now (order .exit)) (now (words .exit))) ⌝ }
+{
+    let c = chunks as usize;
+    let end = 256 * c;
+    clear_bytes(&mut bytes[0..end]);
+    clear_keys(keys);
+    write_head(
+        words,
+        statics,
+        calldata,
+        heap,
+        aux,
+        base,
+        stride,
+        chunks,
+        pages,
+        room,
+    );
+    list_fixed(&mut keys[c..], &mut order[c..], words);
+}
+
+// Makes the buffers a memory in which all is zero and every chunk pooled. The journals' old bytes and numbers stay: nothing reads them.
+pub fn start(
+    bytes: &mut [u8],
+    keys: &mut [u64],
+    order: &mut [u32],
+    words: &mut [u64],
+    layout: Layout,
+    chunks: u32,
+    pages: u32,
+    room: u32,
+)
+    requires { ⌜ OpenAsks (setting layout chunks pages room) (mem (now bytes) (now keys) (now order) (now words)) ⌝ }
+    ensures { λ _. let s = setting layout chunks pages room in ⌜ Shows s (fresh s) (mem (now (bytes .exit)) (now (keys .exit)) (now (order .exit)) (now (words .exit))) ⌝ }
+{
+    let statics = layout.static_memory.0;
+    let calldata = layout.calldata.0;
+    let heap = layout.bootloader_heap.0;
+    let aux = layout.bootloader_aux.0;
+    let base = layout.base.0;
+    let stride = layout.stride;
+    start_with(
+        bytes,
+        keys,
+        order,
+        words,
+        statics,
+        calldata,
+        heap,
+        aux,
+        base,
+        stride,
+        chunks,
+        pages,
+        room,
+    );
+}
+
+// Whether the counts are in bounds, and the lent buffers as long as they ask.
+fn sizes_right(
+    bytes: &[u8],
+    keys: &[u64],
+    order: &[u32],
+    words: &[u64],
+    chunks: u32,
+    pages: u32,
+    room: u32,
+) -> bool
+    ensures { λ r. ⌜ ((l : Layout) → r ≡ sizesRight (setting l chunks pages room) (mem (now (bytes .entry)) (now (keys .entry)) (now (order .entry)) (now (words .entry)))) ⌝ }
+{
+    if chunks < 1 {
+        return false;
+    }
+    if 65536 < chunks {
+        return false;
+    }
+    if pages < 1 {
+        return false;
+    }
+    if 4096 < pages {
+        return false;
+    }
+    if 65536 < room {
+        return false;
+    }
+    let c = chunks as usize;
+    let p = pages as usize;
+    let j = room as usize;
+    if bytes.len() != 256 * c + 64 * j {
+        return false;
+    }
+    if keys.len() != c + p + 4 {
+        return false;
+    }
+    if order.len() != 3 * c + p + 4 {
+        return false;
+    }
+    if words.len() != 16 + 6 * j {
+        return false;
+    }
+    true
+}
+
+// The number with which an opening is refused, or 0.
+fn open_refusal(
+    bytes: &[u8],
+    keys: &[u64],
+    order: &[u32],
+    words: &[u64],
+    layout: Layout,
+    chunks: u32,
+    pages: u32,
+    room: u32,
+    calldata: &[u8],
+) -> u32
+    ensures { λ r. let s = setting layout chunks pages room in ⌜ numbered r nothing ≡ openingOutcome s (mem (now (bytes .entry)) (now (keys .entry)) (now (order .entry)) (now (words .entry))) (length (now (calldata .entry))) ⌝ }
+{
+    if page_ids::bad_layout(layout) {
+        return 1;
+    }
+    if !sizes_right(bytes, keys, order, words, chunks, pages, room) {
+        return 2;
+    }
+    let c = chunks as usize;
+    if 256 * c < calldata.len() {
+        return 10;
+    }
+    0
+}
+
+// Puts calldata on its page, in a memory just started.
+fn put_calldata(
+    bytes: &mut [u8],
+    keys: &mut [u64],
+    order: &mut [u32],
+    words: &mut [u64],
+    page: u32,
+    calldata: &[u8],
+)
+    requires { ⌜ CalldataAsks (mem (now bytes) (now keys) (now order) (now words)) page (length (now calldata)) ⌝ }
+    ensures { λ _. let s = settingOf (mem (now (bytes .entry)) (now (keys .entry)) (now (order .entry)) (now (words .entry))) in ⌜ Shows s (opened s (now (calldata .entry))) (mem (now (bytes .exit)) (now (keys .exit)) (now (order .exit)) (now (words .exit))) ⌝ }
+{
+    let count = ((calldata.len() + 255) / 256) as u32;
+    chunks::hold_chunks(bytes, keys, order, words, page, 0, count);
+    bodies::write_from(bytes, keys, order, words, page, 0, calldata);
+}
+
+// Opens a memory: vm2's `Heaps::new`, in lent buffers. Calldata is put on its page; all else is zero.
+pub fn open(
+    bytes: &mut [u8],
+    keys: &mut [u64],
+    order: &mut [u32],
+    words: &mut [u64],
+    layout: Layout,
+    chunks: u32,
+    pages: u32,
+    room: u32,
+    calldata: &[u8],
+) -> Answer
+    ensures { λ r. let s = setting layout chunks pages room in let m = mem (now (bytes .entry)) (now (keys .entry)) (now (order .entry)) (now (words .entry)) in ⌜ OpenDoes m s (now (calldata .entry)) (told r) (mem (now (bytes .exit)) (now (keys .exit)) (now (order .exit)) (now (words .exit))) ⌝ }
+{
+    let n = open_refusal(
+        bytes,
+        keys,
+        order,
+        words,
+        layout,
+        chunks,
+        pages,
+        room,
+        calldata,
+    );
+    if n != 0 {
+        return Answer::Refused(n);
+    }
+    start(bytes, keys, order, words, layout, chunks, pages, room);
+    let page = layout.calldata.0;
+    put_calldata(bytes, keys, order, words, page, calldata);
+    Answer::Done
+}

@@ -1,0 +1,403 @@
+-- A page is allocated: a memory where it was already, and one where it is given an entry.
+-- Assumes nothing.
+use mathlib.Core.Path.{_≡_, refl, sym, ap, _∙_, subst, fun-ext}
+use mathlib.Core.Logic.{⊎-elim}
+use mathlib.Core.Bool.{Bool, true, false, cond, _||_, false≢true}
+use mathlib.Core.List.{List, [], _∷_}
+use Prim.Native.Nat.{ℕ, zero, suc, _+_, _*_, _-_, _/_, _%_, _≤_, _<_}
+use native.Mathlib.Nat.{div-le-of-le-mul}
+use native.Mathlib.Omega.{arith}
+use lib.Dec.{ltb, eqb}
+use lib.ListN.{length, getD, set, take, drop, length-set, length-drop, List·getD-eq-default}
+use lib.Seq.{getD-set-same, getD-set-other}
+use borrow.Author.Tests.{lt-ltb, le-ltb, le-leb, lt-leb, eq-eqb, ne-eqb, leb-true}
+use Rattle.page_ids.specs.Decode.{Page, none, page, byRemainder, decoded}
+use Rattle.page_ids.specs.declared.Layout.{Layout}
+use Rattle.index.specs.Index.{indexed, seek, freeCount}
+use Rattle.index.proofs.Logic.{same-or-not, lt-or-ge}
+use Rattle.index.proofs.Counts.{used-free, count-fill}
+use Rattle.index.proofs.Places.{seek-hit, seek-le}
+use Rattle.index.proofs.Meaning.{once}
+use Rattle.store.specs.Mem.{Mem, mem, layoutOf, slotCount, pageCount, journalRoom, journalLength, inUse, dynamicLength, holders, entries, slotOrder, pageOrder, chunks}
+use Rattle.store.specs.Hold.{PagesIndexed}
+use Rattle.formed.specs.Pages.{LayoutRule, isFixed, isDynamic, fixed, dynamic, group, journalPlace}
+use Rattle.formed.specs.Parts.{Note, tab, keyOf, entryOf, allocated, entriesLeft, slotOfChunk, holds, byteAt, noteAt, noteAddress, noteFirst, noteLast, oldAt, journal}
+use Rattle.formed.specs.WellFormed.{WellFormed, Lengths, ListedPage, NotedRight, holder, keyEntry}
+use Rattle.formed.proofs.Bools.{refute, or-off}
+use Rattle.formed.proofs.Keys.{le-or-gt, seek-is, key-entry}
+use Rattle.formed.proofs.Sizes.{entries-long}
+use Rattle.formed.proofs.Facts.{PageRight, SlotRight, Facts}
+use Rattle.formed.proofs.Meaning.{pages-index, facts-of, formed-by}
+use Rattle.formed.proofs.Sense.{slot-near, slot-far, holds-held, left-is, allocated-is, listed-allocated, fixed-allocated}
+use Rattle.view.specs.View.{viewOf, settingOf}
+use Rattle.view.specs.Steps.{max}
+use Rattle.view.specs.Does.{Shows}
+use Rattle.view.specs.Inner.{listing, ListAsks}
+use Rattle.pages.specs.Entry.{EntryAsks, EntryTaken}
+use Rattle.pages.proofs.Views.{listing-by}
+
+-- ---- numbers and pages
+max-low : (d g : ℕ) → d ≤ max d g
+max-low d g = ⊎-elim (λ (l : d ≤ g). rw (le-leb d g l) l) (λ (l : g < d). rw (lt-leb d g l) (let h : d ≤ d = omega arith in h)) (le-or-gt d g)
+
+max-high : (d g : ℕ) → g ≤ max d g
+max-high d g = ⊎-elim (λ (l : d ≤ g). rw (le-leb d g l) (let h : g ≤ g = omega arith in h)) (λ (l : g < d). rw (lt-leb d g l) (let h : g ≤ d = omega arith in h)) (le-or-gt d g)
+
+max-upto : (d g n : ℕ) → d ≤ n → g ≤ n → max d g ≤ n
+max-upto d g n a b = ⊎-elim (λ (l : d ≤ g). rw (le-leb d g l) b) (λ (l : g < d). rw (lt-leb d g l) a) (le-or-gt d g)
+
+max-same : (d g : ℕ) → g ≤ d → d ≡ max d g
+max-same d g l = let a = max-low d g in let b = max-upto d g d (omega arith) l in omega arith
+
+-- a fixed page is not dynamic, and a dynamic one lies at or above the base
+fixed-alone : (l : Layout) (p : ℕ) → fixed l p ≡ true → dynamic l p ≡ false
+unfolding fixed dynamic
+fixed-alone l p = go (decoded l p)
+  where
+    go : (x : Page) → isFixed x ≡ true → isDynamic x ≡ false
+    go none y = refl
+    go (page k g) y = le-ltb k 3 (leb-true 3 k y)
+
+dynamic-above : (l : Layout) (p : ℕ) → dynamic l p ≡ true → l .base .0 ≤ p
+unfolding dynamic
+dynamic-above l p y =
+    ⊎-elim
+    (λ (low : p < l .base .0).
+    let n = go (eqb p (l .«static_memory» .0)) (eqb p (l .calldata .0)) (eqb p (l .«bootloader_heap» .0)) (eqb p (l .«bootloader_aux» .0)) (ltb p (l .base .0))
+    (cond (eqb (l .stride) 0) none (byRemainder ((p - l .base .0) % l .stride) (group l p))) (lt-ltb p (l .base .0) low) in
+    absurd (false≢true (sym n ∙ y)))
+    (λ (h : l .base .0 ≤ p). h)
+    (lt-or-ge p (l .base .0))
+  where
+    go : (a b c d x : Bool) (z : Page) → x ≡ true → isDynamic (cond a (page 3 0) (cond b (page 4 0) (cond c (page 5 0) (cond d (page 6 0) (cond x none z))))) ≡ false
+    go true b c d x z e = refl
+    go false true c d x z e = refl
+    go false false true d x z e = refl
+    go false false false true x z e = refl
+    go false false false false x z e = rw e
+
+layout-same : (w w' : List ℕ) → ((i : ℕ) → i < 6 → getD w' i 0 ≡ getD w i 0) → layoutOf w' ≡ layoutOf w
+layout-same w w' h = rw (h 0 (omega arith), h 1 (omega arith), h 2 (omega arith), h 3 (omega arith), h 4 (omega arith), h 5 (omega arith))
+
+-- a place that was free is given the key k: the others stand where they stood
+seek-other : (ks : List ℕ) (s k j : ℕ) → getD ks s 0 ≡ 0 → 0 < j → (j ≡ k → ⊥) → seek (set ks s k) j ≡ seek ks j
+unfolding seek
+seek-other [] s k j z p n = refl
+seek-other (x ∷ ks) zero k j z p n = rw (ne-eqb k j (λ e. n (sym e)), ne-eqb x j (λ e. omega arith))
+seek-other (x ∷ ks) (suc s) k j z p n = ap (λ (r : ℕ). cond (eqb x j) 0 (suc r)) (seek-other ks s k j z p n)
+
+-- word i of journal j
+abbrev noteOf : Mem → ℕ → ℕ → Note
+noteOf m j i = record { address = noteAddress m j i; old = tab 32 (λ k. getD (m .bytes) (oldAt m j i + k) 0) }
+
+-- ---- a page that is not allocated holds nothing
+module _ (m : Mem) (f : WellFormed m) where
+  pub unlisted-holds : (p k : ℕ) → allocated m p ≡ false → holds m p k ≡ false
+  unlisted-holds p k n =
+      sym (refute (holds m p k) (λ h.
+      ⊎-elim
+      (λ (x : fixed (layoutOf (m .words)) p ≡ true). false≢true (sym n ∙ fixed-allocated m f p x))
+      (λ (x : ListedPage m p). false≢true (sym n ∙ listed-allocated m f p x))
+      (f .holders-known (slotOfChunk m p k) p k (holds-held m f p k h))))
+
+  -- and no slot has a key of an entry that is free or past the table
+  nobody : (e k : ℕ) → getD (entries m) e 0 ≡ 0 → k ≤ 16777216 → seek (holders m) (keyOf e k) ≡ length (holders m)
+  nobody e k z l =
+      let u = seek-le (holders m) (keyOf e k) in
+      ⊎-elim
+      (λ (h : seek (holders m) (keyOf e k) < length (holders m)).
+      let at = seek-hit (holders m) (keyOf e k) h in
+      let g = facts-of m f .held (seek (holders m) (keyOf e k)) (omega arith) .entry in
+      let v : getD (entries m) (keyEntry (holder m (seek (holders m) (keyOf e k)))) 0 ≡ 0 = ap (λ (x : ℕ). getD (entries m) (keyEntry x) 0) at ∙ ap (λ (x : ℕ). getD (entries m) x 0) (key-entry e k (omega arith)) ∙ z in
+      absurd (omega arith))
+      (λ (h : length (holders m) ≤ seek (holders m) (keyOf e k)). omega arith)
+      (lt-or-ge (seek (holders m) (keyOf e k)) (length (holders m)))
+
+-- ---- what the calls ask
+module _ (m : Mem) (p : ℕ) (a : ListAsks m p) where
+  pub pages-asked : PagesIndexed (m .keys) (m .order) (m .words)
+  pages-asked =
+      let l = a .formed .lengths in
+      record { head = omega arith; few = l .slots-hi; in-keys = omega arith; in-order = omega arith; index = pages-index m (a .formed) }
+
+  -- the page is allocated already
+  module _ (l : entryOf m p < pageCount (m .words) + 4) where
+    was : allocated m p ≡ true
+    unfolding allocated
+    was = lt-ltb (entryOf m p) (length (entries m)) (let n = entries-long m (a .formed .lengths) in omega arith)
+
+    was-pages : (q : ℕ) → allocated m q ≡ (eqb q p || allocated m q)
+    was-pages q = ⊎-elim (λ (e : q ≡ p). rw (eq-eqb q p e) (ap (allocated m) e ∙ was)) (λ (n : q ≡ p → ⊥). rw (ne-eqb q p n)) (same-or-not q p)
+
+    was-high : dynamicLength (m .words) ≡ cond (dynamic (layoutOf (m .words)) p) (max (dynamicLength (m .words)) (group (layoutOf (m .words)) p + 1)) (dynamicLength (m .words))
+    was-high =
+        ⊎-elim
+        (λ (x : fixed (layoutOf (m .words)) p ≡ true). rw (fixed-alone (layoutOf (m .words)) p x))
+        (λ (x : ListedPage m p).
+        let b = a .formed .pages-below (x .entry) p (x .there) in
+        rw (a .formed .pages-dynamic (x .entry) p (x .there)) (max-same (dynamicLength (m .words)) (group (layoutOf (m .words)) p + 1) (omega arith)))
+        (allocated-is m (a .formed) p was)
+
+    pub listed-already : Shows (settingOf m) (listing m p) m
+    listed-already = record {
+      formed = a .formed;
+      setting = refl;
+      view = listing-by (layoutOf (m .words)) p (viewOf m) (viewOf m) (λ q b. refl) (λ q k. refl) refl was-pages (rw was) was-high (λ j. refl);
+    }
+
+  -- it is not
+  module _ (l : pageCount (m .words) + 4 ≤ entryOf m p) where
+    pub not-listed : allocated m p ≡ false
+    unfolding allocated
+    not-listed = le-ltb (entryOf m p) (length (entries m)) (let n = entries-long m (a .formed .lengths) in omega arith)
+
+    pub listed-dynamic : dynamic (layoutOf (m .words)) p ≡ true
+    listed-dynamic =
+        or-off (fixed (layoutOf (m .words)) p) (dynamic (layoutOf (m .words)) p)
+        (sym (refute (fixed (layoutOf (m .words)) p) (λ x. false≢true (sym not-listed ∙ fixed-allocated m (a .formed) p x)))) (a .decodable)
+
+    pub entry-asks : EntryAsks (m .keys) (m .order) (m .words) p
+    entry-asks =
+        let s = a .formed .lengths in
+        let n = entries-long m s in
+        let o = length-drop (slotCount (m .words)) (m .order) in
+        let r = a .entry not-listed in
+        let i = left-is m (a .formed) in
+        let t = a .formed .layout .stride in
+        record {
+          pages = pages-asked;
+          few = omega arith;
+          none = omega arith;
+          room = omega arith;
+          order-room = omega arith;
+          above = dynamic-above (layoutOf (m .words)) p listed-dynamic;
+          stride = omega arith;
+        }
+
+    -- ---- it is given an entry
+    module _ (keys' order' words' : List ℕ) (lk : length keys' ≡ length (m .keys)) (lo : length order' ≡ length (m .order)) (t : EntryTaken p (m .keys) (m .order) (m .words) keys' order' words') where
+      abbrev m' : Mem
+      m' = mem (m .bytes) keys' order' words'
+
+      f : Facts m
+      f = facts-of m (a .formed)
+
+      -- the head
+      abbrev high : ℕ
+      high = max (dynamicLength (m .words)) (group (layoutOf (m .words)) p + 1)
+
+      words-long : length words' ≡ length (m .words)
+      words-long = ap length (t .words-are) ∙ length-set (set (m .words) 10 (inUse (m .words) + 1)) 11 high ∙ length-set (m .words) 10 (inUse (m .words) + 1)
+
+      head : (i : ℕ) → (i ≡ 10 → ⊥) → (i ≡ 11 → ⊥) → getD words' i 0 ≡ getD (m .words) i 0
+      head i x y = ap (λ (w : List ℕ). getD w i 0) (t .words-are) ∙ getD-set-other (set (m .words) 10 (inUse (m .words) + 1)) 11 i high 0 y ∙ getD-set-other (m .words) 10 i (inUse (m .words) + 1) 0 x
+
+      low : (i : ℕ) → i < 10 → getD words' i 0 ≡ getD (m .words) i 0
+      low i x = head i (λ e. omega arith) (λ e. omega arith)
+
+      past : (i : ℕ) → 12 ≤ i → getD words' i 0 ≡ getD (m .words) i 0
+      past i x = head i (λ e. omega arith) (λ e. omega arith)
+
+      in-head : 16 ≤ length (m .words)
+      in-head = pages-asked .head
+
+      ten : inUse words' ≡ inUse (m .words) + 1
+      ten =
+          ap inUse (t .words-are) ∙ getD-set-other (set (m .words) 10 (inUse (m .words) + 1)) 11 10 high 0 (λ e. omega arith)
+          ∙ getD-set-same (m .words) 10 (inUse (m .words) + 1) 0 (let h = in-head in omega arith)
+
+      eleven : dynamicLength words' ≡ high
+      eleven =
+          ap dynamicLength (t .words-are)
+          ∙ getD-set-same (set (m .words) 10 (inUse (m .words) + 1)) 11 high 0 (let h = in-head in let g = length-set (m .words) 10 (inUse (m .words) + 1) in omega arith)
+
+      six : slotCount words' ≡ slotCount (m .words)
+      six = low 6 (omega arith)
+
+      eight : journalRoom words' ≡ journalRoom (m .words)
+      eight = low 8 (omega arith)
+
+      layout-kept : layoutOf words' ≡ layoutOf (m .words)
+      layout-kept = layout-same (m .words) words' (λ i x. low i (omega arith))
+
+      -- the parts
+      holders-kept : holders m' ≡ holders m
+      holders-kept = ap (λ (x : ℕ). take x keys') six ∙ t .holders-are
+
+      chunks-kept : chunks m' ≡ chunks m
+      chunks-kept = ap (λ (x : ℕ). take (256 * x) (m .bytes)) six
+
+      order-kept : slotOrder m' ≡ slotOrder m
+      order-kept = ap (λ (x : ℕ). take x order') six ∙ t .slots-order
+
+      entries-new : entries m' ≡ set (entries m) (t .entry) (p + 1)
+      entries-new = ap (λ (x : ℕ). drop x keys') six ∙ t .entries-are
+
+      pages-new : indexed (entries m') (pageOrder m') (inUse words') ≡ true
+      pages-new = ap (λ (x : ℕ). indexed (drop x keys') (drop x order') (inUse words')) six ∙ ap (indexed (drop (slotCount (m .words)) keys') (drop (slotCount (m .words)) order')) ten ∙ t .index
+
+      entry-new : getD (entries m') (t .entry) 0 ≡ p + 1
+      entry-new = ap (λ (x : List ℕ). getD x (t .entry) 0) entries-new ∙ getD-set-same (entries m) (t .entry) (p + 1) 0 (t .entry-in)
+
+      entry-other : (x : ℕ) → (x ≡ t .entry → ⊥) → getD (entries m') x 0 ≡ getD (entries m) x 0
+      entry-other x n = ap (λ (y : List ℕ). getD y x 0) entries-new ∙ getD-set-other (entries m) (t .entry) x (p + 1) 0 n
+
+      entry-used : (x : ℕ) → 0 < getD (entries m) x 0 → getD (entries m') x 0 ≡ getD (entries m) x 0
+      entry-used x u = entry-other x (λ e. let z : getD (entries m) x 0 ≡ 0 = ap (λ (y : ℕ). getD (entries m) y 0) e ∙ t .free in omega arith)
+
+      -- ---- it is well formed
+      page-right : (x : ℕ) → x ≤ 4294967296 → dynamic (layoutOf (m .words)) (x - 1) ≡ true → group (layoutOf (m .words)) (x - 1) < high → PageRight words' x
+      page-right x w y b = record {
+        width = w;
+        kind = ap (λ (o : Layout). dynamic o (x - 1)) layout-kept ∙ y;
+        below = let e = eleven in let g = subst (λ (o : Layout). group o (x - 1) < high) (sym layout-kept) b in omega arith;
+      }
+
+      listed-right : (x : ℕ) → 4 ≤ x → 0 < getD (entries m') x 0 → PageRight words' (getD (entries m') x 0)
+      listed-right x ge u =
+          ⊎-elim
+          (λ (e : x ≡ t .entry).
+          let q : p + 1 - 1 ≡ p = omega arith in
+          let h = max-high (dynamicLength (m .words)) (group (layoutOf (m .words)) p + 1) in
+          let g : group (layoutOf (m .words)) p < high = omega arith in
+          let w = a .page in
+          let r : PageRight words' (p + 1) = page-right (p + 1) (omega arith) (ap (dynamic (layoutOf (m .words))) q ∙ listed-dynamic) (subst (λ (o : ℕ). group (layoutOf (m .words)) o < high) (sym q) g) in
+          subst (PageRight words') (sym (ap (λ (y : ℕ). getD (entries m') y 0) e ∙ entry-new)) r)
+          (λ (n : x ≡ t .entry → ⊥).
+          let q = entry-other x n in
+          let r = f .listed x ge (omega arith) in
+          let g = max-low (dynamicLength (m .words)) (group (layoutOf (m .words)) p + 1) in
+          let b = r .below in
+          subst (PageRight words') (sym q) (page-right (getD (entries m) x 0) (r .width) (r .kind) (omega arith)))
+          (same-or-not x (t .entry))
+
+      slot-right : (s : ℕ) → 0 < holder m' s → SlotRight m' s (holder m' s)
+      slot-right s u =
+          let q : holder m' s ≡ holder m s = ap (λ (x : List ℕ). getD x s 0) holders-kept in
+          let r = f .held s (omega arith) in
+          let g = r .entry in
+          let o = entry-used (keyEntry (holder m s)) g in
+          subst (SlotRight m' s) (sym q) record { entry = omega arith; top = r .top; tail = λ e b lo hi. ap (λ (x : List ℕ). getD x (256 * s + b) 0) chunks-kept ∙ r .tail e b lo hi }
+
+      note-place : (j i : ℕ) → noteAt m' j i ≡ noteAt m j i
+      note-place j i = ap (λ (r : ℕ). 16 + 3 * (r * j + i)) eight
+
+      note-number : (j i : ℕ) → noteAddress m' j i ≡ noteAddress m j i
+      note-number j i = ap (λ (x : ℕ). getD words' x 0) (note-place j i) ∙ past (noteAt m j i) (omega arith)
+
+      note-slot : (j i x : ℕ) → getD words' (noteAt m' j i + x) 0 ≡ getD (m .words) (noteAt m j i + x) 0
+      note-slot j i x = ap (λ (y : ℕ). getD words' (y + x) 0) (note-place j i) ∙ past (noteAt m j i + x) (omega arith)
+
+      held-note : (s s' k k' : ℕ) → s' ≡ s → k' ≡ k → holder m s ≡ k → holder m' s' ≡ k'
+      held-note s s' k k' q e h = ap (λ (x : List ℕ). getD x s' 0) holders-kept ∙ ap (holder m) q ∙ h ∙ sym e
+
+      note-right : (j i : ℕ) → NotedRight m j i → NotedRight m' j i
+      note-right j i n = record {
+        address = let e = note-number j i in let l = n .address in omega arith;
+        first = held-note (noteFirst m j i) (noteFirst m' j i) _ _ (note-slot j i 1) (ap (λ (x : ℕ). keyOf (journalPlace j) (x / 256)) (note-number j i)) (n .first);
+        last = held-note (noteLast m j i) (noteLast m' j i) _ _ (note-slot j i 2) (ap (λ (x : ℕ). keyOf (journalPlace j) ((x + 31) / 256)) (note-number j i)) (n .last);
+      }
+
+      journal-long : (j : ℕ) → journalLength words' j ≡ journalLength (m .words) j
+      journal-long j = past (12 + j) (omega arith)
+
+      lengths-kept : Lengths m'
+      lengths-kept =
+          let s = a .formed .lengths in
+          let h₆ = six in
+          let h₇ = low 7 (omega arith) in
+          let h₈ = eight in
+          let w = words-long in
+          record { slots-lo = omega arith; slots-hi = omega arith; pages-lo = omega arith; pages-hi = omega arith; room-hi = omega arith; in-bytes = omega arith; in-keys = omega arith; in-order = omega arith; in-words = omega arith }
+
+      high-width : high ≤ 4294967295
+      high-width =
+          let s = a .formed .layout .stride in
+          let w = a .page in
+          max-upto (dynamicLength (m .words)) (group (layoutOf (m .words)) p + 1) 4294967295 (f .length-width) (group-width (p - layoutOf (m .words) .base .0) (layoutOf (m .words) .stride) (omega arith) s)
+        where
+          group-width : (x s : ℕ) → x ≤ 4294967295 → 4 ≤ s → x / s + 1 ≤ 4294967295
+          group-width x s l g = let h = div-le-of-le-mul s {m = x} {n = 1073741824} (omega arith) in omega arith
+
+      new-facts : Facts m'
+      new-facts = record {
+        lengths = lengths-kept;
+        layout = subst LayoutRule (sym layout-kept) (f .layout);
+        layout-width = λ i x. let h = low i (omega arith) in let w = f .layout-width i x in omega arith;
+        length-width = let e = eleven in let w = high-width in omega arith;
+        slots = rw (holders-kept, order-kept, low 9 (omega arith)) (f .slots);
+        pages = pages-new;
+        fixed-four = λ e x. let v = f .fixed-four e x in entry-used e (omega arith) ∙ v ∙ ap (λ (y : ℕ). y + 1) (sym (low e (omega arith)));
+        listed = listed-right;
+        pooled = λ s x z b r. ap (λ (y : List ℕ). getD y (256 * s + b) 0) chunks-kept ∙ f .pooled s (let h = six in omega arith) (sym (ap (λ (y : List ℕ). getD y s 0) holders-kept) ∙ z) b r;
+        held = slot-right;
+        in-capacity = λ j x. let c = f .in-capacity j x in let h = journal-long j in let g = eight in omega arith;
+        notes = λ j i x y. note-right j i (f .notes j i x (let h = journal-long j in omega arith));
+      }
+
+      -- ---- what it shows
+      place-new : entryOf m' p ≡ t .entry
+      place-new = seek-is (entries m') (p + 1) (t .entry) (once (entries m') (pageOrder m') (inUse words') pages-new) (omega arith) entry-new
+
+      place-kept : (q : ℕ) → (q ≡ p → ⊥) → entryOf m' q ≡ entryOf m q
+      place-kept q n = ap (λ (x : List ℕ). seek x (q + 1)) entries-new ∙ seek-other (entries m) (t .entry) (p + 1) (q + 1) (t .free) (omega arith) (λ e. n (omega arith))
+
+      slot-near-kept : (q k : ℕ) → k ≤ 16777216 → seek (holders m) (keyOf (entryOf m' q) k) ≡ seek (holders m) (keyOf (entryOf m q) k)
+      slot-near-kept q k x =
+          ⊎-elim
+          (λ (e : q ≡ p).
+          let n : getD (entries m) (entryOf m' q) 0 ≡ 0 = ap (λ (y : ℕ). getD (entries m) (entryOf m' y) 0) e ∙ ap (λ (y : ℕ). getD (entries m) y 0) place-new ∙ t .free in
+          let o : getD (entries m) (entryOf m q) 0 ≡ 0 = ap (λ (y : ℕ). getD (entries m) (entryOf m y) 0) e ∙ List·getD-eq-default (entries m) 0 (entry-asks .none) in
+          nobody m (a .formed) (entryOf m' q) k n x ∙ sym (nobody m (a .formed) (entryOf m q) k o x))
+          (λ (n : q ≡ p → ⊥). ap (λ (y : ℕ). seek (holders m) (keyOf y k)) (place-kept q n))
+          (same-or-not q p)
+
+      slot-kept : (q k : ℕ) → slotOfChunk m' q k ≡ slotOfChunk m q k
+      slot-kept q k =
+          ⊎-elim
+          (λ (x : k ≤ 16777216). slot-near m' q k x ∙ ap (λ (y : List ℕ). seek y (keyOf (entryOf m' q) k)) holders-kept ∙ slot-near-kept q k x ∙ sym (slot-near m q k x))
+          (λ (x : 16777216 < k). slot-far m' q k x ∙ six ∙ sym (slot-far m q k x))
+          (le-or-gt k 16777216)
+
+      bytes-kept : (q b : ℕ) → byteAt m' q b ≡ byteAt m q b
+      unfolding byteAt
+      bytes-kept q b = ap (λ (y : List ℕ). getD y (256 * slotOfChunk m' q (b / 256) + b % 256) 0) chunks-kept ∙ ap (λ (y : ℕ). getD (chunks m) (256 * y + b % 256) 0) (slot-kept q (b / 256))
+
+      holds-kept : (q k : ℕ) → holds m' q k ≡ holds m q k
+      unfolding holds
+      holds-kept q k = ap (ltb (slotOfChunk m' q k)) six ∙ ap (λ (y : ℕ). ltb y (slotCount (m .words))) (slot-kept q k)
+
+      entries-length : length (entries m') ≡ length (entries m)
+      entries-length = ap length entries-new ∙ length-set (entries m) (t .entry) (p + 1)
+
+      pages-shown : (q : ℕ) → allocated m' q ≡ (eqb q p || allocated m q)
+      unfolding allocated
+      pages-shown q =
+          ap (ltb (entryOf m' q)) entries-length
+          ∙ ⊎-elim
+          (λ (e : q ≡ p). rw (eq-eqb q p e) (let n : entryOf m' q ≡ t .entry = ap (entryOf m') e ∙ place-new in let i = t .entry-in in lt-ltb (entryOf m' q) (length (entries m)) (omega arith)))
+          (λ (n : q ≡ p → ⊥). rw (ne-eqb q p n) (ap (λ (y : ℕ). ltb y (length (entries m))) (place-kept q n)))
+          (same-or-not q p)
+
+      one-less : freeCount (entries m') ≡ entriesLeft m - 1
+      one-less =
+          let x = used-free (entries m) in
+          let y = used-free (set (entries m) (t .entry) (p + 1)) in
+          let c = count-fill (entries m) (t .entry) (p + 1) (t .entry-in) (t .free) (omega arith) in
+          let n = length-set (entries m) (t .entry) (p + 1) in
+          ap freeCount entries-new ∙ (let h : freeCount (set (entries m) (t .entry) (p + 1)) ≡ freeCount (entries m) - 1 = omega arith in h)
+
+      note-kept : (j i : ℕ) → noteOf m' j i ≡ noteOf m j i
+      note-kept j i = rw (note-number j i, six, eight)
+
+      journal-kept : (j : ℕ) → journal m' j ≡ journal m j
+      unfolding journal
+      journal-kept j = rw (journal-long j) (ap (tab (journalLength (m .words) j)) (fun-ext (note-kept j)))
+
+      pub listed-now : Shows (settingOf m) (listing m p) m'
+      listed-now = record {
+        formed = formed-by m' new-facts;
+        setting = rw (layout-kept, six, low 7 (omega arith), eight);
+        view = listing-by (layoutOf (m .words)) p (viewOf m) (viewOf m') bytes-kept holds-kept (ap freeCount holders-kept) pages-shown (rw not-listed one-less) (rw listed-dynamic eleven)
+            (λ j. ap (λ (x : List Note). cond (ltb j 2) x []) (journal-kept j));
+      }

@@ -1,0 +1,53 @@
+// Page entries: a page is allocated.
+ghost use mathlib.Core.Path.{_≡_};
+ghost use Prim.Native.Nat.{_≤_};
+ghost use lib.ListN.{length, set};
+ghost use Rattle.store.specs.Mem.{mem, headLength, dynamicLength};
+ghost use Rattle.view.specs.View.{settingOf};
+ghost use Rattle.view.specs.Steps.{max};
+ghost use Rattle.view.specs.Does.{Shows};
+ghost use Rattle.view.specs.Inner.{listing, ListAsks};
+ghost use Rattle.pages.specs.Entry.{EntryAsks, EntryTaken};
+
+// Raises the dynamic length to `least`, if it is below.
+fn raise(words: &mut [u64], least: u64)
+    requires { ⌜ headLength ≤ length (now words) ⌝ }
+    ensures { λ _. ⌜ now (words .exit) ≡ set (now (words .entry)) 11 (max (dynamicLength (now (words .entry))) least) ⌝ }
+{
+    if least < words[11] {
+        return;
+    }
+    words[11] = least;
+}
+
+// Gives a free entry to a dynamic page that has none, and makes the dynamic length reach past its group.
+fn take_entry(keys: &mut [u64], order: &mut [u32], words: &mut [u64], page: u32)
+    requires { ⌜ EntryAsks (now keys) (now order) (now words) page ⌝ }
+    ensures { λ _. ⌜ EntryTaken page (now (keys .entry)) (now (order .entry)) (now (words .entry)) (now (keys .exit)) (now (order .exit)) (now (words .exit)) ⌝ }
+{
+    let c = words[6] as usize;
+    let n = words[10] as usize;
+    let group = (page as u64 - words[4]) / words[5];
+    let e = store::free_place(&keys[c..]);
+    index::insert(
+        &mut keys[c..],
+        &mut order[c..],
+        n,
+        e as u32,
+        page as u64 + 1,
+    );
+    words[10] = (n + 1) as u64;
+    raise(words, group + 1);
+}
+
+// Allocates a page that can be; one that is stays as it is.
+pub fn list_page(bytes: &[u8], keys: &mut [u64], order: &mut [u32], words: &mut [u64], page: u32)
+    requires { ⌜ ListAsks (mem (now bytes) (now keys) (now order) (now words)) page ⌝ }
+    ensures { λ _. ⌜ Shows (settingOf (mem (now (bytes .entry)) (now (keys .entry)) (now (order .entry)) (now (words .entry)))) (listing (mem (now (bytes .entry)) (now (keys .entry)) (now (order .entry)) (now (words .entry))) page) (mem (now (bytes .entry)) (now (keys .exit)) (now (order .exit)) (now (words .exit))) ⌝ }
+{
+    let e = store::entry_of(keys, order, words, page);
+    if (e as u64) < words[7] + 4 {
+        return;
+    }
+    take_entry(keys, order, words, page);
+}

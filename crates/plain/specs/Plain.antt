@@ -1,0 +1,99 @@
+-- THE PLAIN MAP of 01. It is fed each call's arguments, but no lent memory, and whether the call was carried out.
+-- Assumes nothing.
+use mathlib.Core.Bool.{Bool, true, false, cond, _&&_, _||_}
+use mathlib.Core.List.{List, [], _∷_, _++_}
+use Prim.Native.Nat.{ℕ, zero, suc, _+_, _*_, _-_, _/_}
+use lib.Dec.{eqb}
+use lib.ListN.{length, take}
+use Rattle.outcome.specs.Outcome.{Outcome, carriedOut}
+use Rattle.word.specs.Value.{wordBytes}
+use Rattle.formed.specs.Pages.{fixed, dynamic, group, journalCount}
+use Rattle.formed.specs.Parts.{Note, tab}
+use Rattle.page_ids.specs.declared.Layout.{Layout}
+use Rattle.view.specs.View.{View, Setting}
+use Rattle.view.specs.Steps.{max, over, touchedCount, alignedCount, journalled, rolledBytes, marks}
+use Rattle.view.specs.Calls.{Call, Value, Open, Allocate, ReadWord, ReadPartial, ReadRange, ReadByte, DynamicLength, WriteWord, WriteBytes, Lookup, LookupCheck, Snapshot, Rollback, DeleteHistory}
+
+-- it keeps a byte for each page and address, the held pairs of page and chunk number, the two journals with old words from its own bytes,
+-- and, by the rules of Pages, the allocated dynamic pages and the dynamic length
+pub record Plain : Type 0 where
+  pub bytes : ℕ → ℕ → ℕ
+  pub held : List (ℕ × ℕ)
+  pub pages : List ℕ
+  pub dynamicLength : ℕ
+  pub journal : ℕ → List Note
+
+-- ---- pairs and pages
+unfoldable pub has : List (ℕ × ℕ) → ℕ → ℕ → Bool
+has [] p k = false
+has ((q, j) ∷ held) p k = (eqb p q && eqb k j) || has held p k
+
+-- the n chunks from k on of page p are held; none twice
+unfoldable pub hold : ℕ → ℕ → ℕ → List (ℕ × ℕ) → List (ℕ × ℕ)
+hold p k zero held = held
+hold p k (suc n) held = cond (has (hold p k n held) p (k + n)) (hold p k n held) ((p, k + n) ∷ hold p k n held)
+
+unfoldable pub member : List ℕ → ℕ → Bool
+member [] p = false
+member (q ∷ pages) p = eqb p q || member pages p
+
+-- a dynamic page is allocated; none twice
+abbrev pub list : Layout → ℕ → List ℕ → List ℕ
+list l p pages = cond (dynamic l p) (cond (member pages p) pages (p ∷ pages)) pages
+
+-- ---- what a call that was carried out does
+-- a write sets its bytes, holds each chunk that has one of these, and journals the notes where its page is a bootloader page
+abbrev pub put : Layout → ℕ → ℕ → List ℕ → List Note → Plain → Plain
+put l p a bs notes m = record {
+  bytes = over p a bs (m .bytes);
+  held = hold p (a / 256) (touchedCount a (length bs)) (m .held);
+  pages = list l p (m .pages);
+  dynamicLength = cond (dynamic l p) (max (m .dynamicLength) (group l p + 1)) (m .dynamicLength);
+  journal = λ j. cond (journalled l p j) (m .journal j ++ notes) (m .journal j);
+}
+
+-- the word at an address, as the map has it now
+abbrev pub noteOf : Plain → ℕ → ℕ → Note
+noteOf m p a = record { address = a; old = tab 32 (λ i. m .bytes p (a + i)) }
+
+abbrev pub follow : Layout → Call → Plain → Plain
+follow l (Open t calldata) m = m
+follow l (Allocate p bs) m = put l p 0 bs [] m
+follow l (ReadWord p a) m = m
+follow l (ReadPartial p x y) m = m
+follow l (ReadRange p x y n) m = m
+follow l (ReadByte p a) m = m
+follow l DynamicLength m = m
+follow l (WriteWord p a n) m = put l p a (wordBytes n) (noteOf m p a ∷ []) m
+follow l (WriteBytes p a bs) m = put l p a bs (tab (alignedCount a (length bs)) (λ i. noteOf m p (32 * (a / 32 + i)))) m
+follow l (Lookup p k z) m = m
+follow l (LookupCheck p k z) m = m
+follow l Snapshot m = m
+follow l (Rollback heap aux) m = record {
+  bytes = rolledBytes l (marks heap aux) (m .journal) journalCount (m .bytes);
+  held = m .held;
+  pages = m .pages;
+  dynamicLength = m .dynamicLength;
+  journal = λ j. take (marks heap aux j) (m .journal j);
+}
+follow l DeleteHistory m = record { bytes = m .bytes; held = m .held; pages = m .pages; dynamicLength = m .dynamicLength; journal = λ j. [] }
+
+-- a refused call is no step
+abbrev pub feed : Layout → Call → Outcome Value → Plain → Plain
+feed l c o m = cond (carriedOut o) (follow l c m) m
+
+-- an accepted opening zeroes the bytes and the dynamic length, empties the rest, and puts calldata on its page
+abbrev pub fresh : Setting → List ℕ → Plain
+fresh s calldata = put (s .layout) (s .layout .calldata .0) 0 calldata [] (record { bytes = λ p a. 0; held = []; pages = []; dynamicLength = 0; journal = λ j. [] })
+
+-- ---- the view that the plain map stands for
+abbrev pub seen : Setting → Plain → View
+seen s m = record {
+  bytes = m .bytes;
+  held = has (m .held);
+  pool = s .chunks - length (m .held);
+  allocated = λ p. fixed (s .layout) p || member (m .pages) p;
+  entries = s .pages - length (m .pages);
+  dynamicLength = m .dynamicLength;
+  journal = m .journal;
+}

@@ -1,0 +1,142 @@
+-- The answers of the reads: which check decides.
+-- Assumes nothing.
+use mathlib.Core.Path.{_≡_, refl, sym, ap, _∙_}
+use mathlib.Core.Bool.{Bool, true, false, cond, not, _&&_, false≢true}
+use mathlib.Core.List.{List, [], _++_}
+use Prim.Native.Nat.{ℕ, zero, suc, _+_, _*_, _-_, _≤_, _<_}
+use native.Mathlib.Omega.{arith}
+use lib.Dec.{eqb}
+use lib.ListN.{length, getD, take, drop, replicate}
+use lib.Seq.{length-take-le}
+use borrow.Author.Tests.{lt-ltb, le-ltb, eq-eqb, ne-eqb, eqb-true, not-true, not-false}
+use Rattle.store.proofs.Parts.{sub-zero}
+use Rattle.index.proofs.Logic.{and-left, and-right}
+use Rattle.outcome.specs.Outcome.{Outcome, refused, done, carriedOut, firstOf}
+use Rattle.word.specs.Value.{value}
+use Rattle.store.specs.Mem.{Mem, dynamicLength, journalLength}
+use Rattle.formed.specs.Formed.{zeros, wellFormed}
+use Rattle.formed.specs.Pages.{journalCount}
+use Rattle.formed.specs.Parts.{journal}
+use Rattle.formed.proofs.Meaning.{well-formed-means}
+use Rattle.view.specs.View.{View, viewOf}
+use Rattle.view.specs.Steps.{run}
+use Rattle.view.specs.Checks.{Check, onMemory, partialChecks, rangeChecks, lookupChecks}
+use Rattle.view.specs.Calls.{padded, shown}
+use Rattle.reads.specs.Calls.{ReadDoes, RangeDoes}
+use Rattle.reads.proofs.Tabs.{length-tab}
+
+-- a test by a call: `if !call() {..}`
+pub passed : {b x : Bool} → b ≡ x → not b ≡ false → x ≡ true
+passed {b} e q = sym e ∙ not-false b q
+
+pub failed : {b x : Bool} → b ≡ x → not b ≡ true → x ≡ false
+failed {b} e q = sym e ∙ not-true b q
+
+-- ---- 3 is tested first
+module _ {A : Type 0} (m : Mem) (checks : List (Check A)) (a : A) where
+  pub ill : wellFormed m ≡ false → onMemory m checks a ≡ refused 3
+  ill f = rw f
+
+  pub well : wellFormed m ≡ true → onMemory m checks a ≡ firstOf checks (done a)
+  well f = rw f
+
+-- ---- the other checks
+module _ {A : Type 0} (a : A) (start end : ℕ) where
+  pub partial-over : 32 < end - start → firstOf (partialChecks start end) (done a) ≡ refused 8
+  partial-over l = rw (lt-ltb 32 (end - start) l)
+
+  pub partial-within : end - start ≤ 32 → firstOf (partialChecks start end) (done a) ≡ done a
+  partial-within l = rw (le-ltb 32 (end - start) l)
+
+  pub range-other : (n : ℕ) → (n ≡ end - start → ⊥) → firstOf (rangeChecks start end n) (done a) ≡ refused 8
+  range-other n l = rw (ne-eqb n (end - start) l)
+
+  pub range-same : (n : ℕ) → n ≡ end - start → firstOf (rangeChecks start end n) (done a) ≡ done a
+  range-same n e = rw (eq-eqb n (end - start) e)
+
+module _ {A : Type 0} (a : A) (z : List ℕ) where
+  pub lookup-bad : (eqb (length z) 256 && zeros z) ≡ false → firstOf (lookupChecks z) (done a) ≡ refused 8
+  lookup-bad f = rw f
+
+  pub lookup-good : (eqb (length z) 256 && zeros z) ≡ true → firstOf (lookupChecks z) (done a) ≡ done a
+  lookup-good f = rw f
+
+-- ---- the contracts
+module _ {A : Type 0} (o t : Outcome A) where
+  not-done : (n : ℕ) → o ≡ refused n → carriedOut o ≡ true → ⊥
+  not-done n e q = false≢true (sym (ap carriedOut e) ∙ q)
+
+  not-refused : (a : A) → o ≡ done a → carriedOut o ≡ false → ⊥
+  not-refused a e q = false≢true (sym q ∙ ap carriedOut e)
+
+  pub read-refused : (n : ℕ) (v none : A) → t ≡ refused n → o ≡ refused n → v ≡ none → ReadDoes o t v none
+  read-refused n v none e f q = record { answer = e ∙ sym f; zero = λ _. q }
+
+  pub read-done : (v none : A) → t ≡ done v → o ≡ done v → ReadDoes o t v none
+  read-done v none e f = record { answer = e ∙ sym f; zero = λ q. absurd (not-refused v f q) }
+
+  pub range-refused : (n : ℕ) (bs l : List ℕ) → t ≡ refused n → o ≡ refused n → RangeDoes o t bs l l
+  range-refused n bs l e f = record { answer = e ∙ sym f; kept = λ _. refl; read = λ q. absurd (not-done n f q) }
+
+  pub range-done : (a : A) (bs l d : List ℕ) → t ≡ done a → o ≡ done a → d ≡ bs → RangeDoes o t bs l d
+  range-done a bs l d e f q = record { answer = e ∙ sym f; kept = λ r. absurd (not-refused a f r); read = λ _. q }
+
+-- ---- values
+pub no-limbs : value (replicate 4 0) ≡ 0
+unfolding value
+no-limbs = refl
+
+abbrev nulls : ℕ → List ℕ
+nulls n = replicate n 0
+
+drop-nulls : (n k : ℕ) → drop n (nulls k) ≡ nulls (k - n)
+drop-nulls zero k = let e : k ≡ k - 0 = omega arith in ap nulls e
+drop-nulls (suc n) zero = let e : 0 ≡ 0 - suc n = omega arith in ap nulls e
+drop-nulls (suc n) (suc k) = let e : k - n ≡ suc k - suc n = omega arith in drop-nulls n k ∙ ap nulls e
+
+-- n bytes laid over 32 zeros, as `&mut out[0..n]` leaves them
+pub padded-is : (v : View) (p a n : ℕ) (e : List ℕ) → n ≤ 32 → e ≡ run v p a (length (take (n - 0) (nulls 32))) → e ++ drop (n - 0) (nulls 32) ≡ padded (run v p a n)
+padded-is v p a n e h r =
+    let q : length (take (n - 0) (nulls 32)) ≡ n = ap (λ (x : ℕ). length (take x (nulls 32))) (sub-zero n) ∙ length-take-le n (nulls 32) h in
+    let s : e ≡ run v p a n = r ∙ ap (run v p a) q in
+    let l : n ≡ length (run v p a n) = sym (length-tab n (λ i. v .bytes p (a + i))) in
+    let d : drop (n - 0) (nulls 32) ≡ nulls (32 - length (run v p a n)) = ap (λ (x : ℕ). drop x (nulls 32)) (sub-zero n) ∙ drop-nulls n 32 ∙ ap (λ (x : ℕ). nulls (32 - x)) l in
+    ap (λ (x : List ℕ). e ++ x) d ∙ ap (λ (x : List ℕ). x ++ nulls (32 - length (run v p a n))) s
+
+-- a lookup
+pub shown-bad : (v : View) (p k : ℕ) (z : List ℕ) → (eqb (length z) 256 && zeros z) ≡ false → shown v p k z ≡ []
+shown-bad v p k z f = rw f
+
+pub shown-good : (v : View) (p k : ℕ) (z : List ℕ) → (eqb (length z) 256 && zeros z) ≡ true → shown v p k z ≡ run v p (256 * k) 256
+shown-good v p k z f = rw f
+
+pub block-long : (z : List ℕ) → (eqb (length z) 256 && zeros z) ≡ true → length z ≡ 256
+block-long z f = eqb-true (length z) 256 (and-left (eqb (length z) 256) (zeros z) f)
+
+pub block-zero : (z : List ℕ) → (eqb (length z) 256 && zeros z) ≡ true → zeros z ≡ true
+block-zero z f = and-right (eqb (length z) 256) (zeros z) f
+
+module _ (m : Mem) (s : List ℕ) where
+  pub show-none : wellFormed m ≡ false → [] ≡ cond (wellFormed m) s []
+  show-none f = rw f
+
+  pub show-all : wellFormed m ≡ true → s ≡ cond (wellFormed m) s []
+  show-all f = rw f
+
+-- the numbers of the head
+module _ (m : Mem) (f : wellFormed m ≡ true) where
+  pub head-long : 16 ≤ length (m .words)
+  head-long = let w = well-formed-means m f .lengths .in-words in omega arith
+
+  pub length-small : dynamicLength (m .words) ≤ 4294967295
+  length-small = well-formed-means m f .encoded .length-width
+
+  pub mark-small : (j : ℕ) → j < journalCount → journalLength (m .words) j ≤ 4294967295
+  mark-small j l = let w = well-formed-means m f .in-capacity j l in let r = well-formed-means m f .lengths .room-hi in omega arith
+
+pub marks-are : (m : Mem) → _≡_ {A = ℕ × ℕ} (getD (m .words) 12 0, getD (m .words) 13 0) (length (viewOf m .journal 0), length (viewOf m .journal 1))
+unfolding journal
+marks-are m =
+    let heap : getD (m .words) 12 0 ≡ length (viewOf m .journal 0) = sym (length-tab (journalLength (m .words) 0) _) in
+    let aux : getD (m .words) 13 0 ≡ length (viewOf m .journal 1) = sym (length-tab (journalLength (m .words) 1) _) in
+    λ i. (heap i, aux i)

@@ -1,0 +1,98 @@
+-- The reads meet the contract that all calls share: a read leaves the memory as it was, and its outcome is that of the view.
+-- Assumes nothing.
+use mathlib.Core.Path.{_≡_, refl, sym, ap, _∙_}
+use mathlib.Core.Bool.{Bool, true, false, cond, not, _&&_, false≢true}
+use mathlib.Core.List.{List, [], _∷_}
+use Prim.Native.Nat.{ℕ, _-_}
+use lib.Dec.{ltb, eqb}
+use lib.ListN.{length}
+use Rattle.outcome.specs.Outcome.{Outcome, refused, done, carriedOut, firstOf}
+use Rattle.word.specs.Value.{bigEndian}
+use Rattle.store.specs.Mem.{Mem}
+use Rattle.formed.specs.Formed.{zeros, wellFormed}
+use Rattle.formed.proofs.Meaning.{well-formed-means}
+use Rattle.view.specs.View.{settingOf, viewOf}
+use Rattle.view.specs.Steps.{run}
+use Rattle.view.specs.Checks.{onMemory, partialChecks, rangeChecks, lookupChecks}
+use Rattle.view.specs.Calls.{Call, Value, ReadWord, ReadPartial, ReadRange, ReadByte, DynamicLength, Lookup, LookupCheck, Snapshot, nothing, number, lengths, bytes, padded, shown, outcomeOf, nextOf, answerOf, CallDoes}
+use Rattle.reads.specs.Calls.{RangeDoes}
+
+-- an outcome, as the list theorem speaks of it
+abbrev pub valued : {A : Type 0} → (A → Value) → Outcome A → Outcome Value
+valued f (refused n) = refused n
+valued f (done a) = done (f a)
+
+abbrev pub marked : ℕ × ℕ → Value
+marked x = lengths (x .0) (x .1)
+
+module _ {A : Type 0} (f : A → Value) (m : Mem) (a : A) where
+  valued-plain : valued f (onMemory m [] a) ≡ firstOf ((not (wellFormed m), refused 3) ∷ []) (done (f a))
+  valued-plain = go (wellFormed m)
+    where
+      go : (b : Bool) → valued f (cond (not b) (refused 3) (done a)) ≡ cond (not b) (refused 3) (done (f a))
+      go true = refl
+      go false = refl
+
+  valued-check : (t : Bool) (n : ℕ) → valued f (onMemory m ((t, refused n) ∷ []) a) ≡ firstOf ((not (wellFormed m), refused 3) ∷ []) (firstOf ((t, refused n) ∷ []) (done (f a)))
+  valued-check t n = go (wellFormed m) t
+    where
+      go : (b c : Bool) → valued f (cond (not b) (refused 3) (cond c (refused n) (done a))) ≡ cond (not b) (refused 3) (cond c (refused n) (done (f a)))
+      go true true = refl
+      go true false = refl
+      go false c = refl
+
+-- a call that leaves the view as it was
+pub only-reads : (m : Mem) (c : Call) (o : Outcome Value) → nextOf (settingOf m) c (viewOf m) ≡ viewOf m → o ≡ answerOf m c → CallDoes m c o m
+only-reads m c o same e = record {
+  answer = e;
+  kept = λ _. refl;
+  changed = λ q. record { formed = well-formed-means m (go (wellFormed m) (outcomeOf (settingOf m) c (viewOf m)) q); setting = refl; view = sym same };
+}
+  where
+    go : (b : Bool) (w : Outcome Value) → carriedOut (cond (not b) (refused 3) w) ≡ true → b ≡ true
+    go true w q = refl
+    go false w q = absurd (false≢true q)
+
+module _ (m : Mem) where
+  module _ (p : ℕ) where
+    pub word-call : (a : ℕ) (t : Outcome ℕ) → t ≡ onMemory m [] (bigEndian (run (viewOf m) p a 32)) → CallDoes m (ReadWord p a) (valued number t) m
+    word-call a t e = only-reads m (ReadWord p a) (valued number t) refl (ap (valued number) e ∙ valued-plain number m (bigEndian (run (viewOf m) p a 32)))
+
+    pub byte-call : (a : ℕ) (t : Outcome ℕ) → t ≡ onMemory m [] (viewOf m .bytes p a) → CallDoes m (ReadByte p a) (valued number t) m
+    byte-call a t e = only-reads m (ReadByte p a) (valued number t) refl (ap (valued number) e ∙ valued-plain number m (viewOf m .bytes p a))
+
+    module _ (x y : ℕ) where
+      pub partial-call : (t : Outcome ℕ) → t ≡ onMemory m (partialChecks x y) (bigEndian (padded (run (viewOf m) p x (y - x)))) → CallDoes m (ReadPartial p x y) (valued number t) m
+      partial-call t e =
+          only-reads m (ReadPartial p x y) (valued number t) refl
+          (ap (valued number) e ∙ valued-check number m (bigEndian (padded (run (viewOf m) p x (y - x)))) (ltb 32 (y - x)) 8)
+
+      -- the output d is the value
+      pub range-call : (l d : List ℕ) (t : Outcome (Unit {0})) → RangeDoes (onMemory m (rangeChecks x y (length l)) tt) t (run (viewOf m) p x (y - x)) l d
+          → CallDoes m (ReadRange p x y (length l)) (valued (λ _. bytes d) t) m
+      range-call l d t r =
+          only-reads m (ReadRange p x y (length l)) (valued (λ _. bytes d) t) refl
+          (ap (valued (λ _. bytes d)) (r .answer)
+          ∙ go (onMemory m (rangeChecks x y (length l)) tt) (r .read)
+          ∙ valued-check (λ _. bytes (run (viewOf m) p x (y - x))) m tt (not (eqb (length l) (y - x))) 8)
+        where
+          go : (o : Outcome (Unit {0})) → (carriedOut o ≡ true → d ≡ run (viewOf m) p x (y - x)) → valued (λ _. bytes d) o ≡ valued (λ _. bytes (run (viewOf m) p x (y - x))) o
+          go (refused n) h = refl
+          go (done u) h = ap (λ (b : List ℕ). done (bytes b)) (h refl)
+
+    -- on a well-formed memory the part shown is the value
+    module _ (k : ℕ) (z : List ℕ) where
+      pub lookup-call : (bs : List ℕ) → wellFormed m ≡ true → bs ≡ cond (wellFormed m) (shown (viewOf m) p k z) [] → CallDoes m (Lookup p k z) (done (bytes bs)) m
+      lookup-call bs f e =
+          only-reads m (Lookup p k z) (done (bytes bs)) refl
+          (ap (λ (b : List ℕ). done (bytes b)) (e ∙ ap (λ (b : Bool). cond b (shown (viewOf m) p k z) []) f)
+          ∙ sym (ap (λ (b : Bool). cond (not b) (refused 3) (done (bytes (shown (viewOf m) p k z)))) f))
+
+      pub check-call : (t : Outcome (Unit {0})) → t ≡ onMemory m (lookupChecks z) tt → CallDoes m (LookupCheck p k z) (valued (λ _. nothing) t) m
+      check-call t e = only-reads m (LookupCheck p k z) (valued (λ _. nothing) t) refl (ap (valued (λ _. nothing)) e ∙ valued-check (λ _. nothing) m tt (not (eqb (length z) 256 && zeros z)) 8)
+
+  pub length-call : (t : Outcome ℕ) → t ≡ onMemory m [] (viewOf m .dynamicLength) → CallDoes m DynamicLength (valued number t) m
+  length-call t e = only-reads m DynamicLength (valued number t) refl (ap (valued number) e ∙ valued-plain number m (viewOf m .dynamicLength))
+
+  pub marks-call : (t : Outcome (ℕ × ℕ)) → t ≡ onMemory m [] (length (viewOf m .journal 0), length (viewOf m .journal 1)) → CallDoes m Snapshot (valued marked t) m
+  marks-call t e = only-reads m Snapshot (valued marked t) refl (ap (valued marked) e ∙ valued-plain marked m (length (viewOf m .journal 0), length (viewOf m .journal 1)))

@@ -1,0 +1,70 @@
+use native.Mathlib.Omega.{arith}
+use borrow.Author.Needs.{needs}
+use Rattle.store.specs.Mem.{mem}
+use Rattle.reads.proofs.Bytes.{slots-asked, pages-asked, entry-le, chunk-held, chunk-none}
+use Rattle.reads.proofs.chunk_of.Statement.{statement}
+use Rattle.reads.proofs.chunk_of.Tie as tie
+
+entry-of-requires : tie.Need-entry-of-requires
+entry-of-requires c κs =
+    let start = c .before .before .before .before .before in
+    let m = mem (start .args .bytes .now) (start .args .keys .now) (start .args .order .now) (start .args .words .now) in
+    pages-asked m (start .pre .0)
+
+slot-at-requires : tie.Need-slot-at-requires
+slot-at-requires c κs =
+    let at-entry-of = c in
+    let start = at-entry-of .before .before .before .before .before .before in
+    let m = mem (start .args .bytes .now) (start .args .keys .now) (start .args .order .now) (start .args .words .now) in
+    (slots-asked m (start .pre .0), omega (arith, at-entry-of .entry-of .ensures, entry-le m (start .pre .0) (start .args .page)))
+
+shared-slice-read-if1 : tie.Need-shared-slice-read-if1
+shared-slice-read-if1 c = search needs
+
+returns : tie.Need-returns
+returns c =
+    let at-if1 = c in
+    let at-slot-at = at-if1 .before .before in
+    let at-entry-of = at-slot-at .before in
+    let start = at-entry-of .before .before .before .before .before .before in
+    let m = mem (start .args .bytes .now) (start .args .keys .now) (start .args .order .now) (start .args .words .now) in
+    chunk-none m (start .pre .0) (start .args .page) (start .args .number) (at-entry-of .entry-of .result) (at-slot-at .slot-at .result) (at-entry-of .entry-of .ensures) (at-slot-at .slot-at .ensures) (at-if1 .if1 .taken) (start .args .block .now) (start .pre .1 .0) (start .pre .1 .1)
+
+mul-at : tie.Need-mul-at
+mul-at c = search needs
+
+add-end : tie.Need-add-end
+add-end c = search needs
+
+sub-result : tie.Need-sub-result
+sub-result c = search needs
+
+part-result-start : tie.Need-part-result-start
+part-result-start c = search needs
+
+part-result-end : tie.Need-part-result-end
+part-result-end c = search needs
+
+returns-2 : tie.Need-returns-2
+returns-2 c =
+    let at-if1 = c .before in
+    let at-slot-at = at-if1 .before .before in
+    let at-entry-of = at-slot-at .before in
+    let start = at-entry-of .before .before .before .before .before .before in
+    let m = mem (start .args .bytes .now) (start .args .keys .now) (start .args .order .now) (start .args .words .now) in
+    chunk-held m (start .pre .0) (start .args .page) (start .args .number) (at-entry-of .entry-of .result) (at-slot-at .slot-at .result) (at-entry-of .entry-of .ensures) (at-slot-at .slot-at .ensures) (at-if1 .if1 .left)
+
+pub chunk-of-spec : {M : Type 1} → statement M
+chunk-of-spec =
+    tie.close
+    (tie.spec
+    entry-of-requires
+    slot-at-requires
+    shared-slice-read-if1
+    returns
+    mul-at
+    add-end
+    sub-result
+    part-result-start
+    part-result-end
+    returns-2)

@@ -1,0 +1,65 @@
+use borrow.Author.Needs.{needs}
+use Rattle.store.specs.Mem.{mem}
+use Rattle.reads.proofs.Bytes.{slots-asked, part-held, part-none}
+use Rattle.reads.proofs.read_part.Statement.{statement}
+use Rattle.reads.proofs.read_part.Tie as tie
+
+slot-at-requires : tie.Need-slot-at-requires
+slot-at-requires c κs =
+    let start = c .before .before .before .before .before in
+    let m = mem (start .args .bytes .now) (start .args .keys .now) (start .args .order .now) (start .args .words .now) in
+    (slots-asked m (start .pre .0), start .pre .1 .0)
+
+shared-slice-read-if1 : tie.Need-shared-slice-read-if1
+shared-slice-read-if1 c = search needs
+
+fill-requires : tie.Need-fill-requires
+fill-requires c κs = search needs
+
+same-length : tie.Need-same-length
+same-length c = search needs
+
+returns : tie.Need-returns
+returns c =
+    let at-fill = c .before .before in
+    let at-if1 = at-fill .before .before in
+    let at-slot-at = at-if1 .before .before in
+    let start = at-slot-at .before .before .before .before .before .before in
+    let m = mem (start .args .bytes .now) (start .args .keys .now) (start .args .order .now) (start .args .words .now) in
+    part-none m (start .pre .0) (start .args .e) (start .args .a) (start .args .n) (at-slot-at .slot-at .result) (start .pre .1 .1) (at-slot-at .slot-at .ensures) (start .args .to) _ _ (at-if1 .if1 .taken) (at-fill .fill .ensures)
+
+mul-copy-out : tie.Need-mul-copy-out
+mul-copy-out c = search needs
+
+add-copy-out : tie.Need-add-copy-out
+add-copy-out c = search needs
+
+copy-out-requires : tie.Need-copy-out-requires
+copy-out-requires c κs = search needs
+
+same-length-2 : tie.Need-same-length-2
+same-length-2 c = search needs
+
+returns-2 : tie.Need-returns-2
+returns-2 c =
+    let at-copy-out = c .before .before in
+    let at-if1 = at-copy-out .before .before in
+    let at-slot-at = at-if1 .before .before in
+    let start = at-slot-at .before .before .before .before .before .before in
+    let m = mem (start .args .bytes .now) (start .args .keys .now) (start .args .order .now) (start .args .words .now) in
+    part-held m (start .pre .0) (start .args .e) (start .args .a) (start .args .n) (at-slot-at .slot-at .result) (start .pre .1 .1) (at-slot-at .slot-at .ensures) (start .args .to) _ _ (at-if1 .if1 .left) (at-copy-out .copy-out .ensures)
+
+pub read-part-spec : {M : Type 1} → statement M
+read-part-spec =
+    tie.close
+    (tie.spec
+    slot-at-requires
+    shared-slice-read-if1
+    fill-requires
+    same-length
+    returns
+    mul-copy-out
+    add-copy-out
+    copy-out-requires
+    same-length-2
+    returns-2)

@@ -1,0 +1,42 @@
+-- What the reads answer.
+-- Assumes nothing.
+use mathlib.Core.Path.{_≡_}
+use mathlib.Core.Bool.{true, false}
+use mathlib.Core.List.{List}
+use Prim.Native.Nat.{ℕ, zero, suc}
+use Rattle.outcome.specs.Outcome.{Outcome, refused, done, carriedOut}
+use Rattle.word.specs.Value.{value}
+use Rattle.reads.specs.declared.WordRead.{WordRead}
+use Rattle.reads.specs.declared.ByteRead.{ByteRead}
+use Rattle.reads.specs.declared.LengthRead.{LengthRead}
+use Rattle.reads.specs.declared.Marks.{Marks}
+
+-- a read gives a number of 01's table beside its value a; 0 is none, and says that it was carried out
+abbrev pub answered : {A : Type 0} → ℕ → A → Outcome A
+answered zero a = done a
+answered (suc n) a = refused (suc n)
+
+-- the number of the word
+abbrev pub told : WordRead → Outcome ℕ
+told r = answered (r .refusal) (value (r .word .limbs))
+
+abbrev pub toldByte : ByteRead → Outcome ℕ
+toldByte r = answered (r .refusal) (r .byte)
+
+abbrev pub toldLength : LengthRead → Outcome ℕ
+toldLength r = answered (r .refusal) (r .length)
+
+-- the lengths of the two journals
+abbrev pub toldMarks : Marks → Outcome (ℕ × ℕ)
+toldMarks r = answered (r .refusal) (r .heap, r .aux)
+
+-- a read that tells its outcome and gives a value, which is `none` where it is refused
+pub record ReadDoes {A : Type 0} (outcome told : Outcome A) (value none : A) : Type 0 where
+  pub answer : told ≡ outcome
+  pub zero : carriedOut outcome ≡ false → value ≡ none
+
+-- a read into an output: it is d after the call, and was o; `bytes` are those of the range
+pub record RangeDoes {A : Type 0} (outcome told : Outcome A) (bytes o d : List ℕ) : Type 0 where
+  pub answer : told ≡ outcome
+  pub kept : carriedOut outcome ≡ false → d ≡ o
+  pub read : carriedOut outcome ≡ true → d ≡ bytes

@@ -1,0 +1,22 @@
+use borrow.Author.Needs.{needs}
+use Rattle.store.specs.Mem.{mem}
+use Rattle.chunks.proofs.Asks.{pages-asks}
+use Rattle.room.proofs.Tables.{allocated-by}
+use Rattle.room.proofs.is_allocated.Statement.{statement}
+use Rattle.room.proofs.is_allocated.Tie as tie
+
+entry-of-requires : tie.Need-entry-of-requires
+entry-of-requires c κs = let start = c .before .before .before .before in pages-asks (mem (start .args .bytes .now) (start .args .keys .now) (start .args .order .now) (start .args .words .now)) (start .pre)
+
+shared-slice-read-result : tie.Need-shared-slice-read-result
+shared-slice-read-result c = search needs
+
+add-result : tie.Need-add-result
+add-result c = search needs
+
+returns : tie.Need-returns
+returns c = let start = c .before .before .before .before .before .before in allocated-by (mem (start .args .bytes .now) (start .args .keys .now) (start .args .order .now) (start .args .words .now)) (start .pre) (start .args .page) _ (c .before .entry-of .ensures)
+
+pub is-allocated-spec : {M : Type 1} → statement M
+is-allocated-spec =
+    tie.close (tie.spec entry-of-requires shared-slice-read-result add-result returns)

@@ -1,0 +1,173 @@
+// Room for a write: what a range touches, and the refusals 9, 10 and 11.
+ghost use mathlib.Core.Path.{_≡_};
+ghost use mathlib.Core.Bool.{not, _&&_};
+ghost use Prim.Native.Nat.{_+_, _<_, _≤_, _^_};
+ghost use lib.Dec.{eqb, ltb};
+ghost use Rattle.page_ids.specs.Decode.{pageOf};
+ghost use Rattle.store.specs.Mem.{mem};
+ghost use Rattle.store.specs.Hold.{Indexed};
+ghost use Rattle.formed.specs.Pages.{journalCount, isFixed};
+ghost use Rattle.formed.specs.WellFormed.{WellFormed};
+ghost use Rattle.view.specs.View.{settingOf, viewOf};
+ghost use Rattle.view.specs.Steps.{missing, touchedCount, alignedCount};
+ghost use Rattle.view.specs.Checks.{isNone, overfull};
+ghost use Rattle.room.specs.Refusals.{number, roomFor, lacksAt};
+use page_ids::DecodedPage;
+
+// How many chunks n bytes at an address touch.
+pub fn touched(address: u32, n: usize) -> u64
+    requires { ⌜ address + n < 2 ^ 64 ⌝ }
+    ensures { λ r. ⌜ r ≡ touchedCount address n ⌝ }
+{
+    if n == 0 {
+        return 0;
+    }
+    let first = address as u64;
+    (first + (n as u64 - 1)) / 256 - first / 256 + 1
+}
+
+// How many aligned words they touch.
+pub fn aligned(address: u32, n: usize) -> u64
+    requires { ⌜ address + n < 2 ^ 64 ⌝ }
+    ensures { λ r. ⌜ r ≡ alignedCount address n ⌝ }
+{
+    if n == 0 {
+        return 0;
+    }
+    let first = address as u64;
+    (first + (n as u64 - 1)) / 32 - first / 32 + 1
+}
+
+pub fn is_undecodable(page: DecodedPage) -> bool
+    ensures { λ r. ⌜ r ≡ isNone (pageOf page) ⌝ }
+{
+    match page {
+        DecodedPage::Static => false,
+        DecodedPage::BootloaderCalldata => false,
+        DecodedPage::BootloaderHeap => false,
+        DecodedPage::BootloaderAuxHeap => false,
+        DecodedPage::Dynamic(_, _) => false,
+        DecodedPage::Undecodable => true,
+    }
+}
+
+// vm2: `is_always_allocated`.
+pub fn is_fixed(page: DecodedPage) -> bool
+    ensures { λ r. ⌜ r ≡ isFixed (pageOf page) ⌝ }
+{
+    match page {
+        DecodedPage::Static => true,
+        DecodedPage::BootloaderCalldata => true,
+        DecodedPage::BootloaderHeap => true,
+        DecodedPage::BootloaderAuxHeap => true,
+        DecodedPage::Dynamic(_, _) => false,
+        DecodedPage::Undecodable => false,
+    }
+}
+
+pub fn is_allocated(bytes: &[u8], keys: &[u64], order: &[u32], words: &[u64], page: u32) -> bool
+    requires { ⌜ WellFormed (mem (now bytes) (now keys) (now order) (now words)) ⌝ }
+    ensures { λ r. ⌜ r ≡ viewOf (mem (now (bytes .entry)) (now (keys .entry)) (now (order .entry)) (now (words .entry))) .allocated page ⌝ }
+{
+    let e = store::entry_of(keys, order, words, page);
+    (e as u64) < words[7] + 4
+}
+
+// 9: the page needs an entry and none is left.
+fn no_entry(bytes: &[u8], keys: &[u64], order: &[u32], words: &[u64], page: u32) -> bool
+    requires { ⌜ WellFormed (mem (now bytes) (now keys) (now order) (now words)) ⌝ }
+    ensures { λ r. ⌜ r ≡ (not (viewOf (mem (now (bytes .entry)) (now (keys .entry)) (now (order .entry)) (now (words .entry))) .allocated page) && eqb (viewOf (mem (now (bytes .entry)) (now (keys .entry)) (now (order .entry)) (now (words .entry))) .entries) 0) ⌝ }
+{
+    if is_allocated(bytes, keys, order, words, page) {
+        return false;
+    }
+    words[10] == words[7] + 4
+}
+
+// Whether the page at entry e does not hold chunk k.
+fn lacks(keys: &[u64], order: &[u32], words: &[u64], e: usize, k: u64) -> bool
+    requires { ⌜ (Indexed (now keys) (now order) (now words)) × (e ≤ 4100) ⌝ }
+    ensures { λ r. ⌜ r ≡ lacksAt (now (keys .entry)) (now (words .entry)) e k ⌝ }
+{
+    if 16777216 < k {
+        return true;
+    }
+    let s = store::slot_of(keys, order, words, e as u64 * 33554432 + k + 1);
+    words[6] <= s as u64
+}
+
+// 10: more of the chunks first, .., first + count - 1 are missing than the pool has. It stops as soon as that is sure.
+fn short_of_chunks(
+    bytes: &[u8],
+    keys: &[u64],
+    order: &[u32],
+    words: &[u64],
+    page: u32,
+    first: u64,
+    count: u64,
+) -> bool
+    requires { ⌜ (WellFormed (mem (now bytes) (now keys) (now order) (now words))) × (first + count < 2 ^ 64) ⌝ }
+    ensures { λ r. ⌜ r ≡ ltb (viewOf (mem (now (bytes .entry)) (now (keys .entry)) (now (order .entry)) (now (words .entry))) .pool) (missing (viewOf (mem (now (bytes .entry)) (now (keys .entry)) (now (order .entry)) (now (words .entry))) .held page) first count) ⌝ }
+{
+    let pool = store::pool_count(keys, order, words);
+    let e = store::entry_of(keys, order, words, page);
+    let mut missing: u64 = 0;
+    let mut i: u64 = 0;
+    while i < count {
+        if lacks(keys, order, words, e, first + i) {
+            if missing == pool {
+                return true;
+            }
+            missing += 1;
+        }
+        i += 1;
+    }
+    false
+}
+
+// 11: w more words do not fit the page's journal.
+fn short_of_words(
+    bytes: &[u8],
+    keys: &[u64],
+    order: &[u32],
+    words: &[u64],
+    page: u32,
+    w: u64,
+) -> bool
+    requires { ⌜ (WellFormed (mem (now bytes) (now keys) (now order) (now words))) × (w ≤ 2 ^ 60) ⌝ }
+    ensures { λ r. ⌜ r ≡ overfull (settingOf (mem (now (bytes .entry)) (now (keys .entry)) (now (order .entry)) (now (words .entry)))) (viewOf (mem (now (bytes .entry)) (now (keys .entry)) (now (order .entry)) (now (words .entry)))) page w journalCount ⌝ }
+{
+    if page as u64 == words[2] {
+        return words[8] < words[12] + w;
+    }
+    if page as u64 == words[3] {
+        return words[8] < words[13] + w;
+    }
+    false
+}
+
+// 9, 10, 11.
+pub fn room_refusal(
+    bytes: &[u8],
+    keys: &[u64],
+    order: &[u32],
+    words: &[u64],
+    page: u32,
+    first: u64,
+    count: u64,
+    w: u64,
+) -> u32
+    requires { ⌜ (WellFormed (mem (now bytes) (now keys) (now order) (now words))) × (first + count < 2 ^ 64) × (w ≤ 2 ^ 60) ⌝ }
+    ensures { λ r. ⌜ r ≡ number (roomFor (settingOf (mem (now (bytes .entry)) (now (keys .entry)) (now (order .entry)) (now (words .entry)))) (viewOf (mem (now (bytes .entry)) (now (keys .entry)) (now (order .entry)) (now (words .entry)))) page first count w) ⌝ }
+{
+    if no_entry(bytes, keys, order, words, page) {
+        return 9;
+    }
+    if short_of_chunks(bytes, keys, order, words, page, first, count) {
+        return 10;
+    }
+    if short_of_words(bytes, keys, order, words, page, w) {
+        return 11;
+    }
+    0
+}

@@ -1,0 +1,3 @@
+-- Laws of views that the crates of the calls share.
+pub mod Equal
+pub mod Compose

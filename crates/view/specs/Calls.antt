@@ -1,0 +1,111 @@
+-- The calls, with their arguments and without the lent memory; what each answers, what it does to the view, and the contract that all of them share.
+-- Assumes nothing.
+use mathlib.Core.Bool.{Bool, true, false, cond, not, _&&_}
+use mathlib.Core.List.{List, [], _∷_, _++_}
+use Prim.Native.Nat.{ℕ, _*_, _-_}
+use lib.Dec.{eqb}
+use lib.ListN.{length, replicate}
+use Rattle.outcome.specs.Outcome.{Outcome, refused, done, firstOf}
+use Rattle.word.specs.Value.{bigEndian, wordBytes}
+use Rattle.outcome.specs.declared.Answer.{Answer}
+use Rattle.outcome.specs.declared.Answer.the-variants.{Done, Refused}
+use Rattle.store.specs.Mem.{Mem}
+use Rattle.formed.specs.Formed.{zeros, wellFormed}
+use Rattle.view.specs.View.{View, Setting, settingOf, viewOf}
+use Rattle.view.specs.Steps.{run, wordWritten, bytesWritten, contentsAllocated, marks, rolledBack, forgotten, opened}
+use Rattle.view.specs.Does.{Does}
+use Rattle.view.specs.Checks.{wordWriteChecks, byteWriteChecks, allocateChecks, partialChecks, rangeChecks, lookupChecks, rollbackChecks, openingChecks, lengthsRight, bytesLength, keysLength, orderLength, wordsLength}
+
+pub data Call : Type 0 where
+  -- an opening with this setting and calldata
+  Open : Setting → List ℕ → Call
+  -- of a page, with these contents; `allocate_at` has none
+  Allocate : ℕ → List ℕ → Call
+  -- of a page, at an address
+  ReadWord : ℕ → ℕ → Call
+  -- of a page, from a start to an end
+  ReadPartial : ℕ → ℕ → ℕ → Call
+  -- the same, into an output of this length
+  ReadRange : ℕ → ℕ → ℕ → ℕ → Call
+  ReadByte : ℕ → ℕ → Call
+  DynamicLength : Call
+  -- to a page, at an address: a word's number, or bytes
+  WriteWord : ℕ → ℕ → ℕ → Call
+  WriteBytes : ℕ → ℕ → List ℕ → Call
+  -- of a page, a chunk number, with this zero block
+  Lookup : ℕ → ℕ → List ℕ → Call
+  LookupCheck : ℕ → ℕ → List ℕ → Call
+  Snapshot : Call
+  Rollback : ℕ → ℕ → Call
+  DeleteHistory : Call
+
+pub data Value : Type 0 where
+  nothing : Value
+  number : ℕ → Value
+  lengths : ℕ → ℕ → Value
+  bytes : List ℕ → Value
+
+-- two settings ask for buffers of the same lengths
+abbrev pub sameLengths : Setting → Setting → Bool
+sameLengths s t =
+    eqb (bytesLength t) (bytesLength s) && (eqb (keysLength t) (keysLength s) && (eqb (orderLength t) (orderLength s) && eqb (wordsLength t) (wordsLength s)))
+
+-- bytes lead the word; zeros follow
+abbrev pub padded : List ℕ → List ℕ
+padded bs = bs ++ replicate (32 - length bs) 0
+
+-- a refused lookup shows an empty part
+abbrev pub shown : View → ℕ → ℕ → List ℕ → List ℕ
+shown v p k z = cond (eqb (length z) 256 && zeros z) (run v p (256 * k) 256) []
+
+-- THE OUTCOME of a call on a well-formed memory of setting s and view v
+abbrev pub outcomeOf : Setting → Call → View → Outcome Value
+outcomeOf s (Open t calldata) v = firstOf (openingChecks t (sameLengths t s) (length calldata)) (done nothing)
+outcomeOf s (Allocate p bs) v = firstOf (allocateChecks s v p (length bs)) (done nothing)
+outcomeOf s (ReadWord p a) v = done (number (bigEndian (run v p a 32)))
+outcomeOf s (ReadPartial p x y) v = firstOf (partialChecks x y) (done (number (bigEndian (padded (run v p x (y - x))))))
+outcomeOf s (ReadRange p x y n) v = firstOf (rangeChecks x y n) (done (bytes (run v p x (y - x))))
+outcomeOf s (ReadByte p a) v = done (number (v .bytes p a))
+outcomeOf s DynamicLength v = done (number (v .dynamicLength))
+outcomeOf s (WriteWord p a n) v = firstOf (wordWriteChecks s v p a) (done nothing)
+outcomeOf s (WriteBytes p a bs) v = firstOf (byteWriteChecks s v p a (length bs)) (done nothing)
+outcomeOf s (Lookup p k z) v = done (bytes (shown v p k z))
+outcomeOf s (LookupCheck p k z) v = firstOf (lookupChecks z) (done nothing)
+outcomeOf s Snapshot v = done (lengths (length (v .journal 0)) (length (v .journal 1)))
+outcomeOf s (Rollback heap aux) v = firstOf (rollbackChecks v heap aux) (done nothing)
+outcomeOf s DeleteHistory v = done nothing
+
+-- WHAT IT DOES to the view where it is carried out (an accepted opening starts a list and stands in none)
+abbrev pub nextOf : Setting → Call → View → View
+nextOf s (Open t calldata) v = v
+nextOf s (Allocate p bs) v = contentsAllocated (s .layout) p bs v
+nextOf s (ReadWord p a) v = v
+nextOf s (ReadPartial p x y) v = v
+nextOf s (ReadRange p x y n) v = v
+nextOf s (ReadByte p a) v = v
+nextOf s DynamicLength v = v
+nextOf s (WriteWord p a n) v = wordWritten (s .layout) p a (wordBytes n) v
+nextOf s (WriteBytes p a bs) v = bytesWritten (s .layout) p a bs v
+nextOf s (Lookup p k z) v = v
+nextOf s (LookupCheck p k z) v = v
+nextOf s Snapshot v = v
+nextOf s (Rollback heap aux) v = rolledBack (s .layout) (marks heap aux) v
+nextOf s DeleteHistory v = forgotten v
+
+-- ---- THE CONTRACT
+-- 3 is tested first by every call that is lent a memory
+abbrev pub answerOf : Mem → Call → Outcome Value
+answerOf m c = firstOf ((not (wellFormed m), refused 3) ∷ []) (outcomeOf (settingOf m) c (viewOf m))
+
+-- call c on the buffers m has the outcome o and leaves the buffers m'
+abbrev pub CallDoes : Mem → Call → Outcome Value → Mem → Type 0
+CallDoes m c o m' = Does m (answerOf m c) (settingOf m) (nextOf (settingOf m) c (viewOf m)) o m'
+
+-- an opening, on any buffers
+abbrev pub OpenDoes : Mem → Setting → List ℕ → Outcome Value → Mem → Type 0
+OpenDoes m s calldata o m' = Does m (firstOf (openingChecks s (lengthsRight s m) (length calldata)) (done nothing)) s (opened s calldata) o m'
+
+-- 01's number of an answer that gives no value
+abbrev pub told : Answer → Outcome Value
+told Done = done nothing
+told (Refused n) = refused n

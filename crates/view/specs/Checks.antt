@@ -1,0 +1,103 @@
+-- Which refusal a call gets. Each list names the conditions that concern a call, in the order of 01's table; `firstOf` decides.
+-- Assumes nothing.
+use mathlib.Core.Bool.{Bool, true, false, not, _&&_, _||_}
+use mathlib.Core.List.{List, [], _∷_, _++_}
+use Prim.Native.Nat.{ℕ, zero, suc, _+_, _*_, _-_, _^_}
+use lib.Dec.{ltb, leb, eqb}
+use lib.ListN.{length}
+use Rattle.outcome.specs.Outcome.{Outcome, refused, done, firstOf}
+use Rattle.page_ids.specs.Decode.{Page, none, page, badLayout, decoded}
+use Rattle.store.specs.Mem.{Mem, headLength}
+use Rattle.formed.specs.Pages.{fixed, journalCount}
+use Rattle.formed.specs.Formed.{wellFormed, zeros}
+use Rattle.view.specs.View.{View, Setting, viewOf}
+use Rattle.view.specs.Steps.{needs, touchedCount, alignedCount, journalled}
+
+-- a condition and the refusal that it means
+abbrev pub Check : Type 0 → Type 0
+Check A = Bool × Outcome A
+
+-- 3: the lent memory is not well formed; every later call lent a memory tests it first
+abbrev pub onMemory : {A : Type 0} → Mem → List (Check A) → A → Outcome A
+onMemory m checks a = firstOf ((not (wellFormed m), refused 3) ∷ checks) (done a)
+
+-- 4: the page is undecodable
+abbrev pub isNone : Page → Bool
+isNone none = true
+isNone (page kind group) = false
+
+unfoldable pub undecodable : Setting → ℕ → Bool
+undecodable s p = isNone (decoded (s .layout) p)
+
+-- 11: w more words do not fit the journal of page p
+unfoldable pub overfull : Setting → View → ℕ → ℕ → ℕ → Bool
+overfull s v p w zero = false
+overfull s v p w (suc n) = (journalled (s .layout) p n && ltb (s .room) (length (v .journal n) + w)) || overfull s v p w n
+
+-- 9, 10, 11: room for n bytes at address a of page p, and for w journal words
+abbrev pub room : {A : Type 0} → Setting → View → ℕ → ℕ → ℕ → ℕ → List (Check A)
+room s v p a n w =
+    (not (v .allocated p) && eqb (v .entries) 0, refused 9)
+    ∷ (ltb (v .pool) (needs v p a n), refused 10)
+    ∷ (overfull s v p w journalCount, refused 11)
+    ∷ []
+
+abbrev pub wordWriteChecks : {A : Type 0} → Setting → View → ℕ → ℕ → List (Check A)
+wordWriteChecks s v p a = (undecodable s p, refused 4) ∷ room s v p a 32 1
+
+abbrev pub byteWriteChecks : {A : Type 0} → Setting → View → ℕ → ℕ → ℕ → List (Check A)
+byteWriteChecks s v p a n = (undecodable s p, refused 4) ∷ (ltb (2 ^ 32) (a + n), refused 8) ∷ room s v p a n (alignedCount a n)
+
+-- allocation of page p with n bytes of contents
+abbrev pub allocateChecks : {A : Type 0} → Setting → View → ℕ → ℕ → List (Check A)
+allocateChecks s v p n = (undecodable s p, refused 4) ∷ (fixed (s .layout) p, refused 5) ∷ (v .allocated p, refused 6) ∷ room s v p 0 n 0
+
+-- a partial read of the bytes from `start` to `end`
+abbrev pub partialChecks : {A : Type 0} → ℕ → ℕ → List (Check A)
+partialChecks start end = (ltb 32 (end - start), refused 8) ∷ []
+
+-- a range read into an output of n bytes
+abbrev pub rangeChecks : {A : Type 0} → ℕ → ℕ → ℕ → List (Check A)
+rangeChecks start end n = (not (eqb n (end - start)), refused 8) ∷ []
+
+-- a chunk lookup with the zero block z
+abbrev pub lookupChecks : {A : Type 0} → List ℕ → List (Check A)
+lookupChecks z = (not (eqb (length z) 256 && zeros z), refused 8) ∷ []
+
+-- a rollback to the numbers `heap` and `aux`
+abbrev pub rollbackChecks : {A : Type 0} → View → ℕ → ℕ → List (Check A)
+rollbackChecks v heap aux = (ltb (length (v .journal 0)) heap || ltb (length (v .journal 1)) aux, refused 12) ∷ []
+
+-- ---- opening
+-- the counts are in bounds
+abbrev pub countsRight : Setting → Bool
+countsRight s = (leb 1 (s .chunks) && leb (s .chunks) 65536) && ((leb 1 (s .pages) && leb (s .pages) 4096) && leb (s .room) 65536)
+
+-- the lengths of docs/BUFFERS.md
+abbrev pub bytesLength : Setting → ℕ
+bytesLength s = 256 * s .chunks + 32 * journalCount * s .room
+
+abbrev pub keysLength : Setting → ℕ
+keysLength s = s .chunks + s .pages + 4
+
+abbrev pub orderLength : Setting → ℕ
+orderLength s = 3 * s .chunks + s .pages + 4
+
+abbrev pub wordsLength : Setting → ℕ
+wordsLength s = headLength + 3 * journalCount * s .room
+
+-- the lent buffers have these lengths
+abbrev pub lengthsRight : Setting → Mem → Bool
+lengthsRight s m =
+    eqb (length (m .bytes)) (bytesLength s)
+    && (eqb (length (m .keys)) (keysLength s)
+    && (eqb (length (m .order)) (orderLength s)
+    && eqb (length (m .words)) (wordsLength s)))
+
+-- an opening with n bytes of calldata; `fits` says that the lent buffers have the right lengths
+abbrev pub openingChecks : {A : Type 0} → Setting → Bool → ℕ → List (Check A)
+openingChecks s fits n =
+    (badLayout (s .layout), refused 1)
+    ∷ (not (countsRight s && fits), refused 2)
+    ∷ (ltb (s .chunks) (touchedCount 0 n), refused 10)
+    ∷ []

@@ -1,0 +1,136 @@
+-- What each call that is carried out does to the view, in the order of 01's plain map.
+-- Assumes nothing.
+use mathlib.Core.Bool.{Bool, true, false, cond, not, _&&_, _||_}
+use mathlib.Core.List.{List, [], _∷_, _++_}
+use Prim.Native.Nat.{ℕ, zero, suc, _+_, _*_, _-_, _/_}
+use lib.Dec.{ltb, leb, eqb}
+use lib.ListN.{length, getD, take, drop}
+use Rattle.formed.specs.Pages.{fixed, dynamic, group, journalCount, journalPage}
+use Rattle.formed.specs.Parts.{Note, tab}
+use Rattle.page_ids.specs.declared.Layout.{Layout}
+use Rattle.view.specs.View.{View, Setting}
+
+abbrev pub max : ℕ → ℕ → ℕ
+max a b = cond (leb a b) b a
+
+-- ---- reading
+-- the n bytes from address a of a page on
+abbrev pub run : View → ℕ → ℕ → ℕ → List ℕ
+run v p a n = tab n (λ i. v .bytes p (a + i))
+
+-- ---- ranges: n bytes from address a on touch the chunks from a / 256 to (a + n - 1) / 256, none where n is 0
+abbrev pub touchedCount : ℕ → ℕ → ℕ
+touchedCount a zero = 0
+touchedCount a (suc n) = (a + n) / 256 - a / 256 + 1
+
+abbrev pub touches : ℕ → ℕ → ℕ → Bool
+touches a n k = leb (a / 256) k && ltb k (a / 256 + touchedCount a n)
+
+-- how many of the n chunk numbers from k on fail the test
+unfoldable pub missing : (ℕ → Bool) → ℕ → ℕ → ℕ
+missing has k zero = 0
+missing has k (suc n) = missing has k n + cond (has (k + n)) 0 1
+
+-- how many chunks of the pool a write of n bytes to address a of page p takes
+abbrev pub needs : View → ℕ → ℕ → ℕ → ℕ
+needs v p a n = missing (v .held p) (a / 256) (touchedCount a n)
+
+-- ---- writing
+-- f with the bytes bs from address a of page p on
+unfoldable pub over : ℕ → ℕ → List ℕ → (ℕ → ℕ → ℕ) → ℕ → ℕ → ℕ
+over p a bs f q b = cond (eqb q p && (leb a b && ltb b (a + length bs))) (getD bs (b - a) 0) (f q b)
+
+-- is p the page of journal j?
+abbrev pub journalled : Layout → ℕ → ℕ → Bool
+journalled l p j = ltb j journalCount && eqb p (journalPage l j)
+
+-- 01, History: the words that a write journals, oldest first. A word write journals its address and old word
+abbrev pub wordNotes : View → ℕ → ℕ → List Note
+wordNotes v p a = record { address = a; old = run v p a 32 } ∷ []
+
+-- a byte write each aligned 32-byte word that it touches; length 0 none
+abbrev pub alignedCount : ℕ → ℕ → ℕ
+alignedCount a zero = 0
+alignedCount a (suc n) = (a + n) / 32 - a / 32 + 1
+
+abbrev pub alignedNotes : View → ℕ → ℕ → ℕ → List Note
+alignedNotes v p a n = tab (alignedCount a n) (λ i. record { address = 32 * (a / 32 + i); old = run v p (32 * (a / 32 + i)) 32 })
+
+-- the bytes bs written to address a of page p, which journals the notes where it is a bootloader page: bytes are set and their chunks held,
+-- the page is allocated, and the dynamic length becomes at least its group + 1
+abbrev pub written : Layout → ℕ → ℕ → List ℕ → List Note → View → View
+written l p a bs notes v = record {
+  bytes = over p a bs (v .bytes);
+  held = λ q k. (eqb q p && touches a (length bs) k) || v .held q k;
+  pool = v .pool - needs v p a (length bs);
+  allocated = λ q. eqb q p || v .allocated q;
+  entries = cond (v .allocated p) (v .entries) (v .entries - 1);
+  dynamicLength = cond (dynamic l p) (max (v .dynamicLength) (group l p + 1)) (v .dynamicLength);
+  journal = λ j. cond (journalled l p j) (v .journal j ++ notes) (v .journal j);
+}
+
+abbrev pub wordWritten : Layout → ℕ → ℕ → List ℕ → View → View
+wordWritten l p a bs v = written l p a bs (wordNotes v p a) v
+
+abbrev pub bytesWritten : Layout → ℕ → ℕ → List ℕ → View → View
+bytesWritten l p a bs v = written l p a bs (alignedNotes v p a (length bs)) v
+
+-- ---- allocation: contents from address 0; it journals nothing
+abbrev pub contentsAllocated : Layout → ℕ → List ℕ → View → View
+contentsAllocated l p bs v = written l p 0 bs [] v
+
+-- ---- history
+-- the words put back, newest first
+unfoldable pub undone : ℕ → List Note → (ℕ → ℕ → ℕ) → ℕ → ℕ → ℕ
+undone p [] f = f
+undone p (note ∷ newer) f = over p (note .address) (note .old) (undone p newer f)
+
+-- each journal's page with the words from number marks j on put back, for the journals below n
+unfoldable pub rolledBytes : Layout → (ℕ → ℕ) → (ℕ → List Note) → ℕ → (ℕ → ℕ → ℕ) → ℕ → ℕ → ℕ
+rolledBytes l marks journal zero f = f
+rolledBytes l marks journal (suc n) f = undone (journalPage l n) (drop (marks n) (journal n)) (rolledBytes l marks journal n f)
+
+-- the numbers of a snapshot: one for each journal
+abbrev pub marks : ℕ → ℕ → ℕ → ℕ
+marks heap aux zero = heap
+marks heap aux (suc j) = aux
+
+-- rollback to the numbers `marks`: words are restored newest first, and the journals cut
+abbrev pub rolledBack : Layout → (ℕ → ℕ) → View → View
+rolledBack l marks v = record {
+  bytes = rolledBytes l marks (v .journal) journalCount (v .bytes);
+  held = v .held;
+  pool = v .pool;
+  allocated = v .allocated;
+  entries = v .entries;
+  dynamicLength = v .dynamicLength;
+  journal = λ j. take (marks j) (v .journal j);
+}
+
+-- deletion empties the journals
+abbrev pub forgotten : View → View
+forgotten v = record {
+  bytes = v .bytes;
+  held = v .held;
+  pool = v .pool;
+  allocated = v .allocated;
+  entries = v .entries;
+  dynamicLength = v .dynamicLength;
+  journal = λ j. [];
+}
+
+-- ---- opening: bytes and dynamic length are zero, the rest is empty
+abbrev pub fresh : Setting → View
+fresh s = record {
+  bytes = λ p a. 0;
+  held = λ p k. false;
+  pool = s .chunks;
+  allocated = fixed (s .layout);
+  entries = s .pages;
+  dynamicLength = 0;
+  journal = λ j. [];
+}
+
+-- and calldata is put on its page
+abbrev pub opened : Setting → List ℕ → View
+opened s calldata = written (s .layout) (s .layout .calldata .0) 0 calldata [] (fresh s)

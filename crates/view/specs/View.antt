@@ -1,0 +1,46 @@
+-- What calls see of a memory. The plain map of 01 has the same parts.
+-- Assumes nothing.
+use mathlib.Core.Bool.{Bool, cond}
+use mathlib.Core.List.{List, []}
+use Prim.Native.Nat.{ℕ}
+use lib.Dec.{ltb}
+use Rattle.store.specs.Mem.{Mem, layoutOf, slotCount, pageCount, journalRoom, dynamicLength}
+use Rattle.formed.specs.Pages.{journalCount}
+use Rattle.formed.specs.Parts.{Note, byteAt, holds, pool, allocated, entriesLeft, journal}
+use Rattle.page_ids.specs.declared.Layout.{Layout}
+
+pub record View : Type 0 where
+  -- the byte of a page and an address
+  pub bytes : ℕ → ℕ → ℕ
+  -- is the chunk of a page and a chunk number held?
+  pub held : ℕ → ℕ → Bool
+  -- how many chunks have no holder
+  pub pool : ℕ
+  -- is a page allocated? A fixed one always is
+  pub allocated : ℕ → Bool
+  -- how many page entries are left
+  pub entries : ℕ
+  pub dynamicLength : ℕ
+  -- journal 0 is that of the bootloader heap, 1 that of the bootloader aux heap; the oldest word stands first
+  pub journal : ℕ → List Note
+
+-- the layout and the three counts of an opening, which no call changes
+pub record Setting : Type 0 where
+  pub layout : Layout
+  pub chunks : ℕ
+  pub pages : ℕ
+  pub room : ℕ
+
+abbrev pub settingOf : Mem → Setting
+settingOf m = record { layout = layoutOf (m .words); chunks = slotCount (m .words); pages = pageCount (m .words); room = journalRoom (m .words) }
+
+abbrev pub viewOf : Mem → View
+viewOf m = record {
+  bytes = byteAt m;
+  held = holds m;
+  pool = pool m;
+  allocated = allocated m;
+  entries = entriesLeft m;
+  dynamicLength = dynamicLength (m .words);
+  journal = λ j. cond (ltb j journalCount) (journal m j) [];
+}

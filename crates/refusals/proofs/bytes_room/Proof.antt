@@ -1,0 +1,89 @@
+use mathlib.Core.Path.{sym, _∙_}
+use mathlib.Core.List.{_∷_}
+use Prim.Native.Nat.{_+_, _^_}
+use native.Mathlib.Omega.{arith}
+use lib.Dec.{ltb}
+use borrow.Author.Needs.{needs}
+use Rattle.store.specs.Mem.{mem}
+use Rattle.view.specs.View.{settingOf, viewOf}
+use Rattle.view.specs.Steps.{alignedCount}
+use Rattle.view.specs.Checks.{room}
+use Rattle.refusals.proofs.Chosen.{chunks-fit, words-fit, room-chosen, chosen-4, bytes-8, bytes-room}
+use Rattle.outcome.specs.Outcome.{refused}
+use Rattle.refusals.proofs.bytes_room.Statement.{statement}
+use Rattle.refusals.proofs.bytes_room.Tie as tie
+
+decode-requires : tie.Need-decode-requires
+decode-requires c κs =
+    let start = c .before .before .before .before in
+    start .pre
+
+is-undecodable-requires : tie.Need-is-undecodable-requires
+is-undecodable-requires c κs = search needs
+
+returns : tie.Need-returns
+returns c =
+    let at-if1 = c in
+    let at-is-undecodable = at-if1 .before in
+    let at-decode = at-is-undecodable .before in
+    let start = at-decode .before .before .before .before .before in
+    let m = mem (start .args .bytes .now) (start .args .keys .now) (start .args .order .now) (start .args .words .now) in
+    chosen-4 (settingOf m) (viewOf m) (start .args .page) _ (at-decode .decode .ensures) ((ltb (2 ^ 32) (start .args .start + start .args .n), refused 8) ∷ room (settingOf m) (viewOf m) (start .args .page) (start .args .start) (start .args .n) (alignedCount (start .args .start) (start .args .n))) (sym (at-is-undecodable .is-undecodable .ensures) ∙ at-if1 .if1 .taken)
+
+sub-if2 : tie.Need-sub-if2
+sub-if2 c = search needs
+
+returns-2 : tie.Need-returns-2
+returns-2 c =
+    let at-if2 = c in
+    let at-if1 = at-if2 .before in
+    let at-is-undecodable = at-if1 .before in
+    let at-decode = at-is-undecodable .before in
+    let start = at-decode .before .before .before .before .before in
+    let m = mem (start .args .bytes .now) (start .args .keys .now) (start .args .order .now) (start .args .words .now) in
+    bytes-8 (settingOf m) (viewOf m) (start .args .page) _ (at-decode .decode .ensures) (start .args .start) (start .args .n) (sym (at-is-undecodable .is-undecodable .ensures) ∙ at-if1 .if1 .left) (start .fits .start .fits) (at-if2 .if2 .taken)
+
+touched-requires : tie.Need-touched-requires
+touched-requires c κs = search needs
+
+aligned-requires : tie.Need-aligned-requires
+aligned-requires c κs = search needs
+
+cast-room-refusal : tie.Need-cast-room-refusal
+cast-room-refusal c = search needs
+
+room-refusal-requires : tie.Need-room-refusal-requires
+room-refusal-requires c κs =
+    let at-aligned = c in
+    let at-touched = at-aligned .before in
+    let at-if2 = at-touched .before in
+    let start = at-if2 .before .before .before .before .before .before .before .before in
+    let l = at-if2 .if2 .left in (start .pre, chunks-fit (start .args .start) (start .args .n) _ (at-touched .touched .ensures) (omega arith), words-fit (start .args .start) (start .args .n) _ (at-aligned .aligned .ensures) (omega arith))
+
+returns-3 : tie.Need-returns-3
+returns-3 c =
+    let at-room-refusal = c in
+    let at-aligned = at-room-refusal .before in
+    let at-touched = at-aligned .before in
+    let at-if2 = at-touched .before in
+    let at-if1 = at-if2 .before in
+    let at-is-undecodable = at-if1 .before in
+    let at-decode = at-is-undecodable .before in
+    let start = at-decode .before .before .before .before .before in
+    let m = mem (start .args .bytes .now) (start .args .keys .now) (start .args .order .now) (start .args .words .now) in
+    bytes-room (settingOf m) (viewOf m) (start .args .page) _ (at-decode .decode .ensures) (start .args .start) (start .args .n) (sym (at-is-undecodable .is-undecodable .ensures) ∙ at-if1 .if1 .left) (start .fits .start .fits) (at-if2 .if2 .left) _ (room-chosen (start .args .start) (start .args .n) _ (at-touched .touched .ensures) (settingOf m) (viewOf m) (start .args .page) (alignedCount (start .args .start) (start .args .n)) _ _ (at-aligned .aligned .ensures) (at-room-refusal .room-refusal .ensures))
+
+pub bytes-room-spec : {M : Type 1} → statement M
+bytes-room-spec =
+    tie.close
+    (tie.spec
+    decode-requires
+    is-undecodable-requires
+    returns
+    sub-if2
+    returns-2
+    touched-requires
+    aligned-requires
+    cast-room-refusal
+    room-refusal-requires
+    returns-3)

@@ -1,0 +1,61 @@
+use mathlib.Core.Path.{refl, sym, _∙_}
+use native.Mathlib.Omega.{arith}
+use borrow.Author.Needs.{needs}
+use Rattle.store.specs.Mem.{mem}
+use Rattle.view.specs.View.{settingOf, viewOf}
+use Rattle.view.specs.Checks.{room}
+use Rattle.refusals.proofs.Chosen.{chunks-fit, room-chosen, chosen-4, past-4}
+use Rattle.refusals.proofs.word_room.Statement.{statement}
+use Rattle.refusals.proofs.word_room.Tie as tie
+
+decode-requires : tie.Need-decode-requires
+decode-requires c κs =
+    let start = c .before .before .before .before in
+    start .pre
+
+is-undecodable-requires : tie.Need-is-undecodable-requires
+is-undecodable-requires c κs = search needs
+
+returns : tie.Need-returns
+returns c =
+    let at-if1 = c in
+    let at-is-undecodable = at-if1 .before in
+    let at-decode = at-is-undecodable .before in
+    let start = at-decode .before .before .before .before .before in
+    let m = mem (start .args .bytes .now) (start .args .keys .now) (start .args .order .now) (start .args .words .now) in
+    chosen-4 (settingOf m) (viewOf m) (start .args .page) _ (at-decode .decode .ensures) (room (settingOf m) (viewOf m) (start .args .page) (start .args .address) 32 1) (sym (at-is-undecodable .is-undecodable .ensures) ∙ at-if1 .if1 .taken)
+
+touched-requires : tie.Need-touched-requires
+touched-requires c κs = search needs
+
+cast-room-refusal : tie.Need-cast-room-refusal
+cast-room-refusal c = search needs
+
+room-refusal-requires : tie.Need-room-refusal-requires
+room-refusal-requires c κs =
+    let at-touched = c in
+    let start = at-touched .before .before .before .before .before .before .before .before in
+    (start .pre, chunks-fit (start .args .address) 32 _ (at-touched .touched .ensures) (omega arith), omega arith)
+
+returns-2 : tie.Need-returns-2
+returns-2 c =
+    let at-room-refusal = c in
+    let at-touched = at-room-refusal .before in
+    let at-if1 = at-touched .before in
+    let at-is-undecodable = at-if1 .before in
+    let at-decode = at-is-undecodable .before in
+    let start = at-decode .before .before .before .before .before in
+    let m = mem (start .args .bytes .now) (start .args .keys .now) (start .args .order .now) (start .args .words .now) in
+    past-4 (settingOf m) (viewOf m) (start .args .page) _ (at-decode .decode .ensures) (room (settingOf m) (viewOf m) (start .args .page) (start .args .address) 32 1) (sym (at-is-undecodable .is-undecodable .ensures) ∙ at-if1 .if1 .left) _ (room-chosen (start .args .address) 32 _ (at-touched .touched .ensures) (settingOf m) (viewOf m) (start .args .page) 1 1 _ refl (at-room-refusal .room-refusal .ensures))
+
+pub word-room-spec : {M : Type 1} → statement M
+word-room-spec =
+    tie.close
+    (tie.spec
+    decode-requires
+    is-undecodable-requires
+    returns
+    touched-requires
+    cast-room-refusal
+    room-refusal-requires
+    returns-2)

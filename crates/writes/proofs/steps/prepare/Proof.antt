@@ -1,0 +1,35 @@
+use borrow.Author.Needs.{needs}
+use Rattle.store.specs.Mem.{mem}
+use Rattle.writes.proofs.Chains.{list-asks, hold-asks, prepared}
+use Rattle.writes.proofs.steps.prepare.Statement.{statement}
+use Rattle.writes.proofs.steps.prepare.Tie as tie
+
+list-page-requires : tie.Need-list-page-requires
+list-page-requires c κs =
+    let start = c .before .before .before .before .before .before .before in
+    list-asks (mem (start .args .bytes .now) (start .args .keys .now) (start .args .order .now) (start .args .words .now)) (start .args .page) (start .args .first) (start .args .count) (start .pre)
+
+hold-chunks-requires : tie.Need-hold-chunks-requires
+hold-chunks-requires c κs =
+    let at-list-page = c .before .before .before .before .before .before .before .before .before in
+    let start = at-list-page .before .before .before .before .before .before .before .before in
+    hold-asks (mem (start .args .bytes .now) (start .args .keys .now) (start .args .order .now) (start .args .words .now)) (start .args .page) (start .args .first) (start .args .count) (start .pre) (mem (start .args .bytes .now) (at-list-page .list-page .last .1 .0) (at-list-page .list-page .last .1 .1 .0) (at-list-page .list-page .last .1 .1 .1 .0)) (at-list-page .list-page .ensures)
+
+same-length : tie.Need-same-length
+same-length c = search needs
+
+same-length-2 : tie.Need-same-length-2
+same-length-2 c = search needs
+
+same-length-3 : tie.Need-same-length-3
+same-length-3 c = search needs
+
+returns : tie.Need-returns
+returns c =
+    let at-hold-chunks = c .before .before .before .before .before .before in
+    let at-list-page = at-hold-chunks .before .before .before .before .before .before .before .before .before .before in
+    let start = at-list-page .before .before .before .before .before .before .before .before in
+    prepared (mem (start .args .bytes .now) (start .args .keys .now) (start .args .order .now) (start .args .words .now)) (start .args .page) (start .args .first) (start .args .count) (start .pre) (mem (start .args .bytes .now) (at-list-page .list-page .last .1 .0) (at-list-page .list-page .last .1 .1 .0) (at-list-page .list-page .last .1 .1 .1 .0)) (at-list-page .list-page .ensures) _ (at-hold-chunks .hold-chunks .ensures)
+
+pub prepare-spec : {M : Type 1} → statement M
+prepare-spec = tie.close (tie.spec list-page-requires hold-chunks-requires same-length same-length-2 same-length-3 returns)

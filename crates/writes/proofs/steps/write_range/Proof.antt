@@ -1,0 +1,66 @@
+use native.Mathlib.Omega.{arith}
+use lib.ListN.{length}
+use borrow.Author.Needs.{needs}
+use Rattle.store.specs.Mem.{mem}
+use Rattle.view.specs.View.{View, settingOf, viewOf}
+use Rattle.view.specs.Steps.{alignedCount, alignedNotes}
+use Rattle.refusals.proofs.Passed.{bytes-passed}
+use Rattle.writes.proofs.Chains.{bytes-cleared, count-small, prepare-asks, journal-asks, aligned-notes-same, put-asks, write-done}
+use Rattle.writes.proofs.steps.write_range.Statement.{statement}
+use Rattle.writes.proofs.steps.write_range.Tie as tie
+
+touched-requires : tie.Need-touched-requires
+touched-requires c κs =
+    let start = c .before .before .before .before .before in
+    let h = bytes-passed (settingOf (mem (start .args .bytes .now) (start .args .keys .now) (start .args .order .now) (start .args .words .now))) (viewOf (mem (start .args .bytes .now) (start .args .keys .now) (start .args .order .now) (start .args .words .now))) (start .args .page) (start .args .start) (length (start .args .src .now)) (start .pre .1) .1 in omega arith
+
+cast-count : tie.Need-cast-count
+cast-count c =
+    let at-touched = c in
+    let start = at-touched .before .before .before .before .before .before in
+    let h = count-small (mem (start .args .bytes .now) (start .args .keys .now) (start .args .order .now) (start .args .words .now)) (start .args .page) (start .args .start) (length (start .args .src .now)) (alignedCount (start .args .start) (length (start .args .src .now))) (at-touched .touched .result) (bytes-cleared (mem (start .args .bytes .now) (start .args .keys .now) (start .args .order .now) (start .args .words .now)) (start .args .page) (start .args .start) (at-touched .touched .result) (omega (arith, start .fits .page)) (length (start .args .src .now)) (start .pre) (at-touched .touched .ensures)) in omega arith
+
+prepare-requires : tie.Need-prepare-requires
+prepare-requires c κs =
+    let at-touched = c .before .before .before .before in
+    let start = at-touched .before .before .before .before .before .before in
+    prepare-asks (mem (start .args .bytes .now) (start .args .keys .now) (start .args .order .now) (start .args .words .now)) (start .args .page) (start .args .start) (length (start .args .src .now)) (alignedCount (start .args .start) (length (start .args .src .now))) (at-touched .touched .result) (bytes-cleared (mem (start .args .bytes .now) (start .args .keys .now) (start .args .order .now) (start .args .words .now)) (start .args .page) (start .args .start) (at-touched .touched .result) (omega (arith, start .fits .page)) (length (start .args .src .now)) (start .pre) (at-touched .touched .ensures))
+
+journal-range-requires : tie.Need-journal-range-requires
+journal-range-requires c κs =
+    let at-prepare = c .before .before .before .before .before .before .before .before .before .before in
+    let at-touched = at-prepare .before .before .before .before .before in
+    let start = at-touched .before .before .before .before .before .before in
+    (journal-asks (mem (start .args .bytes .now) (start .args .keys .now) (start .args .order .now) (start .args .words .now)) (start .args .page) (start .args .start) (length (start .args .src .now)) (alignedCount (start .args .start) (length (start .args .src .now))) (at-touched .touched .result) (bytes-cleared (mem (start .args .bytes .now) (start .args .keys .now) (start .args .order .now) (start .args .words .now)) (start .args .page) (start .args .start) (at-touched .touched .result) (omega (arith, start .fits .page)) (length (start .args .src .now)) (start .pre) (at-touched .touched .ensures)) (mem (start .args .bytes .now) (at-prepare .prepare .last .1 .0) (at-prepare .prepare .last .1 .1 .0) (at-prepare .prepare .last .1 .1 .1 .0)) (at-prepare .prepare .ensures), bytes-passed (settingOf (mem (start .args .bytes .now) (start .args .keys .now) (start .args .order .now) (start .args .words .now))) (viewOf (mem (start .args .bytes .now) (start .args .keys .now) (start .args .order .now) (start .args .words .now))) (start .args .page) (start .args .start) (length (start .args .src .now)) (start .pre .1) .1)
+
+write-from-requires : tie.Need-write-from-requires
+write-from-requires c κs =
+    let at-journal-range = c .before .before .before .before .before .before .before .before in
+    let at-prepare = at-journal-range .before .before .before .before .before .before .before .before .before .before .before in
+    let at-touched = at-prepare .before .before .before .before .before in
+    let start = at-touched .before .before .before .before .before .before in
+    put-asks (mem (start .args .bytes .now) (start .args .keys .now) (start .args .order .now) (start .args .words .now)) (start .args .page) (start .args .start) (start .args .src .now) (alignedCount (start .args .start) (length (start .args .src .now))) (at-touched .touched .result) (bytes-cleared (mem (start .args .bytes .now) (start .args .keys .now) (start .args .order .now) (start .args .words .now)) (start .args .page) (start .args .start) (at-touched .touched .result) (omega (arith, start .fits .page)) (length (start .args .src .now)) (start .pre) (at-touched .touched .ensures)) (mem (start .args .bytes .now) (at-prepare .prepare .last .1 .0) (at-prepare .prepare .last .1 .1 .0) (at-prepare .prepare .last .1 .1 .1 .0)) (at-prepare .prepare .ensures) (λ (v : View). alignedNotes v (start .args .page) (start .args .start) (length (start .args .src .now))) (λ v w. aligned-notes-same v w (start .args .page) (start .args .start) (length (start .args .src .now))) (mem (at-journal-range .journal-range .last .0) (at-prepare .prepare .last .1 .0) (at-prepare .prepare .last .1 .1 .0) (at-journal-range .journal-range .last .1 .1 .1 .0)) (at-journal-range .journal-range .ensures)
+
+same-length : tie.Need-same-length
+same-length c = search needs
+
+same-length-2 : tie.Need-same-length-2
+same-length-2 c = search needs
+
+same-length-3 : tie.Need-same-length-3
+same-length-3 c = search needs
+
+same-length-4 : tie.Need-same-length-4
+same-length-4 c = search needs
+
+returns : tie.Need-returns
+returns c =
+    let at-write-from = c .before .before in
+    let at-journal-range = at-write-from .before .before .before .before .before .before .before .before .before in
+    let at-prepare = at-journal-range .before .before .before .before .before .before .before .before .before .before .before in
+    let at-touched = at-prepare .before .before .before .before .before in
+    let start = at-touched .before .before .before .before .before .before in
+    write-done (mem (start .args .bytes .now) (start .args .keys .now) (start .args .order .now) (start .args .words .now)) (start .args .page) (start .args .start) (start .args .src .now) (alignedCount (start .args .start) (length (start .args .src .now))) (at-touched .touched .result) (bytes-cleared (mem (start .args .bytes .now) (start .args .keys .now) (start .args .order .now) (start .args .words .now)) (start .args .page) (start .args .start) (at-touched .touched .result) (omega (arith, start .fits .page)) (length (start .args .src .now)) (start .pre) (at-touched .touched .ensures)) (mem (start .args .bytes .now) (at-prepare .prepare .last .1 .0) (at-prepare .prepare .last .1 .1 .0) (at-prepare .prepare .last .1 .1 .1 .0)) (at-prepare .prepare .ensures) (λ (v : View). alignedNotes v (start .args .page) (start .args .start) (length (start .args .src .now))) (λ v w. aligned-notes-same v w (start .args .page) (start .args .start) (length (start .args .src .now))) (mem (at-journal-range .journal-range .last .0) (at-prepare .prepare .last .1 .0) (at-prepare .prepare .last .1 .1 .0) (at-journal-range .journal-range .last .1 .1 .1 .0)) (at-journal-range .journal-range .ensures) _ (at-write-from .write-from .ensures)
+
+pub write-range-spec : {M : Type 1} → statement M
+write-range-spec = tie.close (tie.spec touched-requires cast-count prepare-requires journal-range-requires write-from-requires same-length same-length-2 same-length-3 same-length-4 returns)

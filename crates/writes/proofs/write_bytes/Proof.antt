@@ -1,0 +1,63 @@
+use mathlib.Core.Path.{sym, _∙_}
+use lib.ListN.{length}
+use borrow.Author.Needs.{needs}
+use Rattle.store.specs.Mem.{mem}
+use Rattle.view.specs.View.{settingOf, viewOf}
+use Rattle.view.specs.Checks.{byteWriteChecks}
+use Rattle.view.specs.Calls.{Call, nextOf}
+use Rattle.refusals.proofs.Passed.{next, room-refusals, refused-does, passed-formed, done-does}
+use Rattle.view.specs.Steps.{alignedCount}
+use Rattle.writes.proofs.write_bytes.Statement.{statement}
+use Rattle.writes.proofs.write_bytes.Tie as tie
+
+bytes-refusal-requires : tie.Need-bytes-refusal-requires
+bytes-refusal-requires c κs = search needs
+
+same-length : tie.Need-same-length
+same-length c = search needs
+
+same-length-2 : tie.Need-same-length-2
+same-length-2 c = search needs
+
+same-length-3 : tie.Need-same-length-3
+same-length-3 c = search needs
+
+same-length-4 : tie.Need-same-length-4
+same-length-4 c = search needs
+
+returns : tie.Need-returns
+returns c =
+    let at-if1 = c in
+    let at-bytes-refusal = at-if1 .before in
+    let start = at-bytes-refusal .before .before .before .before .before .before .before .before .before .before in
+    refused-does (mem (start .args .bytes .now) (start .args .keys .now) (start .args .order .now) (start .args .words .now)) (byteWriteChecks (settingOf (mem (start .args .bytes .now) (start .args .keys .now) (start .args .order .now) (start .args .words .now))) (viewOf (mem (start .args .bytes .now) (start .args .keys .now) (start .args .order .now) (start .args .words .now))) (start .args .page .0) (start .args .start .0) (length (start .args .src .now))) (settingOf (mem (start .args .bytes .now) (start .args .keys .now) (start .args .order .now) (start .args .words .now))) (nextOf (settingOf (mem (start .args .bytes .now) (start .args .keys .now) (start .args .order .now) (start .args .words .now))) (Call.WriteBytes (start .args .page .0) (start .args .start .0) (start .args .src .now)) (viewOf (mem (start .args .bytes .now) (start .args .keys .now) (start .args .order .now) (start .args .words .now)))) (at-bytes-refusal .bytes-refusal .result) (at-bytes-refusal .bytes-refusal .ensures) (at-if1 .if1 .taken)
+
+write-range-requires : tie.Need-write-range-requires
+write-range-requires c κs =
+    let at-if1 = c .before .before .before .before in
+    let at-bytes-refusal = at-if1 .before in
+    let start = at-bytes-refusal .before .before .before .before .before .before .before .before .before .before in
+    passed-formed (mem (start .args .bytes .now) (start .args .keys .now) (start .args .order .now) (start .args .words .now)) (byteWriteChecks (settingOf (mem (start .args .bytes .now) (start .args .keys .now) (start .args .order .now) (start .args .words .now))) (viewOf (mem (start .args .bytes .now) (start .args .keys .now) (start .args .order .now) (start .args .words .now))) (start .args .page .0) (start .args .start .0) (length (start .args .src .now))) (settingOf (mem (start .args .bytes .now) (start .args .keys .now) (start .args .order .now) (start .args .words .now))) (nextOf (settingOf (mem (start .args .bytes .now) (start .args .keys .now) (start .args .order .now) (start .args .words .now))) (Call.WriteBytes (start .args .page .0) (start .args .start .0) (start .args .src .now)) (viewOf (mem (start .args .bytes .now) (start .args .keys .now) (start .args .order .now) (start .args .words .now)))) (sym (at-bytes-refusal .bytes-refusal .ensures) ∙ at-if1 .if1 .left)
+
+same-length-5 : tie.Need-same-length-5
+same-length-5 c = search needs
+
+same-length-6 : tie.Need-same-length-6
+same-length-6 c = search needs
+
+same-length-7 : tie.Need-same-length-7
+same-length-7 c = search needs
+
+same-length-8 : tie.Need-same-length-8
+same-length-8 c = search needs
+
+returns-2 : tie.Need-returns-2
+returns-2 c =
+    let at-write-range = c .before .before .before .before .before .before .before .before in
+    let at-if1 = at-write-range .before .before .before .before .before in
+    let at-bytes-refusal = at-if1 .before in
+    let start = at-bytes-refusal .before .before .before .before .before .before .before .before .before .before in
+    done-does (mem (start .args .bytes .now) (start .args .keys .now) (start .args .order .now) (start .args .words .now)) (byteWriteChecks (settingOf (mem (start .args .bytes .now) (start .args .keys .now) (start .args .order .now) (start .args .words .now))) (viewOf (mem (start .args .bytes .now) (start .args .keys .now) (start .args .order .now) (start .args .words .now))) (start .args .page .0) (start .args .start .0) (length (start .args .src .now))) (settingOf (mem (start .args .bytes .now) (start .args .keys .now) (start .args .order .now) (start .args .words .now))) (nextOf (settingOf (mem (start .args .bytes .now) (start .args .keys .now) (start .args .order .now) (start .args .words .now))) (Call.WriteBytes (start .args .page .0) (start .args .start .0) (start .args .src .now)) (viewOf (mem (start .args .bytes .now) (start .args .keys .now) (start .args .order .now) (start .args .words .now)))) (next (next (room-refusals (settingOf (mem (start .args .bytes .now) (start .args .keys .now) (start .args .order .now) (start .args .words .now))) (viewOf (mem (start .args .bytes .now) (start .args .keys .now) (start .args .order .now) (start .args .words .now))) (start .args .page .0) (start .args .start .0) (length (start .args .src .now)) (alignedCount (start .args .start .0) (length (start .args .src .now)))))) (sym (at-bytes-refusal .bytes-refusal .ensures) ∙ at-if1 .if1 .left) (at-write-range .write-range .ensures)
+
+pub write-bytes-spec : {M : Type 1} → statement M
+write-bytes-spec = tie.close (tie.spec bytes-refusal-requires same-length same-length-2 same-length-3 same-length-4 returns write-range-requires same-length-5 same-length-6 same-length-7 same-length-8 returns-2)

@@ -1,0 +1,2 @@
+-- The definitions that the contracts of this crate's inner functions cite.
+pub mod Asks

@@ -1,0 +1,96 @@
+// Writes and allocations: each call tests, and then refuses or does. vm2: the writing half of `Heaps`.
+ghost use mathlib.Core.List.{[]};
+ghost use Rattle.word.specs.Value.{value};
+ghost use Rattle.store.specs.Mem.{mem};
+ghost use Rattle.view.specs.Calls.{Call, CallDoes, told};
+use outcome::Answer;
+use page_ids::Address;
+use page_ids::PageId;
+use word::Word;
+
+mod steps;
+
+// Writes a word at any address; a bootloader page journals the old word first.
+pub fn write_u256(
+    bytes: &mut [u8],
+    keys: &mut [u64],
+    order: &mut [u32],
+    words: &mut [u64],
+    page: PageId,
+    address: Address,
+    word: Word,
+) -> Answer
+    ensures { λ r. ⌜ CallDoes (mem (now (bytes .entry)) (now (keys .entry)) (now (order .entry)) (now (words .entry))) (Call.WriteWord (page .0) (address .0) (value (word .limbs))) (told r) (mem (now (bytes .exit)) (now (keys .exit)) (now (order .exit)) (now (words .exit))) ⌝ }
+{
+    let refusal = refusals::word_refusal(bytes, keys, order, words, page.0, address.0);
+    if refusal != 0 {
+        return Answer::Refused(refusal);
+    }
+    steps::write_word(
+        bytes,
+        keys,
+        order,
+        words,
+        page.0,
+        address.0,
+        word::to_big_endian(word),
+    );
+    Answer::Done
+}
+
+// Writes bytes, as many as there are; a bootloader page journals each aligned word that they touch.
+pub fn write_bytes(
+    bytes: &mut [u8],
+    keys: &mut [u64],
+    order: &mut [u32],
+    words: &mut [u64],
+    page: PageId,
+    start: Address,
+    src: &[u8],
+) -> Answer
+    ensures { λ r. ⌜ CallDoes (mem (now (bytes .entry)) (now (keys .entry)) (now (order .entry)) (now (words .entry))) (Call.WriteBytes (page .0) (start .0) (now (src .entry))) (told r) (mem (now (bytes .exit)) (now (keys .exit)) (now (order .exit)) (now (words .exit))) ⌝ }
+{
+    let refusal = refusals::bytes_refusal(bytes, keys, order, words, page.0, start.0, src.len());
+    if refusal != 0 {
+        return Answer::Refused(refusal);
+    }
+    steps::write_range(bytes, keys, order, words, page.0, start.0, src);
+    Answer::Done
+}
+
+// Allocates a page with these contents from address 0.
+pub fn allocate_with_content_at(
+    bytes: &mut [u8],
+    keys: &mut [u64],
+    order: &mut [u32],
+    words: &mut [u64],
+    page: PageId,
+    contents: &[u8],
+) -> Answer
+    ensures { λ r. ⌜ CallDoes (mem (now (bytes .entry)) (now (keys .entry)) (now (order .entry)) (now (words .entry))) (Call.Allocate (page .0) (now (contents .entry))) (told r) (mem (now (bytes .exit)) (now (keys .exit)) (now (order .exit)) (now (words .exit))) ⌝ }
+{
+    let refusal = refusals::allocate_refusal(bytes, keys, order, words, page.0, contents.len());
+    if refusal != 0 {
+        return Answer::Refused(refusal);
+    }
+    steps::fill(bytes, keys, order, words, page.0, contents);
+    Answer::Done
+}
+
+// Allocates an empty page.
+pub fn allocate_at(
+    bytes: &mut [u8],
+    keys: &mut [u64],
+    order: &mut [u32],
+    words: &mut [u64],
+    page: PageId,
+) -> Answer
+    ensures { λ r. ⌜ CallDoes (mem (now (bytes .entry)) (now (keys .entry)) (now (order .entry)) (now (words .entry))) (Call.Allocate (page .0) []) (told r) (mem (now (bytes .exit)) (now (keys .exit)) (now (order .exit)) (now (words .exit))) ⌝ }
+{
+    let refusal = refusals::allocate_refusal(bytes, keys, order, words, page.0, 0);
+    if refusal != 0 {
+        return Answer::Refused(refusal);
+    }
+    pages::list_page(bytes, keys, order, words, page.0);
+    Answer::Done
+}

@@ -1,0 +1,129 @@
+// What a write or an allocation does once it is not refused: the page is allocated, its chunks are held, the words journalled, the bytes put.
+ghost use mathlib.Core.Path.{_≡_};
+ghost use Prim.Native.Nat.{_+_, _≤_, _^_};
+ghost use lib.ListN.{length};
+ghost use Rattle.store.specs.Mem.{mem, layoutOf};
+ghost use Rattle.formed.specs.WellFormed.{WellFormed};
+ghost use Rattle.view.specs.View.{settingOf, viewOf};
+ghost use Rattle.view.specs.Steps.{alignedCount, wordNotes, alignedNotes, wordWritten, bytesWritten, contentsAllocated};
+ghost use Rattle.view.specs.Checks.{wordWriteChecks, byteWriteChecks, allocateChecks};
+ghost use Rattle.view.specs.Does.{Shows};
+ghost use Rattle.view.specs.Inner.{listing, holding, journalling};
+ghost use Rattle.room.specs.Refusals.{number};
+ghost use Rattle.writes.specs.Asks.{PrepareAsks, JournalAsks};
+
+// The page is allocated and holds the chunks first, .., first + count - 1.
+fn prepare(
+    bytes: &[u8],
+    keys: &mut [u64],
+    order: &mut [u32],
+    words: &mut [u64],
+    page: u32,
+    first: u32,
+    count: u32,
+)
+    requires { ⌜ PrepareAsks (mem (now bytes) (now keys) (now order) (now words)) page first count ⌝ }
+    ensures { λ _. ⌜ Shows (settingOf (mem (now (bytes .entry)) (now (keys .entry)) (now (order .entry)) (now (words .entry)))) (holding page first count (listing (mem (now (bytes .entry)) (now (keys .entry)) (now (order .entry)) (now (words .entry))) page)) (mem (now (bytes .entry)) (now (keys .exit)) (now (order .exit)) (now (words .exit))) ⌝ }
+{
+    pages::list_page(bytes, keys, order, words, page);
+    chunks::hold_chunks(bytes, keys, order, words, page, first, count);
+}
+
+// The word at an address is journalled, if its page has a journal.
+fn journal_word(
+    bytes: &mut [u8],
+    keys: &[u64],
+    order: &[u32],
+    words: &mut [u64],
+    page: u32,
+    address: u32,
+)
+    requires { ⌜ JournalAsks (mem (now bytes) (now keys) (now order) (now words)) page address 32 1 ⌝ }
+    ensures { λ _. ⌜ Shows (settingOf (mem (now (bytes .entry)) (now (keys .entry)) (now (order .entry)) (now (words .entry)))) (journalling (layoutOf (now (words .entry))) page (wordNotes (viewOf (mem (now (bytes .entry)) (now (keys .entry)) (now (order .entry)) (now (words .entry)))) page address) (viewOf (mem (now (bytes .entry)) (now (keys .entry)) (now (order .entry)) (now (words .entry))))) (mem (now (bytes .exit)) (now (keys .entry)) (now (order .entry)) (now (words .exit))) ⌝ }
+{
+    if page as u64 == words[2] {
+        journal::note(bytes, keys, order, words, 0, address);
+        return;
+    }
+    if page as u64 == words[3] {
+        journal::note(bytes, keys, order, words, 1, address);
+        return;
+    }
+}
+
+// Each aligned word that n bytes touch is journalled, if their page has a journal.
+fn journal_range(
+    bytes: &mut [u8],
+    keys: &[u64],
+    order: &[u32],
+    words: &mut [u64],
+    page: u32,
+    start: u32,
+    n: usize,
+)
+    requires { ⌜ (JournalAsks (mem (now bytes) (now keys) (now order) (now words)) page start n (alignedCount start n)) × (start + n ≤ 2 ^ 32) ⌝ }
+    ensures { λ _. ⌜ Shows (settingOf (mem (now (bytes .entry)) (now (keys .entry)) (now (order .entry)) (now (words .entry)))) (journalling (layoutOf (now (words .entry))) page (alignedNotes (viewOf (mem (now (bytes .entry)) (now (keys .entry)) (now (order .entry)) (now (words .entry)))) page start n) (viewOf (mem (now (bytes .entry)) (now (keys .entry)) (now (order .entry)) (now (words .entry))))) (mem (now (bytes .exit)) (now (keys .entry)) (now (order .entry)) (now (words .exit))) ⌝ }
+{
+    let count = room::aligned(start, n) as u32;
+    if page as u64 == words[2] {
+        journal::note_aligned(bytes, keys, order, words, 0, start / 32, count);
+        return;
+    }
+    if page as u64 == words[3] {
+        journal::note_aligned(bytes, keys, order, words, 1, start / 32, count);
+        return;
+    }
+}
+
+pub fn write_word(
+    bytes: &mut [u8],
+    keys: &mut [u64],
+    order: &mut [u32],
+    words: &mut [u64],
+    page: u32,
+    address: u32,
+    value: [u8; 32],
+)
+    requires { ⌜ (WellFormed (mem (now bytes) (now keys) (now order) (now words))) × (number (wordWriteChecks (settingOf (mem (now bytes) (now keys) (now order) (now words))) (viewOf (mem (now bytes) (now keys) (now order) (now words))) page address) ≡ 0) ⌝ }
+    ensures { λ _. ⌜ Shows (settingOf (mem (now (bytes .entry)) (now (keys .entry)) (now (order .entry)) (now (words .entry)))) (wordWritten (layoutOf (now (words .entry))) page address value (viewOf (mem (now (bytes .entry)) (now (keys .entry)) (now (order .entry)) (now (words .entry))))) (mem (now (bytes .exit)) (now (keys .exit)) (now (order .exit)) (now (words .exit))) ⌝ }
+{
+    let count = room::touched(address, 32) as u32;
+    prepare(bytes, keys, order, words, page, address / 256, count);
+    journal_word(bytes, keys, order, words, page, address);
+    bodies::write_from(bytes, keys, order, words, page, address, &value);
+}
+
+pub fn write_range(
+    bytes: &mut [u8],
+    keys: &mut [u64],
+    order: &mut [u32],
+    words: &mut [u64],
+    page: u32,
+    start: u32,
+    src: &[u8],
+)
+    requires { ⌜ (WellFormed (mem (now bytes) (now keys) (now order) (now words))) × (number (byteWriteChecks (settingOf (mem (now bytes) (now keys) (now order) (now words))) (viewOf (mem (now bytes) (now keys) (now order) (now words))) page start (length (now src))) ≡ 0) ⌝ }
+    ensures { λ _. ⌜ Shows (settingOf (mem (now (bytes .entry)) (now (keys .entry)) (now (order .entry)) (now (words .entry)))) (bytesWritten (layoutOf (now (words .entry))) page start (now (src .entry)) (viewOf (mem (now (bytes .entry)) (now (keys .entry)) (now (order .entry)) (now (words .entry))))) (mem (now (bytes .exit)) (now (keys .exit)) (now (order .exit)) (now (words .exit))) ⌝ }
+{
+    let count = room::touched(start, src.len()) as u32;
+    prepare(bytes, keys, order, words, page, start / 256, count);
+    journal_range(bytes, keys, order, words, page, start, src.len());
+    bodies::write_from(bytes, keys, order, words, page, start, src);
+}
+
+// The page is allocated with contents from address 0.
+pub fn fill(
+    bytes: &mut [u8],
+    keys: &mut [u64],
+    order: &mut [u32],
+    words: &mut [u64],
+    page: u32,
+    contents: &[u8],
+)
+    requires { ⌜ (WellFormed (mem (now bytes) (now keys) (now order) (now words))) × (number (allocateChecks (settingOf (mem (now bytes) (now keys) (now order) (now words))) (viewOf (mem (now bytes) (now keys) (now order) (now words))) page (length (now contents))) ≡ 0) ⌝ }
+    ensures { λ _. ⌜ Shows (settingOf (mem (now (bytes .entry)) (now (keys .entry)) (now (order .entry)) (now (words .entry)))) (contentsAllocated (layoutOf (now (words .entry))) page (now (contents .entry)) (viewOf (mem (now (bytes .entry)) (now (keys .entry)) (now (order .entry)) (now (words .entry))))) (mem (now (bytes .exit)) (now (keys .exit)) (now (order .exit)) (now (words .exit))) ⌝ }
+{
+    let count = room::touched(0, contents.len()) as u32;
+    prepare(bytes, keys, order, words, page, 0, count);
+    bodies::write_from(bytes, keys, order, words, page, 0, contents);
+}

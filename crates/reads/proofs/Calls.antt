@@ -15,15 +15,7 @@ use Rattle.view.specs.View.{settingOf, viewOf}
 use Rattle.view.specs.Steps.{run}
 use Rattle.view.specs.Checks.{onMemory, partialChecks, rangeChecks, lookupChecks}
 use Rattle.view.specs.Calls.{Call, Value, ReadWord, ReadPartial, ReadRange, ReadByte, DynamicLength, Lookup, LookupCheck, Snapshot, nothing, number, lengths, bytes, padded, shown, outcomeOf, nextOf, answerOf, CallDoes}
-use Rattle.reads.specs.Calls.{RangeDoes}
-
--- an outcome, as the list theorem speaks of it
-abbrev pub valued : {A : Type 0} → (A → Value) → Outcome A → Outcome Value
-valued f (refused n) = refused n
-valued f (done a) = done (f a)
-
-abbrev pub marked : ℕ × ℕ → Value
-marked x = lengths (x .0) (x .1)
+use Rattle.reads.specs.Calls.{valued, marked, RangeDoes}
 
 module _ {A : Type 0} (f : A → Value) (m : Mem) (a : A) where
   valued-plain : valued f (onMemory m [] a) ≡ firstOf ((not (wellFormed m), refused 3) ∷ []) (done (f a))

@@ -6,6 +6,7 @@ use mathlib.Core.List.{List}
 use Prim.Native.Nat.{ℕ, zero, suc}
 use Rattle.outcome.specs.Outcome.{Outcome, refused, done, carriedOut}
 use Rattle.word.specs.Value.{value}
+use Rattle.view.specs.Calls.{Value, lengths}
 use Rattle.reads.specs.declared.WordRead.{WordRead}
 use Rattle.reads.specs.declared.ByteRead.{ByteRead}
 use Rattle.reads.specs.declared.LengthRead.{LengthRead}
@@ -40,3 +41,11 @@ pub record RangeDoes {A : Type 0} (outcome told : Outcome A) (bytes o d : List �
   pub answer : told ≡ outcome
   pub kept : carriedOut outcome ≡ false → d ≡ o
   pub read : carriedOut outcome ≡ true → d ≡ bytes
+
+-- ---- the same outcomes among those of all calls, where a value is one of `Value`
+abbrev pub valued : {A : Type 0} → (A → Value) → Outcome A → Outcome Value
+valued f (refused n) = refused n
+valued f (done a) = done (f a)
+
+abbrev pub marked : ℕ × ℕ → Value
+marked x = lengths (x .0) (x .1)

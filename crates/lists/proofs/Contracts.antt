@@ -1,0 +1,69 @@
+-- What a step does is what the contract of its function says.
+-- Assumes nothing.
+use mathlib.Core.Path.{_≡_, refl, ap, subst}
+use mathlib.Core.Bool.{Bool, true, cond, not}
+use mathlib.Core.List.{List}
+use Prim.Native.Nat.{ℕ}
+use denote.Ref.{now}
+use Rattle.outcome.specs.Outcome.{Outcome, refused}
+use Rattle.store.specs.Mem.{Mem}
+use Rattle.formed.specs.Formed.{wellFormed}
+use Rattle.formed.proofs.Meaning.{well-formed-passes}
+use Rattle.view.specs.View.{View, Setting, settingOf, viewOf}
+use Rattle.view.specs.Does.{Shows, Does}
+use Rattle.view.specs.Calls.{Call, Value, Open, outcomeOf, nextOf, answerOf, CallDoes, OpenDoes}
+use Rattle.reads.proofs.Calls.{word-call, partial-call, range-call, byte-call, length-call, lookup-call, check-call, marks-call}
+use Rattle.plain.specs.Claim.{Contracts}
+use Rattle.plain.proofs.Good.{never}
+use Rattle.lists.specs.Steps.{Step, lent, rest, did-open, did-read-word, did-read-partial, did-read-range, did-read-byte, did-dynamic-length, did-lookup, did-lookup-check, did-snapshot, did-write-word, did-write-bytes, did-allocate, did-allocate-with, did-rollback, did-delete-history}
+
+-- an opening does its own; any other call, on a well-formed memory, what is shared
+record Meets (m : Mem) (c : Call) (o : Outcome Value) (m' : Mem) : Type 0 where
+  opens : (s : Setting) (calldata : List ℕ) → c ≡ Open s calldata → OpenDoes m s calldata o m'
+  calls : ((s : Setting) (calldata : List ℕ) → c ≡ Open s calldata → ⊥) → wellFormed m ≡ true → CallDoes m c o m'
+
+by-open : {m m' : Mem} {o : Outcome Value} (s : Setting) (calldata : List ℕ) → OpenDoes m s calldata o m' → Meets m (Open s calldata) o m'
+by-open {m} {m'} {o} s calldata d = record {
+  opens = λ t bs e.
+      let a : s ≡ t = cc in
+      let b : calldata ≡ bs = cc in
+      subst (λ (x : Setting). OpenDoes m x bs o m') a (subst (λ (x : List ℕ). OpenDoes m s x o m') b d);
+  calls = λ n. absurd (n s calldata refl);
+}
+
+by-call : {m m' : Mem} {o : Outcome Value} (c : Call) → ((s : Setting) (calldata : List ℕ) → c ≡ Open s calldata → ⊥) → (wellFormed m ≡ true → CallDoes m c o m') → Meets m c o m'
+by-call c n d = record { opens = λ s calldata e. absurd (n s calldata e); calls = λ _. d }
+
+-- each line is the contract itself, that of a read by its law
+does : {m m' : Mem} {c : Call} {o : Outcome Value} → Step m c o m' → Meets m c o m'
+does (did-open w) = by-open _ _ (w .ensures)
+does (did-read-word w) = by-call _ (λ s d e. never (cc)) (λ _. word-call (lent (w .args)) (rest (w .args) .0 .0) (rest (w .args) .1 .0 .0) _ (w .ensures .answer))
+does (did-read-partial w) = by-call _ (λ s d e. never (cc)) (λ _. partial-call (lent (w .args)) (rest (w .args) .0 .0) (rest (w .args) .1 .0 .0) (rest (w .args) .1 .1 .0 .0) _ (w .ensures .answer))
+does (did-read-range w) = by-call _ (λ s d e. never (cc)) (λ _. range-call (lent (w .args)) (rest (w .args) .0 .0) (rest (w .args) .1 .0 .0) (rest (w .args) .1 .1 .0 .0) _ _ _ (w .ensures))
+does (did-read-byte w) = by-call _ (λ s d e. never (cc)) (λ _. byte-call (lent (w .args)) (rest (w .args) .0 .0) (rest (w .args) .1 .0 .0) _ (w .ensures .answer))
+does (did-dynamic-length w) = by-call _ (λ s d e. never (cc)) (λ _. length-call (lent (w .args)) _ (w .ensures .answer))
+does (did-lookup w) = by-call _ (λ s d e. never (cc)) (λ f. lookup-call (lent (w .args)) (rest (w .args) .0 .0) (rest (w .args) .1 .0) (now (rest (w .args) .1 .1 .0)) _ f (w .ensures))
+does (did-lookup-check w) = by-call _ (λ s d e. never (cc)) (λ _. check-call (lent (w .args)) (rest (w .args) .0 .0) (rest (w .args) .1 .0) (now (rest (w .args) .1 .1 .0)) _ (w .ensures))
+does (did-snapshot w) = by-call _ (λ s d e. never (cc)) (λ _. marks-call (lent (w .args)) _ (w .ensures .answer))
+does (did-write-word w) = by-call _ (λ s d e. never (cc)) (λ _. w .ensures)
+does (did-write-bytes w) = by-call _ (λ s d e. never (cc)) (λ _. w .ensures)
+does (did-allocate w) = by-call _ (λ s d e. never (cc)) (λ _. w .ensures)
+does (did-allocate-with w) = by-call _ (λ s d e. never (cc)) (λ _. w .ensures)
+does (did-rollback w) = by-call _ (λ s d e. never (cc)) (λ _. w .ensures)
+does (did-delete-history w) = by-call _ (λ s d e. never (cc)) (λ _. w .ensures)
+
+-- on a memory of setting s and view v, what is shared is said of s and v
+pub of-shown : {m m' : Mem} (c : Call) {o : Outcome Value} {s : Setting} {v : View} → Shows s v m → CallDoes m c o m' → Does m (outcomeOf s c v) s (nextOf s c v) o m'
+of-shown {m} {m'} c {o} {s} {v} h d =
+    subst (λ (x : View). Does m (outcomeOf s c x) s (nextOf s c x) o m') (h .view)
+    (subst (λ (x : Setting). Does m (outcomeOf x c (viewOf m)) x (nextOf x c (viewOf m)) o m') (h .setting)
+    (subst (λ (x : Outcome Value). Does m x (settingOf m) (nextOf (settingOf m) c (viewOf m)) o m') passed d))
+  where
+    passed : answerOf m c ≡ outcomeOf (settingOf m) c (viewOf m)
+    passed = ap (λ (b : Bool). cond (not b) (refused 3) (outcomeOf (settingOf m) c (viewOf m))) (well-formed-passes m (h .formed))
+
+pub contracts : Contracts Step
+contracts = record {
+  opens = λ {s = s} {calldata = calldata} x. does x .opens s calldata refl;
+  calls = λ {m = m} {c = c} n x h. of-shown c h (does x .calls n (well-formed-passes m (h .formed)));
+}

@@ -1,0 +1,535 @@
+-- There are steps: every call on every memory has one, with the outcome that the definition gives. So the claim does not hold for want of
+-- steps, and no `requires` narrows it.
+-- Assumes nothing.
+use mathlib.Core.Path.{_≡_, refl, sym, ap, _∙_, subst}
+use mathlib.Core.Bool.{Bool, true, false, cond, not, _&&_, true≢false}
+use mathlib.Core.List.{List, [], _∷_}
+use Prim.Native.Nat.{ℕ, zero, suc, _+_, _-_, _<_, _≤_}
+use native.Mathlib.Omega.{arith}
+use lib.Dec.{ltb, eqb}
+use lib.ListN.{length, set}
+use borrow.Author.Tests.{eqb-true}
+use Rattle.reads.proofs.Tabs.{length-tab}
+use denote.Ref.{RefT}
+use Rattle.outcome.specs.Outcome as outcomes
+use Rattle.outcome.specs.Outcome.{Outcome, refused, done, carriedOut}
+use Rattle.outcome.specs.declared.Answer.{Answer}
+use Rattle.outcome.specs.declared.Answer.the-variants.{Done, Refused}
+use Rattle.word.specs.Value.{value, bigEndian}
+use Rattle.store.specs.Mem.{Mem, mem, slotCount, pageCount, journalRoom}
+use Rattle.formed.specs.Formed.{wellFormed}
+use Rattle.formed.specs.WellFormed.{WellFormed}
+use Rattle.view.specs.View.{View, viewOf, Setting, settingOf}
+use Rattle.view.specs.Steps.{run, touchedCount, alignedCount}
+use Rattle.view.specs.Checks.{onMemory, partialChecks, rangeChecks, lookupChecks, countsRight, lengthsRight, Check, wordWriteChecks, byteWriteChecks, allocateChecks}
+use Rattle.view.specs.Calls.{Call, Value, ReadWord, ReadPartial, ReadRange, ReadByte, DynamicLength, Lookup, LookupCheck, Snapshot, bytes, padded, shown, answerOf, Open, Rollback, DeleteHistory, nothing, told, CallDoes, OpenDoes, Allocate, WriteWord, WriteBytes, nextOf}
+use Rattle.reads.specs.declared.WordRead.{WordRead}
+use Rattle.reads.specs.declared.ByteRead.{ByteRead}
+use Rattle.reads.specs.declared.LengthRead.{LengthRead}
+use Rattle.reads.specs.declared.Marks.{Marks}
+use Rattle.reads.specs.Calls.{toldByte, toldLength, toldMarks, ReadDoes, RangeDoes}
+use Rattle.reads.specs.Calls as reads
+use Rattle.reads.proofs.Calls.{word-call, partial-call, range-call, byte-call, length-call, check-call, marks-call}
+use Rattle.view.specs.Does.{Shows, Does}
+use Rattle.formed.proofs.Meaning.{well-formed-means}
+use Rattle.page_ids.specs.Decode.{badLayout}
+use Rattle.opening.specs.Opening.{openingOutcome, numbered, OpenAsks}
+use Rattle.opening.proofs.Starts.{head-width}
+use Rattle.opening.proofs.Refusals.{open-asks, calldata-asks, open-refused, open-done}
+use Rattle.journal.proofs.Cuts.{forget-shows}
+use Rattle.history.proofs.History.{not-formed, call-refused, rollback-refused, rollback-asks, rollback-done, forget-done}
+use Rattle.room.specs.Refusals as refusals
+use Rattle.refusals.proofs.Passed.{Refusals, next, room-refusals, refused-does, passed-formed, done-does}
+use Rattle.lists.proofs.Writing.{word-there, bytes-there, contents-there}
+use Rattle.lists.proofs.Reach.{Reached, started-there, calldata-there, rolled-there}
+use Rattle.lists.specs.Steps.{Step, did-read-word, did-read-partial, did-read-range, did-read-byte, did-dynamic-length, did-lookup, did-lookup-check, did-snapshot, did-open, did-write-word, did-write-bytes, did-allocate, did-allocate-with, did-rollback, did-delete-history}
+
+-- every memory has a step of c, which leaves it as it is
+abbrev pub Answers : Call → Type 0
+Answers c = (m : Mem) → Step m c (answerOf m c) m
+
+abbrev ref : List ℕ → RefT (List ℕ)
+ref l = record { ptr = (0, 0); name = 0; now = l }
+
+-- ---- answers that tell an outcome whose refusals have a number of 01's table
+abbrev Right : {A : Type 0} → Outcome A → Type 0
+Right (refused n) = 0 < n
+Right (done a) = Unit {0}
+
+module _ {A : Type 0} (m : Mem) (a : A) where
+  right-plain : Right (onMemory m [] a)
+  right-plain = go (wellFormed m)
+    where
+      go : (b : Bool) → Right (cond (not b) (refused 3) (done a))
+      go true = tt
+      go false = omega arith
+
+  right-check : (t : Bool) → Right (onMemory m ((t, refused 8) ∷ []) a)
+  right-check t = go (wellFormed m) t
+    where
+      go : (b c : Bool) → Right (cond (not b) (refused 3) (cond c (refused 8) (done a)))
+      go true true = omega arith
+      go true false = tt
+      go false c = omega arith
+
+-- the number n, in the lowest limb
+abbrev limbs : ℕ → List ℕ
+limbs n = n ∷ 0 ∷ 0 ∷ 0 ∷ []
+
+value-is : (n : ℕ) → value (limbs n) ≡ n
+unfolding value
+value-is n = omega arith
+
+abbrev numberOf : {A : Type 0} → Outcome A → ℕ
+numberOf (refused n) = n
+numberOf (done a) = 0
+
+abbrev valueOf : {A : Type 0} → A → Outcome A → A
+valueOf z (refused n) = z
+valueOf z (done a) = a
+
+read-does : {A : Type 0} (z : A) (o : Outcome A) → Right o → ReadDoes o (reads.answered (numberOf o) (valueOf z o)) (valueOf z o) z
+read-does z (refused zero) l = absurd (omega (arith, l))
+read-does z (refused (suc n)) l = record { answer = refl; zero = λ _. refl }
+read-does z (done a) l = record { answer = refl; zero = λ e. absurd (true≢false e) }
+
+word-does : (o : Outcome ℕ) → Right o → ReadDoes o (reads.answered (numberOf o) (value (limbs (valueOf 0 o)))) (value (limbs (valueOf 0 o))) 0
+word-does o r = subst (λ (x : ℕ). ReadDoes o (reads.answered (numberOf o) x) x 0) (sym (value-is (valueOf 0 o))) (read-does 0 o r)
+
+abbrev answerTo : {A : Type 0} → Outcome A → Answer
+answerTo (refused n) = Refused n
+answerTo (done a) = Done
+
+told-to : (o : Outcome (Unit {0})) → outcomes.told (answerTo o) ≡ o
+told-to (refused n) = refl
+told-to (done tt) = refl
+
+-- ---- the reads
+abbrev word : Outcome ℕ → WordRead
+word o = record { refusal = numberOf o; word = record { limbs = limbs (valueOf 0 o) } }
+
+abbrev byte : Outcome ℕ → ByteRead
+byte o = record { refusal = numberOf o; byte = valueOf 0 o }
+
+abbrev size : Outcome ℕ → LengthRead
+size o = record { refusal = numberOf o; length = valueOf 0 o }
+
+abbrev marks : Outcome (ℕ × ℕ) → Marks
+marks o = record { refusal = numberOf o; heap = valueOf (0, 0) o .0; aux = valueOf (0, 0) o .1 }
+
+pub can-read-word : (p a : ℕ) → Answers (ReadWord p a)
+can-read-word p a m =
+    subst (λ (o : Outcome Value). Step m (ReadWord p a) o m) (word-call m p a (reads.told (word out)) (d .answer) .answer)
+    (did-read-word
+    (record {
+      lifetimes = ([], ([], ([], ([], tt))));
+      args = (ref (m .bytes), (ref (m .keys), (ref (m .order), (ref (m .words), (record { 0 = p }, (record { 0 = a }, tt))))));
+      result = word out;
+      last = (tt, (tt, (tt, (tt, (tt, (tt, tt))))));
+      asked = tt;
+      kept = (tt, (tt, (tt, (tt, (tt, (tt, tt))))));
+      ensures = d;
+    }))
+  where
+    out : Outcome ℕ
+    out = onMemory m [] (bigEndian (run (viewOf m) p a 32))
+
+    d : ReadDoes out (reads.told (word out)) (value (word out .word .limbs)) 0
+    d = word-does out (right-plain m (bigEndian (run (viewOf m) p a 32)))
+
+pub can-read-partial : (p x y : ℕ) → Answers (ReadPartial p x y)
+can-read-partial p x y m =
+    subst (λ (o : Outcome Value). Step m (ReadPartial p x y) o m) (partial-call m p x y (reads.told (word out)) (d .answer) .answer)
+    (did-read-partial
+    (record {
+      lifetimes = ([], ([], ([], ([], tt))));
+      args = (ref (m .bytes), (ref (m .keys), (ref (m .order), (ref (m .words), (record { 0 = p }, (record { 0 = x }, (record { 0 = y }, tt)))))));
+      result = word out;
+      last = (tt, (tt, (tt, (tt, (tt, (tt, (tt, tt)))))));
+      asked = tt;
+      kept = (tt, (tt, (tt, (tt, (tt, (tt, (tt, tt)))))));
+      ensures = d;
+    }))
+  where
+    out : Outcome ℕ
+    out = onMemory m (partialChecks x y) (bigEndian (padded (run (viewOf m) p x (y - x))))
+
+    d : ReadDoes out (reads.told (word out)) (value (word out .word .limbs)) 0
+    d = word-does out (right-check m (bigEndian (padded (run (viewOf m) p x (y - x)))) (ltb 32 (y - x)))
+
+-- an output that takes the bytes
+abbrev taken : Outcome (Unit {0}) → List ℕ → List ℕ → List ℕ
+taken (refused n) l bs = l
+taken (done u) l bs = bs
+
+range-does : (o : Outcome (Unit {0})) (l bs : List ℕ) → RangeDoes o (outcomes.told (answerTo o)) bs l (taken o l bs)
+range-does (refused n) l bs = record { answer = refl; kept = λ _. refl; read = λ e. absurd (true≢false (sym e)) }
+range-does (done tt) l bs = record { answer = refl; kept = λ e. absurd (true≢false e); read = λ _. refl }
+
+-- it is as long as before
+taken-long : (m : Mem) (p x y : ℕ) (l : List ℕ) → length (taken (onMemory m (rangeChecks x y (length l)) tt) l (run (viewOf m) p x (y - x))) ≡ length l
+taken-long m p x y l = go (wellFormed m) (eqb (length l) (y - x)) refl
+  where
+    go : (b c : Bool) → eqb (length l) (y - x) ≡ c → length (taken (cond (not b) (refused 3) (cond (not c) (refused 8) (done tt))) l (run (viewOf m) p x (y - x))) ≡ length l
+    go false c e = refl
+    go true false e = refl
+    go true true e = length-tab (y - x) (λ i. viewOf m .bytes p (x + i)) ∙ sym (eqb-true (length l) (y - x) e)
+
+pub can-read-range : (p x y : ℕ) (l : List ℕ) → Answers (ReadRange p x y (length l))
+can-read-range p x y l m =
+    subst (λ (o : Outcome Value). Step m (ReadRange p x y (length l)) o m) (range-call m p x y l (taken out l bs) (outcomes.told (answerTo out)) (range-does out l bs) .answer)
+    (did-read-range
+    (record {
+      lifetimes = ([], ([], ([], ([], ([], tt)))));
+      args = (ref (m .bytes), (ref (m .keys), (ref (m .order), (ref (m .words), (record { 0 = p }, (record { 0 = x }, (record { 0 = y }, (ref l, tt))))))));
+      result = answerTo out;
+      last = (tt, (tt, (tt, (tt, (tt, (tt, (tt, (taken out l bs, tt))))))));
+      asked = tt;
+      kept = (tt, (tt, (tt, (tt, (tt, (tt, (tt, (taken-long m p x y l, tt))))))));
+      ensures = range-does out l bs;
+    }))
+  where
+    bs : List ℕ
+    bs = run (viewOf m) p x (y - x)
+
+    out : Outcome (Unit {0})
+    out = onMemory m (rangeChecks x y (length l)) tt
+
+pub can-read-byte : (p a : ℕ) → Answers (ReadByte p a)
+can-read-byte p a m =
+    subst (λ (o : Outcome Value). Step m (ReadByte p a) o m) (byte-call m p a (toldByte (byte out)) (d .answer) .answer)
+    (did-read-byte
+    (record {
+      lifetimes = ([], ([], ([], ([], tt))));
+      args = (ref (m .bytes), (ref (m .keys), (ref (m .order), (ref (m .words), (record { 0 = p }, (record { 0 = a }, tt))))));
+      result = byte out;
+      last = (tt, (tt, (tt, (tt, (tt, (tt, tt))))));
+      asked = tt;
+      kept = (tt, (tt, (tt, (tt, (tt, (tt, tt))))));
+      ensures = d;
+    }))
+  where
+    out : Outcome ℕ
+    out = onMemory m [] (viewOf m .bytes p a)
+
+    d : ReadDoes out (toldByte (byte out)) (byte out .byte) 0
+    d = read-does 0 out (right-plain m (viewOf m .bytes p a))
+
+pub can-tell-length : Answers DynamicLength
+can-tell-length m =
+    subst (λ (o : Outcome Value). Step m DynamicLength o m) (length-call m (toldLength (size out)) (d .answer) .answer)
+    (did-dynamic-length
+    (record {
+      lifetimes = ([], ([], ([], ([], tt))));
+      args = (ref (m .bytes), (ref (m .keys), (ref (m .order), (ref (m .words), tt))));
+      result = size out;
+      last = (tt, (tt, (tt, (tt, tt))));
+      asked = tt;
+      kept = (tt, (tt, (tt, (tt, tt))));
+      ensures = d;
+    }))
+  where
+    out : Outcome ℕ
+    out = onMemory m [] (viewOf m .dynamicLength)
+
+    d : ReadDoes out (toldLength (size out)) (size out .length) 0
+    d = read-does 0 out (right-plain m (viewOf m .dynamicLength))
+
+pub can-snapshot : Answers Snapshot
+can-snapshot m =
+    subst (λ (o : Outcome Value). Step m Snapshot o m) (marks-call m (toldMarks (marks out)) (d .answer) .answer)
+    (did-snapshot
+    (record {
+      lifetimes = ([], ([], ([], ([], tt))));
+      args = (ref (m .bytes), (ref (m .keys), (ref (m .order), (ref (m .words), tt))));
+      result = marks out;
+      last = (tt, (tt, (tt, (tt, tt))));
+      asked = tt;
+      kept = (tt, (tt, (tt, (tt, tt))));
+      ensures = d;
+    }))
+  where
+    out : Outcome (ℕ × ℕ)
+    out = onMemory m [] (length (viewOf m .journal 0), length (viewOf m .journal 1))
+
+    d : ReadDoes out (toldMarks (marks out)) (marks out .heap, marks out .aux) (0, 0)
+    d = read-does (0, 0) out (right-plain m (length (viewOf m .journal 0), length (viewOf m .journal 1)))
+
+pub can-look-up : (p k : ℕ) (z : List ℕ) (m : Mem) → Step m (Lookup p k z) (done (bytes (cond (wellFormed m) (shown (viewOf m) p k z) []))) m
+can-look-up p k z m =
+    did-lookup
+    (record {
+      lifetimes = ([], ([], ([], ([], tt))));
+      args = (ref (m .bytes), (ref (m .keys), (ref (m .order), (ref (m .words), (record { 0 = p }, (k, (ref z, tt)))))));
+      result = ref (cond (wellFormed m) (shown (viewOf m) p k z) []);
+      last = (tt, (tt, (tt, (tt, (tt, (tt, (tt, tt)))))));
+      asked = tt;
+      kept = (tt, (tt, (tt, (tt, (tt, (tt, (tt, tt)))))));
+      ensures = refl;
+    })
+
+pub can-check : (p k : ℕ) (z : List ℕ) → Answers (LookupCheck p k z)
+can-check p k z m =
+    subst (λ (o : Outcome Value). Step m (LookupCheck p k z) o m) (check-call m p k z (outcomes.told (answerTo out)) (told-to out) .answer)
+    (did-lookup-check
+    (record {
+      lifetimes = ([], ([], ([], ([], ([], tt)))));
+      args = (ref (m .bytes), (ref (m .keys), (ref (m .order), (ref (m .words), (record { 0 = p }, (k, (ref z, tt)))))));
+      result = answerTo out;
+      last = (tt, (tt, (tt, (tt, (tt, (tt, (tt, tt)))))));
+      asked = tt;
+      kept = (tt, (tt, (tt, (tt, (tt, (tt, (tt, tt)))))));
+      ensures = told-to out;
+    }))
+  where
+    out : Outcome (Unit {0})
+    out = onMemory m (lookupChecks z) tt
+
+-- ---- calls that change the memory
+-- a memory has a step of c, with this outcome
+pub record Goes (m : Mem) (c : Call) (o : Outcome Value) : Type 0 where
+  pub after : Mem
+  pub step : Step m c o after
+
+-- the lent buffers keep their lengths
+record Same (m m' : Mem) : Type 0 where
+  bytes : length (m' .bytes) ≡ length (m .bytes)
+  keys : length (m' .keys) ≡ length (m .keys)
+  order : length (m' .order) ≡ length (m .order)
+  words : length (m' .words) ≡ length (m .words)
+
+same : (m : Mem) → Same m m
+same m = record { bytes = refl; keys = refl; order = refl; words = refl }
+
+setting-same : {m m' : Mem} {v : View} → WellFormed m → Shows (settingOf m) v m' → Same m m'
+setting-same {m} {m'} f h =
+    let a = f .lengths in
+    let b = h .formed .lengths in
+    let c : slotCount (m' .words) ≡ slotCount (m .words) = ap (λ (s : Setting). s .chunks) (h .setting) in
+    let p : pageCount (m' .words) ≡ pageCount (m .words) = ap (λ (s : Setting). s .pages) (h .setting) in
+    let r : journalRoom (m' .words) ≡ journalRoom (m .words) = ap (λ (s : Setting). s .room) (h .setting) in
+    let b₁ = b .in-bytes in
+    let b₂ = b .in-keys in
+    let b₃ = b .in-order in
+    let b₄ = b .in-words in
+    let a₁ = a .in-bytes in
+    let a₂ = a .in-keys in
+    let a₃ = a .in-order in
+    let a₄ = a .in-words in
+    record { bytes = omega arith; keys = omega arith; order = omega arith; words = omega arith }
+
+-- ---- history
+module _ (heap aux : ℕ) (m : Mem) where
+  roll-back : (r : Answer) (bs ws : List ℕ) → length bs ≡ length (m .bytes) → length ws ≡ length (m .words) → CallDoes m (Rollback heap aux) (told r) (mem bs (m .keys) (m .order) ws)
+      → Step m (Rollback heap aux) (told r) (mem bs (m .keys) (m .order) ws)
+  roll-back r bs ws lb lw d =
+      did-rollback
+      (record {
+        lifetimes = ([], ([], ([], ([], tt))));
+        args = (ref (m .bytes), (ref (m .keys), (ref (m .order), (ref (m .words), (heap, (aux, tt))))));
+        result = r;
+        last = (bs, (tt, (tt, (ws, (tt, (tt, tt))))));
+        asked = tt;
+        kept = (lb, (tt, (tt, (lw, (tt, (tt, tt))))));
+        ensures = d;
+      })
+
+  pub can-roll-back : Goes m (Rollback heap aux) (answerOf m (Rollback heap aux))
+  can-roll-back = go (refusals.numberOf (answerOf m (Rollback heap aux))) refl
+    where
+      go : (n : ℕ) → n ≡ refusals.numberOf (answerOf m (Rollback heap aux)) → Goes m (Rollback heap aux) (answerOf m (Rollback heap aux))
+      go zero e =
+          let asks = rollback-asks m heap aux 0 e refl in
+          let t = rolled-there m heap aux asks in
+          let l = setting-same (asks .formed) (t .shows) in
+          let d = rollback-done m heap aux 0 e refl (mem (t .bytes) (m .keys) (m .order) (t .words)) (t .shows) in
+          record { after = _; step = subst (λ (o : Outcome Value). Step m (Rollback heap aux) o (mem (t .bytes) (m .keys) (m .order) (t .words))) (d .answer) (roll-back Done (t .bytes) (t .words) (l .bytes) (l .words) d) }
+      go (suc n) e =
+          let d = rollback-refused m heap aux (suc n) e (λ z. omega arith) in
+          record { after = m; step = subst (λ (o : Outcome Value). Step m (Rollback heap aux) o m) (d .answer) (roll-back (Refused (suc n)) (m .bytes) (m .words) refl refl d) }
+
+delete : (m : Mem) (r : Answer) (ws : List ℕ) → length ws ≡ length (m .words) → CallDoes m DeleteHistory (told r) (mem (m .bytes) (m .keys) (m .order) ws) → Step m DeleteHistory (told r) (mem (m .bytes) (m .keys) (m .order) ws)
+delete m r ws lw d =
+    did-delete-history
+    (record {
+      lifetimes = ([], ([], ([], ([], tt))));
+      args = (ref (m .bytes), (ref (m .keys), (ref (m .order), (ref (m .words), tt))));
+      result = r;
+      last = (tt, (tt, (tt, (ws, tt))));
+      asked = tt;
+      kept = (tt, (tt, (tt, (lw, tt))));
+      ensures = d;
+    })
+
+pub can-delete : (m : Mem) → Goes m DeleteHistory (answerOf m DeleteHistory)
+can-delete m = go (wellFormed m) refl
+  where
+    go : (b : Bool) → wellFormed m ≡ b → Goes m DeleteHistory (answerOf m DeleteHistory)
+    go true e =
+        let f = well-formed-means m e in
+        let h = forget-shows (m .bytes) (m .keys) (m .order) (m .words) f in
+        let ws = set (set (m .words) 12 0) 13 0 in
+        let l = setting-same f h in
+        let d = forget-done m e (mem (m .bytes) (m .keys) (m .order) ws) h in
+        record { after = _; step = subst (λ (o : Outcome Value). Step m DeleteHistory o (mem (m .bytes) (m .keys) (m .order) ws)) (d .answer) (delete m Done ws (l .words) d) }
+    go false e =
+        let d = call-refused m DeleteHistory 3 (not-formed m DeleteHistory e) in
+        record { after = m; step = subst (λ (o : Outcome Value). Step m DeleteHistory o m) (d .answer) (delete m (Refused 3) (m .words) refl d) }
+
+-- ---- writes and allocations, of a page and an address of 32 bits, as the code's have
+module _ (m : Mem) (c : Call) (checks : List (Check Value)) (tests : Refusals checks) (is : answerOf m c ≡ onMemory m checks nothing)
+    (step : (r : Answer) (m' : Mem) → Same m m' → CallDoes m c (told r) m' → Step m c (told r) m')
+    (there : (WellFormed m) × (refusals.number checks ≡ 0) → Reached (settingOf m) (nextOf (settingOf m) c (viewOf m))) where
+  goes : Goes m c (answerOf m c)
+  goes = go (refusals.numberOf (onMemory m checks nothing)) refl
+    where
+      turned : {m' : Mem} {o : Outcome Value} → Does m (onMemory m checks nothing) (settingOf m) (nextOf (settingOf m) c (viewOf m)) o m' → CallDoes m c o m'
+      turned {m'} {o} d = subst (λ (x : Outcome Value). Does m x (settingOf m) (nextOf (settingOf m) c (viewOf m)) o m') (sym is) d
+
+      go : (n : ℕ) → n ≡ refusals.numberOf (onMemory m checks nothing) → Goes m c (answerOf m c)
+      go zero e =
+          let f = passed-formed m checks (settingOf m) (viewOf m) (sym e) in
+          let t = there f in
+          let d = turned (done-does m checks (settingOf m) (nextOf (settingOf m) c (viewOf m)) tests (sym e) (t .shows)) in
+          record { after = t .memory; step = subst (λ (o : Outcome Value). Step m c o (t .memory)) (d .answer) (step Done (t .memory) (setting-same (f .0) (t .shows)) d) }
+      go (suc n) e =
+          let d = turned (refused-does m checks (settingOf m) (nextOf (settingOf m) c (viewOf m)) (suc n) e (λ z. omega arith)) in
+          record { after = m; step = subst (λ (o : Outcome Value). Step m c o m) (d .answer) (step (Refused (suc n)) m (same m) d) }
+
+module _ (p a : ℕ) (page : p ≤ 4294967295) (address : a ≤ 4294967295) where
+  pub can-write-word : (n : ℕ) (m : Mem) → Goes m (WriteWord p a n) (answerOf m (WriteWord p a n))
+  can-write-word n m =
+      goes m (WriteWord p a n) (wordWriteChecks (settingOf m) (viewOf m) p a) (next (room-refusals (settingOf m) (viewOf m) p a 32 1)) refl
+      (λ r m' l d.
+      subst (λ (x : ℕ). Step m (WriteWord p a x) (told r) m') (value-is n)
+      (did-write-word
+      (record {
+        lifetimes = ([], ([], ([], ([], tt))));
+        args = (ref (m .bytes), (ref (m .keys), (ref (m .order), (ref (m .words), (record { 0 = p }, (record { 0 = a }, (record { limbs = limbs n }, tt)))))));
+        result = r;
+        last = (m' .bytes, (m' .keys, (m' .order, (m' .words, (tt, (tt, (tt, tt)))))));
+        asked = tt;
+        kept = (l .bytes, (l .keys, (l .order, (l .words, (tt, (tt, (tt, tt)))))));
+        ensures = subst (λ (x : ℕ). CallDoes m (WriteWord p a x) (told r) m') (sym (value-is n)) d;
+      })))
+      (word-there m p a page address n)
+
+  pub can-write-bytes : (bs : List ℕ) (m : Mem) → Goes m (WriteBytes p a bs) (answerOf m (WriteBytes p a bs))
+  can-write-bytes bs m =
+      goes m (WriteBytes p a bs) (byteWriteChecks (settingOf m) (viewOf m) p a (length bs)) (next (next (room-refusals (settingOf m) (viewOf m) p a (length bs) (alignedCount a (length bs))))) refl
+      (λ r m' l d.
+      did-write-bytes
+      (record {
+        lifetimes = ([], ([], ([], ([], ([], tt)))));
+        args = (ref (m .bytes), (ref (m .keys), (ref (m .order), (ref (m .words), (record { 0 = p }, (record { 0 = a }, (ref bs, tt)))))));
+        result = r;
+        last = (m' .bytes, (m' .keys, (m' .order, (m' .words, (tt, (tt, (tt, tt)))))));
+        asked = tt;
+        kept = (l .bytes, (l .keys, (l .order, (l .words, (tt, (tt, (tt, tt)))))));
+        ensures = d;
+      }))
+      (bytes-there m p a page address bs)
+
+module _ (p : ℕ) (page : p ≤ 4294967295) where
+  pub can-allocate-with : (bs : List ℕ) (m : Mem) → Goes m (Allocate p bs) (answerOf m (Allocate p bs))
+  can-allocate-with bs m =
+      goes m (Allocate p bs) (allocateChecks (settingOf m) (viewOf m) p (length bs)) (next (next (next (room-refusals (settingOf m) (viewOf m) p 0 (length bs) 0)))) refl
+      (λ r m' l d.
+      did-allocate-with
+      (record {
+        lifetimes = ([], ([], ([], ([], ([], tt)))));
+        args = (ref (m .bytes), (ref (m .keys), (ref (m .order), (ref (m .words), (record { 0 = p }, (ref bs, tt))))));
+        result = r;
+        last = (m' .bytes, (m' .keys, (m' .order, (m' .words, (tt, (tt, tt))))));
+        asked = tt;
+        kept = (l .bytes, (l .keys, (l .order, (l .words, (tt, (tt, tt))))));
+        ensures = d;
+      }))
+      (contents-there m p page bs)
+
+  -- an empty page
+  pub can-allocate : (m : Mem) → Goes m (Allocate p []) (answerOf m (Allocate p []))
+  can-allocate m =
+      goes m (Allocate p []) (allocateChecks (settingOf m) (viewOf m) p 0) (next (next (next (room-refusals (settingOf m) (viewOf m) p 0 0 0)))) refl
+      (λ r m' l d.
+      did-allocate
+      (record {
+        lifetimes = ([], ([], ([], ([], tt))));
+        args = (ref (m .bytes), (ref (m .keys), (ref (m .order), (ref (m .words), (record { 0 = p }, tt)))));
+        result = r;
+        last = (m' .bytes, (m' .keys, (m' .order, (m' .words, (tt, tt)))));
+        asked = tt;
+        kept = (l .bytes, (l .keys, (l .order, (l .words, (tt, tt)))));
+        ensures = d;
+      }))
+      (contents-there m p page [])
+
+-- ---- opening: the numbers of a layout have 32 bits, as the code's have
+pub record Narrow (s : Setting) : Type 0 where
+  pub statics : s .layout .«static_memory» .0 ≤ 4294967295
+  pub calldata : s .layout .calldata .0 ≤ 4294967295
+  pub heap : s .layout .«bootloader_heap» .0 ≤ 4294967295
+  pub aux : s .layout .«bootloader_aux» .0 ≤ 4294967295
+  pub base : s .layout .base .0 ≤ 4294967295
+  pub stride : s .layout .stride ≤ 4294967295
+
+module _ (s : Setting) (calldata : List ℕ) (narrow : Narrow s) (m : Mem) where
+  abbrev result : Outcome Value
+  result = openingOutcome s m (length calldata)
+
+  number-is : numbered (refusals.numberOf result) nothing ≡ result
+  number-is = go (badLayout (s .layout)) (countsRight s && lengthsRight s m) (ltb (s .chunks) (touchedCount 0 (length calldata)))
+    where
+      out : Bool → Bool → Bool → Outcome Value
+      out x y z = cond x (refused 1) (cond (not y) (refused 2) (cond z (refused 10) (done nothing)))
+
+      go : (x y z : Bool) → numbered (refusals.numberOf (out x y z)) nothing ≡ out x y z
+      go true y z = refl
+      go false false z = refl
+      go false true true = refl
+      go false true false = refl
+
+  opens : (r : Answer) (m' : Mem) → Same m m' → OpenDoes m s calldata (told r) m' → Step m (Open s calldata) (told r) m'
+  opens r m' l d =
+      did-open
+      (record {
+        lifetimes = ([], ([], ([], ([], ([], tt)))));
+        args = (ref (m .bytes), (ref (m .keys), (ref (m .order), (ref (m .words), (s .layout, (s .chunks, (s .pages, (s .room, (ref calldata, tt)))))))));
+        result = r;
+        last = (m' .bytes, (m' .keys, (m' .order, (m' .words, (tt, (tt, (tt, (tt, (tt, tt)))))))));
+        asked = tt;
+        kept = (l .bytes, (l .keys, (l .order, (l .words, (tt, (tt, (tt, (tt, (tt, tt)))))))));
+        ensures = d;
+      })
+
+  size-same : {v : View} {m' : Mem} → OpenAsks s m → Shows s v m' → Same m m'
+  size-same {v} {m'} asks h =
+      let b = h .formed .lengths in
+      let c : slotCount (m' .words) ≡ s .chunks = ap (λ (t : Setting). t .chunks) (h .setting) in
+      let p : pageCount (m' .words) ≡ s .pages = ap (λ (t : Setting). t .pages) (h .setting) in
+      let r : journalRoom (m' .words) ≡ s .room = ap (λ (t : Setting). t .room) (h .setting) in
+      let b₁ = b .in-bytes in
+      let b₂ = b .in-keys in
+      let b₃ = b .in-order in
+      let b₄ = b .in-words in
+      let a₁ = asks .sizes .in-bytes in
+      let a₂ = asks .sizes .in-keys in
+      let a₃ = asks .sizes .in-order in
+      let a₄ = asks .sizes .in-words in
+      record { bytes = omega arith; keys = omega arith; order = omega arith; words = omega arith }
+
+  pub can-open : Goes m (Open s calldata) result
+  can-open = go (refusals.numberOf result) number-is
+    where
+      go : (n : ℕ) → numbered n nothing ≡ result → Goes m (Open s calldata) result
+      go zero e =
+          let asks = open-asks nothing s m (length calldata) 0 e refl in
+          let t = started-there s m asks (head-width s (m .words) (narrow .statics) (narrow .calldata) (narrow .heap) (narrow .aux) (narrow .base) (narrow .stride)) in
+          let q = calldata-asks nothing s m (length calldata) 0 e refl (t .memory) (t .shows) in
+          let u = calldata-there (t .memory) (s .layout .calldata .0) calldata q in
+          let d = open-done nothing s m calldata 0 e refl (t .memory) (u .memory) (t .shows) (u .shows) in
+          let l = size-same asks (d .changed (ap carriedOut (sym (d .answer)))) in
+          record { after = u .memory; step = subst (λ (o : Outcome Value). Step m (Open s calldata) o (u .memory)) (d .answer) (opens Done (u .memory) l d) }
+      go (suc n) e =
+          let d = open-refused nothing s m calldata (suc n) e (λ z. omega arith) in
+          record { after = m; step = subst (λ (o : Outcome Value). Step m (Open s calldata) o m) (d .answer) (opens (Refused (suc n)) m (same m) d) }

@@ -1,0 +1,10 @@
+-- Contracts: what the contracts say of a step. Theorem: the demand, with no hypothesis left. Next: after every list every call can come next,
+-- by Inhabited: every call has a step.
+
+pub mod Contracts
+pub mod Theorem
+pub mod Inserts
+pub mod Reach
+pub mod Writing
+pub mod Inhabited
+pub mod Next

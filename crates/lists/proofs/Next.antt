@@ -1,0 +1,83 @@
+-- After every list every call can come next, with the outcome that the setting and the plain map give: the claim speaks of all lists of calls, and
+-- no contract stops one.
+-- Assumes nothing.
+use mathlib.Core.Path.{_≡_, ap, _∙_, subst}
+use mathlib.Core.Bool.{Bool, true, cond, not}
+use mathlib.Core.List.{[]}
+use Prim.Native.Nat.{ℕ, _≤_}
+use lib.ListN.{length, replicate, length-replicate}
+use Rattle.outcome.specs.Outcome.{Outcome, refused, done, firstOf}
+use Rattle.store.specs.Mem.{Mem}
+use Rattle.formed.specs.Formed.{wellFormed}
+use Rattle.formed.proofs.Meaning.{well-formed-passes}
+use Rattle.view.specs.View.{View, Setting, settingOf, viewOf}
+use Rattle.view.specs.Checks.{openingChecks, lengthsRight}
+use Rattle.view.specs.Does.{Shows}
+use Rattle.view.specs.Calls.{Call, Value, Open, Allocate, ReadWord, ReadPartial, ReadRange, ReadByte, DynamicLength, WriteWord, WriteBytes, Lookup, LookupCheck, Snapshot, Rollback, DeleteHistory, nothing, bytes, shown, sameLengths, outcomeOf, answerOf}
+use Rattle.plain.specs.Plain.{Plain, seen}
+use Rattle.plain.specs.Claim.{Started, Run, Any}
+use Rattle.lists.specs.Steps.{Step}
+use Rattle.lists.proofs.Theorem.{theorem}
+use Rattle.lists.proofs.Inhabited.{Answers, Goes, Narrow, can-open, can-allocate-with, can-read-word, can-read-partial, can-read-range, can-read-byte, can-tell-length, can-write-word, can-write-bytes, can-look-up, can-check, can-snapshot, can-roll-back, can-delete}
+
+-- what the types of the code's arguments ask of a call that can change the memory: pages, addresses and a layout's numbers have 32 bits
+abbrev pub Fits : Call → Type 0
+Fits (Open s calldata) = Narrow s
+Fits (Allocate p bs) = p ≤ 4294967295
+Fits (ReadWord p a) = Unit {0}
+Fits (ReadPartial p x y) = Unit {0}
+Fits (ReadRange p x y n) = Unit {0}
+Fits (ReadByte p a) = Unit {0}
+Fits DynamicLength = Unit {0}
+Fits (WriteWord p a n) = (p ≤ 4294967295) × (a ≤ 4294967295)
+Fits (WriteBytes p a bs) = (p ≤ 4294967295) × (a ≤ 4294967295)
+Fits (Lookup p k z) = Unit {0}
+Fits (LookupCheck p k z) = Unit {0}
+Fits Snapshot = Unit {0}
+Fits (Rollback heap aux) = Unit {0}
+Fits DeleteHistory = Unit {0}
+
+module _ {s : Setting} {v : View} {m : Mem} (h : Shows s v m) where
+  formed : wellFormed m ≡ true
+  formed = well-formed-passes m (h .formed)
+
+  outcome-is : (c : Call) → outcomeOf (settingOf m) c (viewOf m) ≡ outcomeOf s c v
+  outcome-is c = ap (λ (t : Setting). outcomeOf t c (viewOf m)) (h .setting) ∙ ap (outcomeOf s c) (h .view)
+
+  answer-is : (c : Call) → answerOf m c ≡ outcomeOf s c v
+  answer-is c = ap (λ (b : Bool). cond (not b) (refused 3) (outcomeOf (settingOf m) c (viewOf m))) formed ∙ outcome-is c
+
+  lengths-are : (t : Setting) → lengthsRight t m ≡ sameLengths t s
+  lengths-are t = let n = h .formed .lengths in rw (n .in-bytes, n .in-keys, n .in-order, n .in-words) (ap (sameLengths t) (h .setting))
+
+  so : (c : Call) (o o' : Outcome Value) → o ≡ o' → Goes m c o → Goes m c o'
+  so c o o' e g = record { after = g .after; step = subst (λ (x : Outcome Value). Step m c x (g .after)) e (g .step) }
+
+  changes : (c : Call) → Goes m c (answerOf m c) → Goes m c (outcomeOf s c v)
+  changes c g = so c (answerOf m c) (outcomeOf s c v) (answer-is c) g
+
+  reads : (c : Call) → Answers c → Goes m c (outcomeOf s c v)
+  reads c a = changes c (record { after = m; step = a m })
+
+  pub goes-on : (c : Call) → Fits c → Goes m c (outcomeOf s c v)
+  goes-on (Open t calldata) f =
+      so (Open t calldata) (firstOf (openingChecks t (lengthsRight t m) (length calldata)) (done nothing)) (outcomeOf s (Open t calldata) v)
+      (ap (λ (b : Bool). firstOf (openingChecks t b (length calldata)) (done nothing)) (lengths-are t)) (can-open t calldata f m)
+  goes-on (Allocate p bs) f = changes (Allocate p bs) (can-allocate-with p f bs m)
+  goes-on (ReadWord p a) f = reads (ReadWord p a) (can-read-word p a)
+  goes-on (ReadPartial p x y) f = reads (ReadPartial p x y) (can-read-partial p x y)
+  goes-on (ReadRange p x y n) f = reads (ReadRange p x y n) (subst (λ (k : ℕ). Answers (ReadRange p x y k)) (length-replicate n 0) (can-read-range p x y (replicate n 0)))
+  goes-on (ReadByte p a) f = reads (ReadByte p a) (can-read-byte p a)
+  goes-on DynamicLength f = reads DynamicLength can-tell-length
+  goes-on (WriteWord p a n) f = changes (WriteWord p a n) (can-write-word p a (f .0) (f .1) n m)
+  goes-on (WriteBytes p a bs) f = changes (WriteBytes p a bs) (can-write-bytes p a (f .0) (f .1) bs m)
+  goes-on (Lookup p k z) f =
+      so (Lookup p k z) (done (bytes (cond (wellFormed m) (shown (viewOf m) p k z) []))) (outcomeOf s (Lookup p k z) v)
+      (ap (λ (b : Bool). done (bytes (cond b (shown (viewOf m) p k z) []))) formed ∙ outcome-is (Lookup p k z)) (record { after = m; step = can-look-up p k z m })
+  goes-on (LookupCheck p k z) f = reads (LookupCheck p k z) (can-check p k z)
+  goes-on Snapshot f = reads Snapshot can-snapshot
+  goes-on (Rollback heap aux) f = changes (Rollback heap aux) (can-roll-back heap aux m)
+  goes-on DeleteHistory f = changes DeleteHistory (can-delete m)
+
+pub next : {s : Setting} {start m : Mem} {p₀ p : Plain} → Started Step s start p₀ → Run Step Any s start p₀ m p → (c : Call) → Fits c → Goes m c (outcomeOf s c (seen s p))
+next b r c f = goes-on (theorem .lists b r .shows) c f

@@ -1,0 +1,46 @@
+-- THE THEOREM about every list of calls of the code.
+-- Assumes nothing.
+use Rattle.opening.proofs.open.Met as open-met
+use Rattle.reads.proofs.read_u256.Met as word-met
+use Rattle.reads.proofs.read_u256_partially.Met as partial-met
+use Rattle.reads.proofs.read_range_big_endian.Met as range-met
+use Rattle.reads.proofs.read_byte.Met as byte-met
+use Rattle.reads.proofs.dynamic_len.Met as length-met
+use Rattle.reads.proofs.snapshot.Met as snapshot-met
+use Rattle.reads.proofs.chunk.Met as chunk-met
+use Rattle.reads.proofs.chunk_check.Met as check-met
+use Rattle.writes.proofs.write_u256.Met as write-met
+use Rattle.writes.proofs.write_bytes.Met as put-met
+use Rattle.writes.proofs.allocate_at.Met as allocate-met
+use Rattle.writes.proofs.allocate_with_content_at.Met as fill-met
+use Rattle.history.proofs.rollback.Met as rollback-met
+use Rattle.history.proofs.delete_history.Met as delete-met
+use Rattle.plain.specs.Claim.{Claim}
+use Rattle.plain.proofs.Theorem.{claim}
+use Rattle.lists.specs.Steps.{Step}
+use Rattle.lists.specs.Demand.{Demand}
+use Rattle.lists.proofs.Contracts.{contracts}
+
+pub theorem : Claim Step
+theorem = claim Step contracts
+
+-- the whole demand: no hypothesis is left
+pub demand : Demand
+demand = record {
+  «open» = λ {M}. open-met.met {M = M};
+  «read_u256» = λ {M}. word-met.met {M = M};
+  «read_u256_partially» = λ {M}. partial-met.met {M = M};
+  «read_range_big_endian» = λ {M}. range-met.met {M = M};
+  «read_byte» = λ {M}. byte-met.met {M = M};
+  «dynamic_len» = λ {M}. length-met.met {M = M};
+  chunk = λ {M}. chunk-met.met {M = M};
+  «chunk_check» = λ {M}. check-met.met {M = M};
+  snapshot = λ {M}. snapshot-met.met {M = M};
+  «write_u256» = λ {M}. write-met.met {M = M};
+  «write_bytes» = λ {M}. put-met.met {M = M};
+  «allocate_at» = λ {M}. allocate-met.met {M = M};
+  «allocate_with_content_at» = λ {M}. fill-met.met {M = M};
+  rollback = λ {M}. rollback-met.met {M = M};
+  «delete_history» = λ {M}. delete-met.met {M = M};
+  claim = theorem;
+}

@@ -1,0 +1,186 @@
+-- One call of each public function, as the function's proved contract tells it to whoever calls it. Nothing here restates a contract:
+-- `Asked` and `Learnt` are what `rattle check` reads in the function's own clauses, and `met` (Demand) is its theorem.
+-- Assumes nothing.
+use mathlib.Core.List.{List, []}
+use Prim.Native.Nat.{ℕ}
+use lib.ListN.{length}
+use borrow.Fn.Kind.{PK, RK}
+use borrow.Fn.Kinds.{In, Out, Dens, resT, endedOf, stays}
+use contract.Lifetimes.{Lfts}
+use denote.Triple.Clauses.{Lasts, AtExit, atExit}
+use denote.Triple.Walked.{Fit}
+use denote.Ref.{RefT, now}
+use Rattle.outcome.specs.Outcome as outcomes
+use Rattle.outcome.specs.Outcome.{Outcome, done}
+use Rattle.store.specs.Mem.{Mem, mem}
+use Rattle.word.specs.Value.{value}
+use Rattle.view.specs.Calls.{Call, Value, Open, Allocate, WriteWord, WriteBytes, ReadWord, ReadPartial, ReadRange, ReadByte, DynamicLength, Lookup, LookupCheck, Snapshot, Rollback, DeleteHistory, nothing, number, bytes, told}
+use Rattle.opening.specs.Opening.{setting}
+use Rattle.reads.specs.Calls.{toldByte, toldLength, toldMarks, valued, marked}
+use Rattle.reads.specs.Calls as reads
+use Rattle.opening.proofs.open.Kinds as open-kinds
+use Rattle.opening.proofs.open.Reads as open-reads
+use Rattle.reads.proofs.read_u256.Kinds as word-kinds
+use Rattle.reads.proofs.read_u256.Reads as word-reads
+use Rattle.reads.proofs.read_u256_partially.Kinds as partial-kinds
+use Rattle.reads.proofs.read_u256_partially.Reads as partial-reads
+use Rattle.reads.proofs.read_range_big_endian.Kinds as range-kinds
+use Rattle.reads.proofs.read_range_big_endian.Reads as range-reads
+use Rattle.reads.proofs.read_byte.Kinds as byte-kinds
+use Rattle.reads.proofs.read_byte.Reads as byte-reads
+use Rattle.reads.proofs.dynamic_len.Kinds as length-kinds
+use Rattle.reads.proofs.dynamic_len.Reads as length-reads
+use Rattle.reads.proofs.snapshot.Kinds as snapshot-kinds
+use Rattle.reads.proofs.snapshot.Reads as snapshot-reads
+use Rattle.reads.proofs.chunk.Kinds as chunk-kinds
+use Rattle.reads.proofs.chunk.Reads as chunk-reads
+use Rattle.reads.proofs.chunk_check.Kinds as check-kinds
+use Rattle.reads.proofs.chunk_check.Reads as check-reads
+use Rattle.writes.proofs.write_u256.Kinds as write-kinds
+use Rattle.writes.proofs.write_u256.Reads as write-reads
+use Rattle.writes.proofs.write_bytes.Kinds as put-kinds
+use Rattle.writes.proofs.write_bytes.Reads as put-reads
+use Rattle.writes.proofs.allocate_at.Kinds as allocate-kinds
+use Rattle.writes.proofs.allocate_at.Reads as allocate-reads
+use Rattle.writes.proofs.allocate_with_content_at.Kinds as fill-kinds
+use Rattle.writes.proofs.allocate_with_content_at.Reads as fill-reads
+use Rattle.history.proofs.rollback.Kinds as rollback-kinds
+use Rattle.history.proofs.rollback.Reads as rollback-reads
+use Rattle.history.proofs.delete_history.Kinds as delete-kinds
+use Rattle.history.proofs.delete_history.Reads as delete-reads
+
+-- a call of a function that takes ps and answers an r, asks P and tells Q: the logic's own record `borrow.Author.Called`, which a
+-- caller's proof is handed, without the caller's locals
+pub record Went {n : ℕ} (ps : List (PK n)) (r : RK n) (P : In n ps) (Q : Out n ps r) : Type 0 where
+  pub lifetimes : Lfts n
+  pub args : Dens lifetimes ps
+  pub result : resT r lifetimes .Denot
+  pub last : Lasts (endedOf n ps r) lifetimes args
+  pub asked : P lifetimes args
+  pub kept : Fit (endedOf n ps r) (stays ps) lifetimes args last
+  pub ensures : Q lifetimes args result (atExit (endedOf n ps r) lifetimes args last)
+
+-- the parameters at exit
+abbrev pub exits : {n : ℕ} {ps : List (PK n)} {r : RK n} {P : In n ps} {Q : Out n ps r} (w : Went ps r P Q) → AtExit (endedOf n ps r) (w .lifetimes)
+exits {n} {ps} {r} w = atExit (endedOf n ps r) (w .lifetimes) (w .args) (w .last)
+
+-- the four lent buffers, which every function takes first
+abbrev pub Lent : Type 0 → Type 0
+Lent X = RefT (List ℕ) × (RefT (List ℕ) × (RefT (List ℕ) × (RefT (List ℕ) × X)))
+
+abbrev pub lent : {X : Type 0} → Lent X → Mem
+lent a = mem (now (a .0)) (now (a .1 .0)) (now (a .1 .1 .0)) (now (a .1 .1 .1 .0))
+
+-- what else the caller chooses
+abbrev pub rest : {X : Type 0} → Lent X → X
+rest a = a .1 .1 .1 .1
+
+-- THE STEPS: a constructor for each function
+pub data Step : Mem → Call → Outcome Value → Mem → Type 0 where
+  did-open :
+      (w : Went open-kinds.ps open-kinds.r open-reads.Asked open-reads.Learnt) →
+      Step
+      (lent (w .args))
+      (Open (setting (rest (w .args) .0) (rest (w .args) .1 .0) (rest (w .args) .1 .1 .0) (rest (w .args) .1 .1 .1 .0)) (now (rest (w .args) .1 .1 .1 .1 .0)))
+      (told (w .result))
+      (lent (exits w))
+  did-read-word :
+      (w : Went word-kinds.ps word-kinds.r word-reads.Asked word-reads.Learnt) →
+      Step
+      (lent (w .args))
+      (ReadWord (rest (w .args) .0 .0) (rest (w .args) .1 .0 .0))
+      (valued number (reads.told (w .result)))
+      (lent (exits w))
+  did-read-partial :
+      (w : Went partial-kinds.ps partial-kinds.r partial-reads.Asked partial-reads.Learnt) →
+      Step
+      (lent (w .args))
+      (ReadPartial (rest (w .args) .0 .0) (rest (w .args) .1 .0 .0) (rest (w .args) .1 .1 .0 .0))
+      (valued number (reads.told (w .result)))
+      (lent (exits w))
+  -- the value is what the output holds after the call
+  did-read-range :
+      (w : Went range-kinds.ps range-kinds.r range-reads.Asked range-reads.Learnt) →
+      Step
+      (lent (w .args))
+      (ReadRange (rest (w .args) .0 .0) (rest (w .args) .1 .0 .0) (rest (w .args) .1 .1 .0 .0) (length (now (rest (w .args) .1 .1 .1 .0))))
+      (valued (λ _. bytes (now (rest (exits w) .1 .1 .1 .0))) (outcomes.told (w .result)))
+      (lent (exits w))
+  did-read-byte :
+      (w : Went byte-kinds.ps byte-kinds.r byte-reads.Asked byte-reads.Learnt) →
+      Step
+      (lent (w .args))
+      (ReadByte (rest (w .args) .0 .0) (rest (w .args) .1 .0 .0))
+      (valued number (toldByte (w .result)))
+      (lent (exits w))
+  did-dynamic-length :
+      (w : Went length-kinds.ps length-kinds.r length-reads.Asked length-reads.Learnt) →
+      Step
+      (lent (w .args))
+      DynamicLength
+      (valued number (toldLength (w .result)))
+      (lent (exits w))
+  -- a lookup shows a part, and its check says whether it is refused
+  did-lookup :
+      (w : Went chunk-kinds.ps chunk-kinds.r chunk-reads.Asked chunk-reads.Learnt) →
+      Step
+      (lent (w .args))
+      (Lookup (rest (w .args) .0 .0) (rest (w .args) .1 .0) (now (rest (w .args) .1 .1 .0)))
+      (done (bytes (now (w .result))))
+      (lent (exits w))
+  did-lookup-check :
+      (w : Went check-kinds.ps check-kinds.r check-reads.Asked check-reads.Learnt) →
+      Step
+      (lent (w .args))
+      (LookupCheck (rest (w .args) .0 .0) (rest (w .args) .1 .0) (now (rest (w .args) .1 .1 .0)))
+      (valued (λ _. nothing) (outcomes.told (w .result)))
+      (lent (exits w))
+  did-snapshot :
+      (w : Went snapshot-kinds.ps snapshot-kinds.r snapshot-reads.Asked snapshot-reads.Learnt) →
+      Step
+      (lent (w .args))
+      Snapshot
+      (valued marked (toldMarks (w .result)))
+      (lent (exits w))
+  did-write-word :
+      (w : Went write-kinds.ps write-kinds.r write-reads.Asked write-reads.Learnt) →
+      Step
+      (lent (w .args))
+      (WriteWord (rest (w .args) .0 .0) (rest (w .args) .1 .0 .0) (value (rest (w .args) .1 .1 .0 .limbs)))
+      (told (w .result))
+      (lent (exits w))
+  did-write-bytes :
+      (w : Went put-kinds.ps put-kinds.r put-reads.Asked put-reads.Learnt) →
+      Step
+      (lent (w .args))
+      (WriteBytes (rest (w .args) .0 .0) (rest (w .args) .1 .0 .0) (now (rest (w .args) .1 .1 .0)))
+      (told (w .result))
+      (lent (exits w))
+  did-allocate :
+      (w : Went allocate-kinds.ps allocate-kinds.r allocate-reads.Asked allocate-reads.Learnt) →
+      Step
+      (lent (w .args))
+      (Allocate (rest (w .args) .0 .0) [])
+      (told (w .result))
+      (lent (exits w))
+  did-allocate-with :
+      (w : Went fill-kinds.ps fill-kinds.r fill-reads.Asked fill-reads.Learnt) →
+      Step
+      (lent (w .args))
+      (Allocate (rest (w .args) .0 .0) (now (rest (w .args) .1 .0)))
+      (told (w .result))
+      (lent (exits w))
+  did-rollback :
+      (w : Went rollback-kinds.ps rollback-kinds.r rollback-reads.Asked rollback-reads.Learnt) →
+      Step
+      (lent (w .args))
+      (Rollback (rest (w .args) .0) (rest (w .args) .1 .0))
+      (told (w .result))
+      (lent (exits w))
+  did-delete-history :
+      (w : Went delete-kinds.ps delete-kinds.r delete-reads.Asked delete-reads.Learnt) →
+      Step
+      (lent (w .args))
+      DeleteHistory
+      (told (w .result))
+      (lent (exits w))

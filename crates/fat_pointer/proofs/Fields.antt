@@ -7,7 +7,6 @@ use native.Mathlib.Nat.{mod-add-div, div-div-eq-div-mul, mod-eq-sub-mul-div, mul
 use Rattle.word.specs.Value.{limbsValue}
 use Rattle.fat_pointer.specs.Pointer.{pointerOf, numberOf}
 use Rattle.fat_pointer.specs.declared.FatPointer.{FatPointer}
-use Rattle.page_ids.specs.declared.PageId.{PageId}
 
 -- the low and the high field of a limb are those of every word whose lowest limb it is
 low-field : (a h : ℕ) → a % 2 ^ 32 ≡ (a + 2 ^ 64 * h) % 2 ^ 32

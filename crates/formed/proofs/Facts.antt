@@ -1,6 +1,6 @@
 -- The facts of a well-formed memory, each said once: the form in which a step shows that it keeps a memory well formed.
 -- Assumes nothing.
-use mathlib.Core.Path.{_≡_, refl, sym, ap, _∙_}
+use mathlib.Core.Path.{_≡_, sym, _∙_}
 use mathlib.Core.Logic.{⊎-elim}
 use mathlib.Core.List.{List}
 use mathlib.Core.Bool.{true, not, _&&_}
@@ -13,10 +13,10 @@ use Rattle.page_ids.specs.Decode.{badLayout}
 use Rattle.index.specs.Index.{all, indexed}
 use Rattle.index.proofs.Logic.{and-both, same-or-not, lt-or-ge}
 use Rattle.index.proofs.All.{all-intro}
-use Rattle.store.specs.Mem.{Mem, layoutOf, slotCount, pageCount, journalRoom, journalLength, heldNow, inUse, dynamicLength, holders, entries, slotOrder, pageOrder, chunks}
+use Rattle.store.specs.Mem.{Mem, layoutOf, slotCount, journalRoom, journalLength, heldNow, inUse, dynamicLength, holders, entries, slotOrder, pageOrder, chunks}
 use Rattle.formed.specs.Pages.{LayoutRule, dynamic, group, journalCount, journalPlace}
 use Rattle.formed.specs.Parts.{keyOf}
-use Rattle.formed.specs.Formed.{zeros, chunk, slotAt, sized, narrow, headRight, entryRight, noted, journalOf, contents, wellFormed}
+use Rattle.formed.specs.Formed.{chunk, slotAt, sized, narrow, headRight, entryRight, noted, journalOf, contents, wellFormed}
 use Rattle.formed.specs.WellFormed.{holder, keyEntry, keyChunk, slotByte, Lengths, NotedRight}
 use Rattle.formed.proofs.Bools.{or-left}
 use Rattle.formed.proofs.Sizes.{sized-test, holders-long, narrow-test}

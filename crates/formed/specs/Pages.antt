@@ -1,7 +1,7 @@
 -- Which pages there are in a layout.
 -- Assumes nothing.
 use mathlib.Core.Path.{_≡_}
-use mathlib.Core.Bool.{Bool, true, false}
+use mathlib.Core.Bool.{Bool, false}
 use Prim.Native.Nat.{ℕ, zero, suc, _-_, _/_, _<_, _≤_}
 use lib.Dec.{leb, ltb}
 use Rattle.page_ids.specs.Decode.{Page, none, page, decoded}

@@ -9,7 +9,7 @@ use native.Mathlib.Numerals.{add-one}
 use native.Mathlib.Omega.{arith}
 use lib.ListN.{length, getD, drop, set, List·getD-eq-default}
 use lib.Seq.{drop-cons, drop-length, getD-set-other, getD-set-same, set-set, set-getD, set-out}
-use Rattle.index.specs.Index.{all, keyAt, usedCount, freeCount, Listed}
+use Rattle.index.specs.Index.{keyAt, usedCount, freeCount, Listed}
 use Rattle.index.proofs.Logic.{same-or-not, lt-or-ge}
 
 -- the count, along a loop

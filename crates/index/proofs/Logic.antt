@@ -33,9 +33,6 @@ below (no q) = inr (le-of-not-lt q)
 pub lt-or-ge : (a b : ℕ) → (a < b) ⊎ (b ≤ a)
 lt-or-ge a b = below (decLt a b)
 
-pub and-false-left : (a b : Bool) → a ≡ false → (a && b) ≡ false
-and-false-left a b e = rw e
-
 pub and-false-right : (a b : Bool) → b ≡ false → (a && b) ≡ false
 and-false-right a b e = rw e (and-false a)
 

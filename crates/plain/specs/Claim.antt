@@ -6,12 +6,12 @@ use mathlib.Core.Bool.{true, false}
 use mathlib.Core.List.{List}
 use Prim.Native.Nat.{ℕ, _+_, _≤_, _<_}
 use lib.ListN.{length}
-use Rattle.outcome.specs.Outcome.{Outcome, refused, done, carriedOut, firstOf}
+use Rattle.outcome.specs.Outcome.{Outcome, done, carriedOut, firstOf}
 use Rattle.store.specs.Mem.{Mem, slotCount}
 use Rattle.formed.specs.Pages.{journalCount, journalPage}
 use Rattle.formed.specs.Parts.{byteAt, holds, allocated, pool}
 use Rattle.formed.specs.WellFormed.{Pooled, slotByte}
-use Rattle.view.specs.View.{View, Setting, settingOf, viewOf}
+use Rattle.view.specs.View.{View, Setting}
 use Rattle.view.specs.Steps.{opened}
 use Rattle.view.specs.Checks.{openingChecks, lengthsRight}
 use Rattle.view.specs.Does.{Shows, Does}

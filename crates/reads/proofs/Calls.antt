@@ -14,7 +14,7 @@ use Rattle.formed.proofs.Meaning.{well-formed-means}
 use Rattle.view.specs.View.{settingOf, viewOf}
 use Rattle.view.specs.Steps.{run}
 use Rattle.view.specs.Checks.{onMemory, partialChecks, rangeChecks, lookupChecks}
-use Rattle.view.specs.Calls.{Call, Value, ReadWord, ReadPartial, ReadRange, ReadByte, DynamicLength, Lookup, LookupCheck, Snapshot, nothing, number, lengths, bytes, padded, shown, outcomeOf, nextOf, answerOf, CallDoes}
+use Rattle.view.specs.Calls.{Call, Value, ReadWord, ReadPartial, ReadRange, ReadByte, DynamicLength, Lookup, LookupCheck, Snapshot, nothing, number, bytes, padded, shown, outcomeOf, nextOf, answerOf, CallDoes}
 use Rattle.reads.specs.Calls.{valued, marked, RangeDoes}
 
 module _ {A : Type 0} (f : A → Value) (m : Mem) (a : A) where

@@ -11,7 +11,7 @@ use Rattle.formed.specs.Pages.{journalCount}
 use Rattle.view.specs.View.{View, Setting}
 use Rattle.view.specs.Steps.{missing}
 use Rattle.view.specs.Checks.{Check, overfull}
-use Rattle.view.specs.Calls.{Value, nothing}
+use Rattle.view.specs.Calls.{Value}
 use Rattle.room.specs.Refusals.{numberOf, number, roomFor}
 
 -- a check that holds gives its number; one that does not leaves it to the rest

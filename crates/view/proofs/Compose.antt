@@ -1,20 +1,20 @@
 -- A write is made of the inner steps: the page is allocated, its chunks held, the words journalled, the bytes put.
 -- Assumes nothing.
-use mathlib.Core.Path.{_≡_, refl, sym, ap, _∙_, subst}
+use mathlib.Core.Path.{_≡_, refl, sym, ap, _∙_}
 use mathlib.Core.Bool.{Bool, true, false, cond, _&&_, _||_}
-use mathlib.Core.List.{List, [], _∷_, _++_, append-nil}
+use mathlib.Core.List.{List, [], _++_, append-nil}
 use mathlib.Core.Logic.{⊎-elim}
-use Prim.Native.Nat.{ℕ, zero, suc, _+_, _-_, _/_, _<_, _≤_, zero-le, suc-le-suc}
+use Prim.Native.Nat.{ℕ, zero, suc, _+_, _-_, _/_, _<_, _≤_, zero-le}
 use native.Mathlib.Omega.{arith}
 use lib.Dec.{leb, ltb, eqb}
 use lib.ListN.{length, getD}
-use borrow.Author.Tests.{lt-ltb, le-ltb, le-leb, lt-leb, eq-eqb, ne-eqb, eqb-true}
-use Rattle.index.proofs.Logic.{and-left, and-right, same-or-not, lt-or-ge}
+use borrow.Author.Tests.{lt-ltb, le-ltb, le-leb, lt-leb, eq-eqb, ne-eqb}
+use Rattle.index.proofs.Logic.{same-or-not, lt-or-ge}
 use Rattle.formed.specs.Pages.{LayoutRule, journalCount, journalPage}
 use Rattle.formed.specs.Parts.{Note}
 use Rattle.page_ids.specs.declared.Layout.{Layout}
 use Rattle.view.specs.View.{View}
-use Rattle.view.specs.Steps.{over, touches, touchedCount, missing, needs, journalled, written}
+use Rattle.view.specs.Steps.{over, touches, touchedCount, missing, journalled, written}
 use Rattle.view.specs.Inner.{holding, noting, journalling, putting}
 use Rattle.view.proofs.Equal.{view-by}
 

@@ -1,7 +1,7 @@
 -- Which refusal a call gets. Each list names the conditions that concern a call, in the order of 01's table; `firstOf` decides.
 -- Assumes nothing.
 use mathlib.Core.Bool.{Bool, true, false, not, _&&_, _||_}
-use mathlib.Core.List.{List, [], _∷_, _++_}
+use mathlib.Core.List.{List, [], _∷_}
 use Prim.Native.Nat.{ℕ, zero, suc, _+_, _*_, _-_, _^_}
 use lib.Dec.{ltb, leb, eqb}
 use lib.ListN.{length}
@@ -10,7 +10,7 @@ use Rattle.page_ids.specs.Decode.{Page, none, page, badLayout, decoded}
 use Rattle.store.specs.Mem.{Mem, headLength}
 use Rattle.formed.specs.Pages.{fixed, journalCount}
 use Rattle.formed.specs.Formed.{wellFormed, zeros}
-use Rattle.view.specs.View.{View, Setting, viewOf}
+use Rattle.view.specs.View.{View, Setting}
 use Rattle.view.specs.Steps.{needs, touchedCount, alignedCount, journalled}
 
 -- a condition and the refusal that it means

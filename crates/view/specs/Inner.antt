@@ -1,17 +1,17 @@
 -- The steps that writes, allocations, openings and rollbacks are made of: what each does to the view, and what it asks.
 -- Assumes nothing.
 use mathlib.Core.Path.{_≡_}
-use mathlib.Core.Bool.{Bool, true, false, cond, _&&_, _||_}
-use mathlib.Core.List.{List, [], _∷_, _++_}
-use Prim.Native.Nat.{ℕ, _+_, _*_, _-_, _/_, _<_, _≤_}
+use mathlib.Core.Bool.{true, false, cond, _&&_, _||_}
+use mathlib.Core.List.{List, [], _++_}
+use Prim.Native.Nat.{ℕ, _+_, _-_, _/_, _<_, _≤_}
 use lib.Dec.{leb, ltb, eqb}
 use lib.ListN.{length}
-use Rattle.store.specs.Mem.{Mem, layoutOf, journalRoom, journalLength}
+use Rattle.store.specs.Mem.{Mem, layoutOf, journalRoom}
 use Rattle.formed.specs.Pages.{fixed, dynamic, journalCount, journalPage}
 use Rattle.formed.specs.Parts.{Note}
 use Rattle.page_ids.specs.declared.Layout.{Layout}
 use Rattle.formed.specs.WellFormed.{WellFormed}
-use Rattle.view.specs.View.{View, settingOf, viewOf}
+use Rattle.view.specs.View.{View, viewOf}
 use Rattle.view.specs.Steps.{over, missing, journalled, written}
 
 -- ---- what a step does

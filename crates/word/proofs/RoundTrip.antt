@@ -1,17 +1,14 @@
 -- The round trips. A word's number fixes its limbs, and a number of 32 bytes fixes the bytes: so
 -- `from_big_endian (to_big_endian w)` is w, and `to_big_endian (from_big_endian b)` is b.
 -- Assumes nothing.
-use mathlib.Core.Path.{_≡_, refl, sym, ap, _∙_, subst}
-use mathlib.Core.Bool.{Bool, true, false}
+use mathlib.Core.Path.{_≡_, refl, sym, _∙_, subst}
 use mathlib.Core.List.{List}
-use mathlib.Core.Logic.{_⊎_, inl, inr, ⊎-elim}
+use mathlib.Core.Logic.{_⊎_, ⊎-elim}
 use Prim.Native.Nat.{ℕ, zero, suc, _+_, _*_, _%_, _<_, _≤_, _^_}
 use native.Mathlib.Omega.{arith}
 use native.Mathlib.Nat.{not-suc-le-zero, mod-eq-of-lt, lt-of-lt-of-le}
-use lib.Dec.{ltb}
 use lib.ListN.{length, getD}
-use lib.Seq.{ext-getD}
-use borrow.Author.Tests.{ltb-true, ltb-false}
+use borrow.Author.Tests.{ltb-true}
 use Rattle.word.specs.Value.{value, bytesAt, bigEndian, lastAddress}
 use Rattle.word.proofs.Digits.{Small, last?, same}
 

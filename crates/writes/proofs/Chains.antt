@@ -1,23 +1,22 @@
 -- The steps of a write, one after another.
 -- Assumes nothing.
 use mathlib.Core.Path.{_≡_, refl, sym, ap, _∙_, subst}
-use mathlib.Core.Bool.{Bool, true, false, cond, _&&_, _||_, false≢true}
+use mathlib.Core.Bool.{Bool, true, false, _&&_, _||_, false≢true}
 use mathlib.Core.List.{List, [], _∷_}
-use mathlib.Core.Logic.{⊎-elim}
 use Prim.Native.Nat.{ℕ, zero, suc, _+_, _*_, _-_, _/_, _^_, _<_, _≤_}
 use native.Mathlib.Omega.{arith}
-use lib.Dec.{ltb, leb, eqb}
+use lib.Dec.{ltb, leb}
 use lib.ListN.{length}
-use borrow.Author.Tests.{lt-ltb, le-ltb, le-leb, eq-eqb}
+use borrow.Author.Tests.{lt-ltb, le-leb, eq-eqb}
 use Rattle.word.specs.Value.{wordBytes}
 use Rattle.page_ids.specs.declared.Layout.{Layout}
-use Rattle.store.specs.Mem.{Mem, mem, layoutOf, journalRoom, holders}
-use Rattle.formed.specs.Pages.{fixed, dynamic, journalCount, journalPlace, journalPage}
+use Rattle.store.specs.Mem.{Mem, layoutOf, journalRoom, holders}
+use Rattle.formed.specs.Pages.{journalCount, journalPlace, journalPage}
 use Rattle.formed.specs.Parts.{Note, tab}
 use Rattle.formed.specs.WellFormed.{WellFormed}
 use Rattle.formed.proofs.Pages.{is-fixed, place-lt}
 use Rattle.view.specs.View.{View, Setting, settingOf, viewOf}
-use Rattle.view.specs.Steps.{over, run, needs, missing, touches, touchedCount, alignedCount, wordNotes, alignedNotes, written, wordWritten, bytesWritten, contentsAllocated}
+use Rattle.view.specs.Steps.{run, needs, missing, touchedCount, alignedCount, wordNotes, alignedNotes, written, wordWritten}
 use Rattle.view.specs.Checks.{undecodable}
 use Rattle.view.specs.Does.{Shows}
 use Rattle.view.specs.Inner.{listing, holding, noting, journalling, putting, ListAsks, HoldAsks, NoteAsks, PutAsks}

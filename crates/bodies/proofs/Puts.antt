@@ -9,11 +9,9 @@ use lib.Seq.{take-add, take-all, length-take-le}
 use Rattle.index.specs.Index.{seek}
 use Rattle.index.proofs.Places.{seek-le}
 use Rattle.store.specs.Mem.{Mem, mem, slotCount, entries}
-use Rattle.store.specs.Hold.{Indexed, PagesIndexed}
 use Rattle.formed.specs.Parts.{keyOf, slotOfChunk}
 use Rattle.formed.specs.WellFormed.{HeldAt, WellFormed}
 use Rattle.formed.proofs.Sizes.{entries-long}
-use Rattle.formed.proofs.Meaning.{slots-index, pages-index}
 use Rattle.formed.proofs.Sense.{slot-near, holds-held}
 use Rattle.view.specs.View.{View, Setting, settingOf, viewOf}
 use Rattle.view.specs.Does.{Shows}
@@ -29,18 +27,8 @@ shows-then g one two = record { formed = two .formed; setting = two .setting ∙
 pub shows-view : {s : Setting} {v w : View} {m : Mem} → Shows s v m → v ≡ w → Shows s w m
 shows-view one e = record { formed = one .formed; setting = one .setting; view = one .view ∙ e }
 
--- what the calls on the tables ask
+-- an entry's number is small
 module _ (m : Mem) (f : WellFormed m) where
-  pub slots-asked : Indexed (m .keys) (m .order) (m .words)
-  slots-asked =
-      let l = f .lengths in
-      record { head = let h = l .in-words in omega arith; few = l .slots-hi; in-keys = let h = l .in-keys in omega arith; in-order = let h = l .in-order in omega arith; index = slots-index m f }
-
-  pub pages-asked : PagesIndexed (m .keys) (m .order) (m .words)
-  pages-asked =
-      let l = f .lengths in
-      record { head = let h = l .in-words in omega arith; few = l .slots-hi; in-keys = let h = l .in-keys in omega arith; in-order = let h = l .in-order in omega arith; index = pages-index m f }
-
   pub entry-small : (e k : ℕ) → e ≡ seek (entries m) k → e ≤ 4100
   entry-small e k q =
       let a = seek-le (entries m) k in

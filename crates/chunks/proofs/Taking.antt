@@ -1,6 +1,6 @@
 -- A memory where a chunk was given a slot if it had none: it is well formed, and its view is as before but that the chunk is held.
 -- Assumes nothing.
-use mathlib.Core.Path.{_≡_, refl, sym, ap, _∙_, subst, fun-ext}
+use mathlib.Core.Path.{_≡_, refl, sym, ap, _∙_, subst}
 use mathlib.Core.Logic.{⊎-elim}
 use mathlib.Core.Bool.{true, cond, _&&_, _||_}
 use mathlib.Core.List.{List, []}
@@ -22,6 +22,7 @@ use Rattle.formed.specs.Pages.{LayoutRule, dynamic, group, journalCount, journa
 use Rattle.formed.specs.Parts.{tab, Note, keyOf, entryOf, allocated, slotOfChunk, holds, byteAt, journal, noteAt, noteAddress, noteFirst, noteLast, oldAt}
 use Rattle.formed.specs.WellFormed.{WellFormed, Lengths, NotedRight, holder, keyEntry, keyChunk, slotByte}
 use Rattle.formed.proofs.Sizes.{holders-long, chunks-long}
+use Rattle.formed.proofs.Same.{layout-same, tab-same}
 use Rattle.formed.proofs.Keys.{le-or-gt, in-table}
 use Rattle.formed.proofs.Facts.{Facts, PageRight, SlotRight}
 use Rattle.formed.proofs.Meaning.{facts-of, formed-by}
@@ -86,13 +87,6 @@ module _ (k : ℕ) (keys order words : List ℕ) (ix : Indexed keys order words)
       (λ (l : seek (take (slotCount words) keys) k < slotCount words). let q = h .was l in rw (q .0, q .1, q .2) (took-was l))
       (λ (l : slotCount words ≤ seek (take (slotCount words) keys) k). took-new pos l s keys' order' words' (h .slot) (h .new l))
       (lt-or-ge (seek (take (slotCount words) keys) k) (slotCount words))
-
--- a layout is its six numbers
-pub layout-same : (w w' : List ℕ) → ((i : ℕ) → i < 6 → getD w' i 0 ≡ getD w i 0) → layoutOf w' ≡ layoutOf w
-layout-same w w' h = rw (h 0 (omega arith), h 1 (omega arith), h 2 (omega arith), h 3 (omega arith), h 4 (omega arith), h 5 (omega arith))
-
-pub tab-same : {A : Type 0} (n : ℕ) (f g : ℕ → A) → ((i : ℕ) → f i ≡ g i) → tab n f ≡ tab n g
-tab-same n f g h = ap (tab n) (fun-ext h)
 
 module _ (bytes keys order words keys' order' words' : List ℕ) (f : WellFormed (mem bytes keys order words)) (k : ℕ) (pos : 0 < k)
     (used : 0 < getD (drop (slotCount words) keys) (keyEntry k) 0) (low : keyChunk k ≤ 16777216) (t : Took k keys order words keys' order' words') where

@@ -8,6 +8,7 @@ use native.Mathlib.Omega.{arith}
 use lib.Dec.{ltb}
 use lib.ListN.{length, getD, take}
 use borrow.Author.Tests.{lt-ltb, le-ltb, ltb-true}
+use Rattle.formed.proofs.Asks.{slots-asked}
 use Rattle.index.specs.Index.{seek}
 use Rattle.index.proofs.Places.{seek-hit}
 use Rattle.store.specs.Mem.{Mem, mem, slotCount, heldNow, holders, entries}
@@ -20,7 +21,7 @@ use Rattle.view.specs.View.{View, viewOf, settingOf}
 use Rattle.view.specs.Steps.{missing}
 use Rattle.view.specs.Does.{Shows}
 use Rattle.view.specs.Inner.{holding, HoldAsks}
-use Rattle.chunks.proofs.Asks.{slots-asks, lacks-is}
+use Rattle.chunks.proofs.Asks.{lacks-is}
 use Rattle.chunks.proofs.Ranges.{missing-more, missing-le, next-held, holding-none, holding-more}
 use Rattle.chunks.proofs.Taking.{Took, took, took-shows}
 
@@ -40,7 +41,7 @@ module _ (bytes keys order words : List ℕ) (f : WellFormed (mem bytes keys ord
       omega arith
 
   pub held-took : (s : ℕ) (keys' order' words' : List ℕ) → Held k keys order words s keys' order' words' → Took k keys order words keys' order' words'
-  held-took s keys' order' words' h = took k keys order words (slots-asks m f) (omega arith) s keys' order' words' h
+  held-took s keys' order' words' h = took k keys order words (slots-asked m f) (omega arith) s keys' order' words' h
 
   pub held-shows : (s : ℕ) (keys' order' words' : List ℕ) → Held k keys order words s keys' order' words' → Shows (settingOf m) (holding p n 1 (viewOf m)) (mem bytes keys' order' words')
   held-shows s keys' order' words' h =

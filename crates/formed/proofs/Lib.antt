@@ -11,3 +11,6 @@ pub mod Stages
 pub mod Meaning
 pub mod Sense
 pub mod Examples
+pub mod Same
+pub mod Above
+pub mod Asks

@@ -2,7 +2,7 @@
 -- Assumes nothing.
 use mathlib.Core.Path.{_≡_, sym, ap, _∙_}
 use mathlib.Core.Logic.{_⊎_, inl, inr, ⊎-elim}
-use mathlib.Core.Bool.{true, false}
+use mathlib.Core.Bool.{true, false, false≢true}
 use Prim.Native.Nat.{ℕ, _+_, _*_, _/_, _%_, _≤_, _<_}
 use native.Mathlib.Omega.{arith}
 use lib.Dec.{ltb}
@@ -17,6 +17,7 @@ use Rattle.store.specs.Mem.{Mem, layoutOf, slotCount, pageCount, heldNow, inUse
 use Rattle.formed.specs.Pages.{fixed}
 use Rattle.formed.specs.Parts.{keyOf, entryOf, allocated, entriesLeft, slotOfChunk, holds, pool, byteAt}
 use Rattle.formed.specs.WellFormed.{holder, keyEntry, keyChunk, slotByte, HeldAt, OnePlace, ListedPage, WellFormed}
+use Rattle.formed.proofs.Bools.{refute}
 use Rattle.formed.proofs.Sizes.{holders-long, entries-long, chunks-long}
 use Rattle.formed.proofs.Pages.{is-fixed, fixed-at}
 use Rattle.formed.proofs.Keys.{le-or-gt, in-table, seek-is, key-entry, key-chunk, key-again}
@@ -119,7 +120,7 @@ module _ (m : Mem) (f : WellFormed m) where
       (λ (high : 4 ≤ entryOf m p). inr (record { entry = entryOf m p; there = record { past-fixed = high; there = q } }))
       (lt-or-ge (entryOf m p) 4)
 
-  in-table-allocated : (e p : ℕ) → getD (entries m) e 0 ≡ p + 1 → allocated m p ≡ true
+  pub in-table-allocated : (e p : ℕ) → getD (entries m) e 0 ≡ p + 1 → allocated m p ≡ true
   unfolding allocated
   in-table-allocated e p q =
       let i = in-table (entries m) e (omega arith) in
@@ -135,3 +136,12 @@ module _ (m : Mem) (f : WellFormed m) where
       let q = w .there in
       let v = f .encoded .fixed-four (w .place) (w .small) in
       in-table-allocated (w .place) p (omega arith)
+
+  -- a page that is not allocated holds nothing
+  pub unlisted-holds : (p k : ℕ) → allocated m p ≡ false → holds m p k ≡ false
+  unlisted-holds p k n =
+      sym (refute (holds m p k) (λ h.
+      ⊎-elim
+      (λ (x : fixed (layoutOf (m .words)) p ≡ true). false≢true (sym n ∙ fixed-allocated p x))
+      (λ (x : ListedPage m p). false≢true (sym n ∙ listed-allocated p x))
+      (f .holders-known (slotOfChunk m p k) p k (holds-held p k h))))

@@ -7,3 +7,4 @@ pub mod Orders
 pub mod Places
 pub mod Inserts
 pub mod Meaning
+pub mod Removes

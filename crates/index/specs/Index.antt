@@ -3,7 +3,7 @@
 use mathlib.Core.Path.{_≡_}
 use mathlib.Core.Bool.{Bool, true, cond, _&&_}
 use mathlib.Core.List.{List, [], _∷_}
-use Prim.Native.Nat.{ℕ, zero, suc, _+_, _<_, _≤_}
+use Prim.Native.Nat.{ℕ, zero, suc, _+_, _-_, _<_, _≤_}
 use lib.Dec.{ltb, leb, eqb}
 use lib.ListN.{length, getD}
 
@@ -77,3 +77,21 @@ pub record Insertable (ks os : List ℕ) (n s k : ℕ) : Type 0 where
   pub free : getD ks s 0 ≡ 0
   pub key : 0 < k
   pub new : length ks ≤ seek ks k
+
+-- ks' is ks with the places of the ranks from `from` up to, but without, `to` free
+pub record Cleared (ks os : List ℕ) (from to : ℕ) (ks' : List ℕ) : Type 0 where
+  pub long : length ks' ≡ length ks
+  pub gone : (i : ℕ) → from ≤ i → i < to → keyAt ks' os i ≡ 0
+  pub kept : (s : ℕ) → ((i : ℕ) → from ≤ i → i < to → getD os i 0 ≡ s → ⊥) → getD ks' s 0 ≡ getD ks s 0
+
+-- ds is os with what stands from `from` to n moved down to `at`
+pub record MovedDown (os ds : List ℕ) (at from n : ℕ) : Type 0 where
+  pub long : length ds ≡ length os
+  pub low : (i : ℕ) → i < at → getD ds i 0 ≡ getD os i 0
+  pub high : (j : ℕ) → from ≤ j → j < n → getD ds (at + (j - from)) 0 ≡ getD os j 0
+
+-- those places are free, and the rest is indexed
+pub record Removed (ks os : List ℕ) (n from to : ℕ) (ks' os' : List ℕ) : Type 0 where
+  pub cleared : Cleared ks os from to ks'
+  pub order-long : length os' ≡ length os
+  pub index : indexed ks' os' (n - (to - from)) ≡ true

@@ -2,9 +2,9 @@
 // The table of chunk holders and the table of pages are both of this form.
 ghost use mathlib.Core.Path.{_≡_};
 ghost use mathlib.Core.Bool.{true};
-ghost use Prim.Native.Nat.{_+_, _<_, _≤_};
-ghost use lib.ListN.{length, set};
-ghost use Rattle.index.specs.Index.{all, rises, usedCount, indexed, seek, LowerBound, MovedUp, Insertable};
+ghost use Prim.Native.Nat.{ℕ, _+_, _<_, _≤_};
+ghost use lib.ListN.{length, getD, set};
+ghost use Rattle.index.specs.Index.{all, rises, usedCount, indexed, seek, LowerBound, MovedUp, Insertable, Cleared, MovedDown, Removed};
 
 // How many places are in use.
 fn count_used(keys: &[u64]) -> usize
@@ -57,7 +57,7 @@ pub fn index_ok(keys: &[u64], order: &[u32], n: usize) -> bool
 }
 
 // The first rank whose key is at least k. `base` and `len` bracket it, and `base` moves up by a half or not at all.
-fn rank_below(keys: &[u64], order: &[u32], n: usize, k: u64) -> usize
+pub fn rank_below(keys: &[u64], order: &[u32], n: usize, k: u64) -> usize
     requires { ⌜ (n ≤ length (now order)) × (all (rises (now keys) (now order)) n ≡ true) ⌝ }
     ensures { λ r. ⌜ LowerBound (now (keys .entry)) (now (order .entry)) n k r ⌝ }
 {
@@ -110,4 +110,37 @@ pub fn insert(keys: &mut [u64], order: &mut [u32], n: usize, s: u32, k: u64)
     move_up(order, at, n);
     order[at] = s;
     keys[s as usize] = k;
+}
+
+// Frees the places of the ranks from `from` up to, but without, `to`.
+fn clear(keys: &mut [u64], order: &[u32], from: usize, to: usize)
+    requires { ⌜ (from ≤ to) × (to ≤ length (now order)) × ((i : ℕ) → from ≤ i → i < to → getD (now order) i 0 < length (now keys)) ⌝ }
+    ensures { λ _. ⌜ Cleared (now (keys .entry)) (now (order .entry)) from to (now (keys .exit)) ⌝ }
+{
+    let mut i = from;
+    while i < to {
+        keys[order[i] as usize] = 0;
+        i += 1;
+    }
+}
+
+// Moves what stands from `from` to n down to `at`.
+fn move_down(order: &mut [u32], at: usize, from: usize, n: usize)
+    requires { ⌜ (at ≤ from) × (from ≤ n) × (n ≤ length (now order)) ⌝ }
+    ensures { λ _. ⌜ MovedDown (now (order .entry)) (now (order .exit)) at from n ⌝ }
+{
+    let mut j = from;
+    while j < n {
+        order[at + (j - from)] = order[j];
+        j += 1;
+    }
+}
+
+// Frees the places of the ranks from `from` up to, but without, `to`; those above move down.
+pub fn remove(keys: &mut [u64], order: &mut [u32], n: usize, from: usize, to: usize)
+    requires { ⌜ (indexed (now keys) (now order) n ≡ true) × (from ≤ to) × (to ≤ n) ⌝ }
+    ensures { λ _. ⌜ Removed (now (keys .entry)) (now (order .entry)) n from to (now (keys .exit)) (now (order .exit)) ⌝ }
+{
+    clear(keys, order, from, to);
+    move_down(order, from, to, n);
 }

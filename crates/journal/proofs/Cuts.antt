@@ -23,7 +23,8 @@ use Rattle.view.specs.Does.{Shows}
 use Rattle.view.proofs.Equal.{view-by}
 use Rattle.journal.specs.Words.{notePlace}
 use Rattle.journal.specs.Steps.{cutting}
-use Rattle.journal.proofs.Lists.{tab-same, tab-take}
+use Rattle.formed.proofs.Same.{tab-upto}
+use Rattle.journal.proofs.Lists.{tab-take}
 use Rattle.journal.proofs.Kept.{noteIn, note-same, same-setting, same-view, same-facts, journal-is, journal-same, noted-by}
 use Rattle.journal.proofs.Shown.{shows-then, shows-same, journal-at, journal-none}
 
@@ -80,7 +81,7 @@ module _ (bytes keys order words : List ℕ) (w : WellFormed (mem bytes keys ord
   journal-cut k e =
       journal-is bytes keys order words bytes words' f refl long head (λ b lb. refl) k
       ∙ ap (λ (x : ℕ). tab x (noteIn bytes words' (slotCount words) (journalRoom words) k)) (length-here k e)
-      ∙ tab-same n (noteIn bytes words' (slotCount words) (journalRoom words) k) (noteIn bytes words (slotCount words) (journalRoom words) k) (λ i l. kept-note k i)
+      ∙ tab-upto n (noteIn bytes words' (slotCount words) (journalRoom words) k) (noteIn bytes words (slotCount words) (journalRoom words) k) (λ i l. kept-note k i)
       ∙ sym (tab-take n (journalLength words k) (noteIn bytes words (slotCount words) (journalRoom words) k) (let b : journalLength words k ≡ journalLength words j = ap (λ (x : ℕ). getD words (12 + x) 0) e in omega arith))
 
   view-cut : (k : ℕ) → viewOf m' .journal k ≡ cutting j n (viewOf m) .journal k

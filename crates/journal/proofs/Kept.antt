@@ -18,7 +18,7 @@ use Rattle.formed.proofs.Facts.{Facts, SlotRight, PageRight}
 use Rattle.view.specs.View.{View, settingOf, viewOf}
 use Rattle.view.proofs.Equal.{view-by}
 use Rattle.journal.specs.Words.{notePlace}
-use Rattle.journal.proofs.Lists.{tab-same}
+use Rattle.formed.proofs.Same.{tab-upto}
 
 -- word i of journal j, of a memory with c slots and room for r words in each journal
 abbrev pub noteIn : List ℕ → List ℕ → ℕ → ℕ → ℕ → ℕ → Note
@@ -26,7 +26,7 @@ noteIn bs ws c r j i = record { address = getD ws (16 + 3 * (r * j + i)) 0; old 
 
 -- one address and the same bytes are one note
 pub note-same : (a a' : ℕ) (f g : ℕ → ℕ) → a ≡ a' → ((k : ℕ) → k < 32 → f k ≡ g k) → _≡_ {A = Note} (record { address = a; old = tab 32 f }) (record { address = a'; old = tab 32 g })
-note-same a a' f g e h = let t = tab-same 32 f g h in λ k. record { address = e k; old = t k }
+note-same a a' f g e h = let t = tab-upto 32 f g h in λ k. record { address = e k; old = t k }
 
 module _ (bytes keys order words bytes' words' : List ℕ) (f : Facts (mem bytes keys order words))
     (lb : length bytes' ≡ length bytes) (lw : length words' ≡ length words)
@@ -111,7 +111,7 @@ module _ (bytes keys order words bytes' words' : List ℕ) (f : Facts (mem bytes
   journal-same j e h =
       journal-is j
       ∙ ap (λ (x : ℕ). tab x (noteIn bytes' words' (slotCount words) (journalRoom words) j)) e
-      ∙ tab-same (journalLength words j) (noteIn bytes' words' (slotCount words) (journalRoom words) j) (noteIn bytes words (slotCount words) (journalRoom words) j) h
+      ∙ tab-upto (journalLength words j) (noteIn bytes' words' (slotCount words) (journalRoom words) j) (noteIn bytes words (slotCount words) (journalRoom words) j) h
 
   -- ---- the facts, from those of the journals
   pub noted-by : (j i a s t : ℕ) → getD words' (notePlace words j i) 0 ≡ a → getD words' (notePlace words j i + 1) 0 ≡ s → getD words' (notePlace words j i + 2) 0 ≡ t

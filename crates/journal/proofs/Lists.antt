@@ -18,13 +18,6 @@ tab-is (suc n) f (x ∷ xs) e h =
     let t : xs ≡ tab n (λ i. f (suc i)) = tab-is n (λ i. f (suc i)) xs q (λ i l. h (suc i) (suc-le-suc l)) in
     λ k. h 0 (suc-le-suc zero-le) k ∷ t k
 
-pub tab-same : {A : Type 0} (n : ℕ) (f g : ℕ → A) → ((i : ℕ) → i < n → f i ≡ g i) → tab n f ≡ tab n g
-unfolding tab
-tab-same zero f g h = refl
-tab-same (suc n) f g h =
-    let t : tab n (λ i. f (suc i)) ≡ tab n (λ i. g (suc i)) = tab-same n (λ i. f (suc i)) (λ i. g (suc i)) (λ i l. h (suc i) (suc-le-suc l)) in
-    λ k. h 0 (suc-le-suc zero-le) k ∷ t k
-
 pub tab-snoc : {A : Type 0} (n : ℕ) (f : ℕ → A) → tab (suc n) f ≡ tab n f ++ (f n ∷ [])
 unfolding tab
 tab-snoc zero f = refl

@@ -22,7 +22,8 @@ use Rattle.view.specs.Does.{Shows}
 use Rattle.view.specs.Inner.{noting, NoteAsks}
 use Rattle.journal.specs.Words.{placeIn, Spread, numberOf, oldPlace, noteSet, NoteRoom, NotedAt}
 use Rattle.journal.specs.Steps.{noteOf}
-use Rattle.journal.proofs.Lists.{tab-same, tab-snoc}
+use Rattle.formed.proofs.Same.{tab-upto}
+use Rattle.journal.proofs.Lists.{tab-snoc}
 use Rattle.journal.proofs.Numbers.{number-lt, number-apart}
 use Rattle.journal.proofs.NoteSets.{set-long, set-other, set-length, set-address, set-first, set-last}
 use Rattle.journal.proofs.Kept.{noteIn, note-same, same-setting, same-view, same-facts, journal-is, journal-same, noted-by}
@@ -183,7 +184,7 @@ module _ (bytes keys order words : List ℕ) (j a : ℕ) (asks : NoteAsks (mem b
         ∙ ap (λ (x : ℕ). tab x (noteIn bytes' words' (slotCount words) (journalRoom words) k)) (length-here k e ∙ add-one (journalLength words k))
         ∙ tab-snoc (journalLength words k) (noteIn bytes' words' (slotCount words) (journalRoom words) k)
         ∙ ap (λ (x : List Note). x ++ (noteIn bytes' words' (slotCount words) (journalRoom words) k (journalLength words k) ∷ []))
-        (tab-same (journalLength words k) (noteIn bytes' words' (slotCount words) (journalRoom words) k) (noteIn bytes words (slotCount words) (journalRoom words) k) (λ i li. kept-note k i l li))
+        (tab-upto (journalLength words k) (noteIn bytes' words' (slotCount words) (journalRoom words) k) (noteIn bytes words (slotCount words) (journalRoom words) k) (λ i li. kept-note k i l li))
         ∙ ap (λ (x : ℕ). tab (journalLength words k) (noteIn bytes words (slotCount words) (journalRoom words) k) ++ (noteIn bytes' words' (slotCount words) (journalRoom words) x (journalLength words x) ∷ [])) e
         ∙ ap (λ (x : Note). tab (journalLength words k) (noteIn bytes words (slotCount words) (journalRoom words) k) ++ (x ∷ [])) new-note
 

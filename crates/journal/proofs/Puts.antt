@@ -30,7 +30,8 @@ use Rattle.view.specs.Does.{Shows}
 use Rattle.view.specs.Inner.{putting}
 use Rattle.view.proofs.Equal.{view-by}
 use Rattle.journal.specs.Words.{placeIn, Spread, oldPlace}
-use Rattle.journal.proofs.Lists.{tab-same, tab-long, tab-at}
+use Rattle.formed.proofs.Same.{tab-upto}
+use Rattle.journal.proofs.Lists.{tab-long, tab-at}
 use Rattle.journal.proofs.Kept.{noteIn, note-same}
 use Rattle.journal.proofs.Places.{page-entry}
 use Rattle.journal.proofs.Copies as copies
@@ -228,7 +229,7 @@ module _ (bytes keys order words : List ℕ) (w : WellFormed (mem bytes keys ord
   same-journal : (k : ℕ) → journal m' k ≡ journal m k
   unfolding journal
   same-journal k =
-      tab-same (journalLength words k) (noteIn bytes' words (slotCount words) (journalRoom words) k) (noteIn bytes words (slotCount words) (journalRoom words) k)
+      tab-upto (journalLength words k) (noteIn bytes' words (slotCount words) (journalRoom words) k) (noteIn bytes words (slotCount words) (journalRoom words) k)
       (λ i l. note-same _ _ _ _ refl (λ x lx. past (oldPlace words k i + x) (omega arith)))
 
   same-held : (p k : ℕ) → holds m' p k ≡ holds m p k

@@ -13,9 +13,10 @@ use Rattle.view.specs.View.{View, Setting, settingOf, viewOf}
 use Rattle.view.specs.Does.{Shows, Does}
 use Rattle.view.specs.Calls.{Call, Value, Open, outcomeOf, nextOf, answerOf, CallDoes, OpenDoes}
 use Rattle.reads.proofs.Calls.{word-call, partial-call, range-call, byte-call, length-call, lookup-call, check-call, marks-call}
+use Rattle.lists.proofs.Compares.{left-call, right-call, both-call}
 use Rattle.plain.specs.Claim.{Contracts}
 use Rattle.plain.proofs.Good.{never}
-use Rattle.lists.specs.Steps.{Step, lent, rest, did-open, did-read-word, did-read-partial, did-read-range, did-read-byte, did-dynamic-length, did-lookup, did-lookup-check, did-snapshot, did-write-word, did-write-bytes, did-allocate, did-allocate-with, did-rollback, did-delete-history}
+use Rattle.lists.specs.Steps.{Step, lent, rest, did-open, did-read-word, did-read-partial, did-read-range, did-read-byte, did-dynamic-length, did-lookup, did-lookup-check, did-snapshot, did-write-word, did-write-bytes, did-allocate, did-allocate-with, did-free, did-window, did-truncate, did-compare-left, did-compare-right, did-compare-both, did-rollback, did-delete-history}
 
 -- an opening does its own; any other call, on a well-formed memory, what is shared
 record Meets (m : Mem) (c : Call) (o : Outcome Value) (m' : Mem) : Type 0 where
@@ -49,6 +50,12 @@ does (did-write-word w) = by-call _ (λ s d e. never (cc)) (λ _. w .ensures)
 does (did-write-bytes w) = by-call _ (λ s d e. never (cc)) (λ _. w .ensures)
 does (did-allocate w) = by-call _ (λ s d e. never (cc)) (λ _. w .ensures)
 does (did-allocate-with w) = by-call _ (λ s d e. never (cc)) (λ _. w .ensures)
+does (did-free w) = by-call _ (λ s d e. never (cc)) (λ _. w .ensures)
+does (did-window w) = by-call _ (λ s d e. never (cc)) (λ _. w .ensures)
+does (did-truncate w) = by-call _ (λ s d e. never (cc)) (λ _. w .ensures)
+does (did-compare-left w) = by-call _ (λ s d e. never (cc)) (λ _. left-call (lent (w .args)) (lent (rest (w .args))) _ (w .ensures))
+does (did-compare-right w) = by-call _ (λ s d e. never (cc)) (λ _. right-call (lent (rest (w .args))) (lent (w .args)) _ (w .ensures))
+does (did-compare-both w e) = by-call _ (λ s d e. never (cc)) (λ _. both-call (lent (w .args)) (lent (rest (w .args))) _ e (w .ensures))
 does (did-rollback w) = by-call _ (λ s d e. never (cc)) (λ _. w .ensures)
 does (did-delete-history w) = by-call _ (λ s d e. never (cc)) (λ _. w .ensures)
 

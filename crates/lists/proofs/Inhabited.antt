@@ -1,5 +1,5 @@
 -- There are steps: every call on every memory has one, with the outcome that the definition gives. So the claim does not hold for want of
--- steps, and no `requires` narrows it.
+-- steps, and no `requires` narrows it. The steps of frees, windows and truncations are in Frees, those of comparisons in Comparing.
 -- Assumes nothing.
 use mathlib.Core.Path.{_≡_, refl, sym, ap, _∙_, subst}
 use mathlib.Core.Bool.{Bool, true, false, cond, not, _&&_, true≢false}
@@ -48,7 +48,7 @@ use Rattle.lists.specs.Steps.{Step, did-read-word, did-read-partial, did
 abbrev pub Answers : Call → Type 0
 Answers c = (m : Mem) → Step m c (answerOf m c) m
 
-abbrev ref : List ℕ → RefT (List ℕ)
+abbrev pub ref : List ℕ → RefT (List ℕ)
 ref l = record { ptr = (0, 0); name = 0; now = l }
 
 -- ---- answers that tell an outcome whose refusals have a number of 01's table
@@ -292,11 +292,11 @@ pub record Goes (m : Mem) (c : Call) (o : Outcome Value) : Type 0 where
   pub step : Step m c o after
 
 -- the lent buffers keep their lengths
-record Same (m m' : Mem) : Type 0 where
-  bytes : length (m' .bytes) ≡ length (m .bytes)
-  keys : length (m' .keys) ≡ length (m .keys)
-  order : length (m' .order) ≡ length (m .order)
-  words : length (m' .words) ≡ length (m .words)
+pub record Same (m m' : Mem) : Type 0 where
+  pub bytes : length (m' .bytes) ≡ length (m .bytes)
+  pub keys : length (m' .keys) ≡ length (m .keys)
+  pub order : length (m' .order) ≡ length (m .order)
+  pub words : length (m' .words) ≡ length (m .words)
 
 same : (m : Mem) → Same m m
 same m = record { bytes = refl; keys = refl; order = refl; words = refl }
@@ -376,11 +376,11 @@ can-delete m = go (wellFormed m) refl
         let d = call-refused m DeleteHistory 3 (not-formed m DeleteHistory e) in
         record { after = m; step = subst (λ (o : Outcome Value). Step m DeleteHistory o m) (d .answer) (delete m (Refused 3) (m .words) refl d) }
 
--- ---- writes and allocations, of a page and an address of 32 bits, as the code's have
+-- ---- a call that goes by a list of tests: where one holds it is refused, else there is the memory that it leaves
 module _ (m : Mem) (c : Call) (checks : List (Check Value)) (tests : Refusals checks) (is : answerOf m c ≡ onMemory m checks nothing)
     (step : (r : Answer) (m' : Mem) → Same m m' → CallDoes m c (told r) m' → Step m c (told r) m')
     (there : (WellFormed m) × (refusals.number checks ≡ 0) → Reached (settingOf m) (nextOf (settingOf m) c (viewOf m))) where
-  goes : Goes m c (answerOf m c)
+  pub goes : Goes m c (answerOf m c)
   goes = go (refusals.numberOf (onMemory m checks nothing)) refl
     where
       turned : {m' : Mem} {o : Outcome Value} → Does m (onMemory m checks nothing) (settingOf m) (nextOf (settingOf m) c (viewOf m)) o m' → CallDoes m c o m'
@@ -396,6 +396,7 @@ module _ (m : Mem) (c : Call) (checks : List (Check Value)) (tests : Refusals ch
           let d = turned (refused-does m checks (settingOf m) (nextOf (settingOf m) c (viewOf m)) (suc n) e (λ z. omega arith)) in
           record { after = m; step = subst (λ (o : Outcome Value). Step m c o m) (d .answer) (step (Refused (suc n)) m (same m) d) }
 
+-- ---- writes and allocations, of a page and an address of 32 bits, as the code's have
 module _ (p a : ℕ) (page : p ≤ 4294967295) (address : a ≤ 4294967295) where
   pub can-write-word : (n : ℕ) (m : Mem) → Goes m (WriteWord p a n) (answerOf m (WriteWord p a n))
   can-write-word n m =

@@ -13,14 +13,17 @@ use Rattle.formed.proofs.Meaning.{well-formed-passes}
 use Rattle.view.specs.View.{View, Setting, settingOf, viewOf}
 use Rattle.view.specs.Checks.{openingChecks, lengthsRight}
 use Rattle.view.specs.Does.{Shows}
-use Rattle.view.specs.Calls.{Call, Value, Open, Allocate, ReadWord, ReadPartial, ReadRange, ReadByte, DynamicLength, WriteWord, WriteBytes, Lookup, LookupCheck, Snapshot, Rollback, DeleteHistory, nothing, bytes, shown, sameLengths, outcomeOf, answerOf}
+use Rattle.view.specs.Calls.{Call, Value, Open, Allocate, ReadWord, ReadPartial, ReadRange, ReadByte, DynamicLength, WriteWord, WriteBytes, Lookup, LookupCheck, Free, Window, Truncate, CompareLeft, CompareRight, CompareBoth, Snapshot, Rollback, DeleteHistory, nothing, bytes, shown, sameLengths, outcomeOf, answerOf}
 use Rattle.plain.specs.Plain.{Plain, seen}
 use Rattle.plain.specs.Claim.{Started, Run, Any}
 use Rattle.lists.specs.Steps.{Step}
 use Rattle.lists.proofs.Theorem.{theorem}
 use Rattle.lists.proofs.Inhabited.{Answers, Goes, Narrow, can-open, can-allocate-with, can-read-word, can-read-partial, can-read-range, can-read-byte, can-tell-length, can-write-word, can-write-bytes, can-look-up, can-check, can-snapshot, can-roll-back, can-delete}
+use Rattle.lists.proofs.Frees.{can-free, can-window, can-truncate}
+use Rattle.lists.proofs.Comparing.{can-compare-left, can-compare-right, can-compare-both}
 
--- what the types of the code's arguments ask of a call that can change the memory: pages, addresses and a layout's numbers have 32 bits
+-- what the types of the code's arguments ask of an opening, an allocation or a write: pages, addresses and a layout's numbers have 32 bits.
+-- The other calls go on with any arguments
 abbrev pub Fits : Call → Type 0
 Fits (Open s calldata) = Narrow s
 Fits (Allocate p bs) = p ≤ 4294967295
@@ -33,6 +36,12 @@ Fits (WriteWord p a n) = (p ≤ 4294967295) × (a ≤ 4294967295)
 Fits (WriteBytes p a bs) = (p ≤ 4294967295) × (a ≤ 4294967295)
 Fits (Lookup p k z) = Unit {0}
 Fits (LookupCheck p k z) = Unit {0}
+Fits (Free p) = Unit {0}
+Fits (Window p start n) = Unit {0}
+Fits (Truncate n) = Unit {0}
+Fits (CompareLeft other) = Unit {0}
+Fits (CompareRight other) = Unit {0}
+Fits CompareBoth = Unit {0}
 Fits Snapshot = Unit {0}
 Fits (Rollback heap aux) = Unit {0}
 Fits DeleteHistory = Unit {0}
@@ -75,6 +84,12 @@ module _ {s : Setting} {v : View} {m : Mem} (h : Shows s v m) where
       so (Lookup p k z) (done (bytes (cond (wellFormed m) (shown (viewOf m) p k z) []))) (outcomeOf s (Lookup p k z) v)
       (ap (λ (b : Bool). done (bytes (cond b (shown (viewOf m) p k z) []))) formed ∙ outcome-is (Lookup p k z)) (record { after = m; step = can-look-up p k z m })
   goes-on (LookupCheck p k z) f = reads (LookupCheck p k z) (can-check p k z)
+  goes-on (Free p) f = changes (Free p) (can-free p m)
+  goes-on (Window p start n) f = changes (Window p start n) (can-window p start n m)
+  goes-on (Truncate n) f = changes (Truncate n) (can-truncate n m)
+  goes-on (CompareLeft other) f = reads (CompareLeft other) (can-compare-left other)
+  goes-on (CompareRight other) f = reads (CompareRight other) (can-compare-right other)
+  goes-on CompareBoth f = reads CompareBoth can-compare-both
   goes-on Snapshot f = reads Snapshot can-snapshot
   goes-on (Rollback heap aux) f = changes (Rollback heap aux) (can-roll-back heap aux m)
   goes-on DeleteHistory f = changes DeleteHistory (can-delete m)

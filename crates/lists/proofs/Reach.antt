@@ -8,6 +8,7 @@ use native.Mathlib.Numerals.{add-one}
 use native.Mathlib.Omega.{arith}
 use lib.ListN.{length, getD, set, take, drop, length-set, length-drop, length-append, replicate}
 use lib.Seq.{length-take-le}
+use Rattle.formed.proofs.Asks.{slots-asked}
 use Rattle.index.specs.Index.{seek}
 use Rattle.index.proofs.Logic.{lt-or-ge}
 use Rattle.store.specs.Mem.{Mem, mem, layoutOf, slotCount, pageCount, heldNow, inUse, journalRoom, journalLength, holders}
@@ -22,7 +23,6 @@ use Rattle.view.specs.Does.{Shows}
 use Rattle.view.specs.Inner.{listing, holding, putting, ListAsks, HoldAsks, PutAsks, noting, NoteAsks}
 use Rattle.bodies.proofs.Copies.{copied-none, copied-more}
 use Rattle.bodies.proofs.Puts.{put-none, put-slot, put-in, put-more, put-done}
-use Rattle.chunks.proofs.Asks.{slots-asks}
 use Rattle.chunks.proofs.Turns.{After, after-none, turn-room, turn-after}
 use Rattle.pages.proofs.Taking as taking
 use Rattle.pages.proofs.Listing.{listed-already, entry-asks, listed-now}
@@ -89,7 +89,7 @@ module _ (m : Mem) (p k n : ℕ) (asks : HoldAsks m p k n) where
   turn zero l = record { keys = m .keys; order = m .order; words = m .words; after = after-none m p k (asks .formed) }
   turn (suc i) l =
       let t = turn i (omega arith) in
-      let h = hold (t .keys) (t .order) (t .words) (slots-asks (mem (m .bytes) (t .keys) (t .order) (t .words)) (t .after .shows .formed)) (key i) (omega arith)
+      let h = hold (t .keys) (t .order) (t .words) (slots-asked (mem (m .bytes) (t .keys) (t .order) (t .words)) (t .after .shows .formed)) (key i) (omega arith)
       (turn-room m p k n asks i l (m .bytes) (t .keys) (t .order) (t .words) (t .after) (entryOf m p) (key i) refl refl) in
       record {
         keys = h .keys';

@@ -13,6 +13,10 @@ use Rattle.writes.proofs.write_u256.Met as write-met
 use Rattle.writes.proofs.write_bytes.Met as put-met
 use Rattle.writes.proofs.allocate_at.Met as allocate-met
 use Rattle.writes.proofs.allocate_with_content_at.Met as fill-met
+use Rattle.freeing.proofs.deallocate.Met as free-met
+use Rattle.freeing.proofs.compact_to_window.Met as window-met
+use Rattle.freeing.proofs.truncate_dynamic_to.Met as truncate-met
+use Rattle.compare.proofs.compare.Met as compare-met
 use Rattle.history.proofs.rollback.Met as rollback-met
 use Rattle.history.proofs.delete_history.Met as delete-met
 use Rattle.plain.specs.Claim.{Claim}
@@ -40,6 +44,10 @@ demand = record {
   «write_bytes» = λ {M}. put-met.met {M = M};
   «allocate_at» = λ {M}. allocate-met.met {M = M};
   «allocate_with_content_at» = λ {M}. fill-met.met {M = M};
+  deallocate = λ {M}. free-met.met {M = M};
+  «compact_to_window» = λ {M}. window-met.met {M = M};
+  «truncate_dynamic_to» = λ {M}. truncate-met.met {M = M};
+  compare = λ {M}. compare-met.met {M = M};
   rollback = λ {M}. rollback-met.met {M = M};
   «delete_history» = λ {M}. delete-met.met {M = M};
   claim = theorem;

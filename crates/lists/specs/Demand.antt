@@ -14,6 +14,10 @@ use Rattle.writes.proofs.write_u256.Statement as write-says
 use Rattle.writes.proofs.write_bytes.Statement as put-says
 use Rattle.writes.proofs.allocate_at.Statement as allocate-says
 use Rattle.writes.proofs.allocate_with_content_at.Statement as fill-says
+use Rattle.freeing.proofs.deallocate.Statement as free-says
+use Rattle.freeing.proofs.compact_to_window.Statement as window-says
+use Rattle.freeing.proofs.truncate_dynamic_to.Statement as truncate-says
+use Rattle.compare.proofs.compare.Statement as compare-says
 use Rattle.history.proofs.rollback.Statement as rollback-says
 use Rattle.history.proofs.delete_history.Statement as delete-says
 use Rattle.plain.specs.Claim.{Claim}
@@ -33,6 +37,10 @@ pub record Demand : Type 2 where
   pub «write_bytes» : {M : Type 1} → put-says.statement M
   pub «allocate_at» : {M : Type 1} → allocate-says.statement M
   pub «allocate_with_content_at» : {M : Type 1} → fill-says.statement M
+  pub deallocate : {M : Type 1} → free-says.statement M
+  pub «compact_to_window» : {M : Type 1} → window-says.statement M
+  pub «truncate_dynamic_to» : {M : Type 1} → truncate-says.statement M
+  pub compare : {M : Type 1} → compare-says.statement M
   pub rollback : {M : Type 1} → rollback-says.statement M
   pub «delete_history» : {M : Type 1} → delete-says.statement M
   pub claim : Claim Step

@@ -1,6 +1,7 @@
 -- One call of each public function, as the function's proved contract tells it to whoever calls it. Nothing here restates a contract:
 -- `Asked` and `Learnt` are what `rattle check` reads in the function's own clauses, and `met` (Demand) is its theorem.
 -- Assumes nothing.
+use mathlib.Core.Path.{_≡_}
 use mathlib.Core.List.{List, []}
 use Prim.Native.Nat.{ℕ}
 use lib.ListN.{length}
@@ -14,10 +15,11 @@ use Rattle.outcome.specs.Outcome as outcomes
 use Rattle.outcome.specs.Outcome.{Outcome, done}
 use Rattle.store.specs.Mem.{Mem, mem}
 use Rattle.word.specs.Value.{value}
-use Rattle.view.specs.Calls.{Call, Value, Open, Allocate, WriteWord, WriteBytes, ReadWord, ReadPartial, ReadRange, ReadByte, DynamicLength, Lookup, LookupCheck, Snapshot, Rollback, DeleteHistory, nothing, number, bytes, told}
+use Rattle.view.specs.Calls.{Call, Value, Open, Allocate, WriteWord, WriteBytes, ReadWord, ReadPartial, ReadRange, ReadByte, DynamicLength, Lookup, LookupCheck, Free, Window, Truncate, CompareLeft, CompareRight, CompareBoth, Snapshot, Rollback, DeleteHistory, nothing, number, bytes, told}
 use Rattle.opening.specs.Opening.{setting}
 use Rattle.reads.specs.Calls.{toldByte, toldLength, toldMarks, valued, marked}
 use Rattle.reads.specs.Calls as reads
+use Rattle.compare.specs.Verdict as compares
 use Rattle.opening.proofs.open.Kinds as open-kinds
 use Rattle.opening.proofs.open.Reads as open-reads
 use Rattle.reads.proofs.read_u256.Kinds as word-kinds
@@ -44,6 +46,14 @@ use Rattle.writes.proofs.allocate_at.Kinds as allocate-kinds
 use Rattle.writes.proofs.allocate_at.Reads as allocate-reads
 use Rattle.writes.proofs.allocate_with_content_at.Kinds as fill-kinds
 use Rattle.writes.proofs.allocate_with_content_at.Reads as fill-reads
+use Rattle.freeing.proofs.deallocate.Kinds as free-kinds
+use Rattle.freeing.proofs.deallocate.Reads as free-reads
+use Rattle.freeing.proofs.compact_to_window.Kinds as window-kinds
+use Rattle.freeing.proofs.compact_to_window.Reads as window-reads
+use Rattle.freeing.proofs.truncate_dynamic_to.Kinds as truncate-kinds
+use Rattle.freeing.proofs.truncate_dynamic_to.Reads as truncate-reads
+use Rattle.compare.proofs.compare.Kinds as compare-kinds
+use Rattle.compare.proofs.compare.Reads as compare-reads
 use Rattle.history.proofs.rollback.Kinds as rollback-kinds
 use Rattle.history.proofs.rollback.Reads as rollback-reads
 use Rattle.history.proofs.delete_history.Kinds as delete-kinds
@@ -169,6 +179,50 @@ pub data Step : Mem → Call → Outcome Value → Mem → Type 0 where
       (lent (w .args))
       (Allocate (rest (w .args) .0 .0) (now (rest (w .args) .1 .0)))
       (told (w .result))
+      (lent (exits w))
+  did-free :
+      (w : Went free-kinds.ps free-kinds.r free-reads.Asked free-reads.Learnt) →
+      Step
+      (lent (w .args))
+      (Free (rest (w .args) .0 .0))
+      (told (w .result))
+      (lent (exits w))
+  did-window :
+      (w : Went window-kinds.ps window-kinds.r window-reads.Asked window-reads.Learnt) →
+      Step
+      (lent (w .args))
+      (Window (rest (w .args) .0 .0) (rest (w .args) .1 .0 .0) (rest (w .args) .1 .1 .0))
+      (told (w .result))
+      (lent (exits w))
+  did-truncate :
+      (w : Went truncate-kinds.ps truncate-kinds.r truncate-reads.Asked truncate-reads.Learnt) →
+      Step
+      (lent (w .args))
+      (Truncate (rest (w .args) .0))
+      (told (w .result))
+      (lent (exits w))
+  -- a comparison is lent two memories; this one is the left, the right, or both
+  did-compare-left :
+      (w : Went compare-kinds.ps compare-kinds.r compare-reads.Asked compare-reads.Learnt) →
+      Step
+      (lent (w .args))
+      (CompareLeft (lent (rest (w .args))))
+      (compares.told (w .result))
+      (lent (exits w))
+  did-compare-right :
+      (w : Went compare-kinds.ps compare-kinds.r compare-reads.Asked compare-reads.Learnt) →
+      Step
+      (lent (rest (w .args)))
+      (CompareRight (lent (w .args)))
+      (compares.told (w .result))
+      (lent (rest (exits w)))
+  did-compare-both :
+      (w : Went compare-kinds.ps compare-kinds.r compare-reads.Asked compare-reads.Learnt) →
+      lent (rest (w .args)) ≡ lent (w .args) →
+      Step
+      (lent (w .args))
+      CompareBoth
+      (compares.told (w .result))
       (lent (exits w))
   did-rollback :
       (w : Went rollback-kinds.ps rollback-kinds.r rollback-reads.Asked rollback-reads.Learnt) →

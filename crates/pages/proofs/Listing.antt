@@ -2,7 +2,7 @@
 -- Assumes nothing.
 use mathlib.Core.Path.{_≡_, refl, sym, ap, _∙_, subst, fun-ext}
 use mathlib.Core.Logic.{⊎-elim}
-use mathlib.Core.Bool.{Bool, true, false, cond, _||_, false≢true}
+use mathlib.Core.Bool.{true, false, cond, _||_, false≢true}
 use mathlib.Core.List.{List, [], _∷_}
 use Prim.Native.Nat.{ℕ, zero, suc, _+_, _*_, _-_, _/_, _%_, _≤_, _<_}
 use native.Mathlib.Nat.{div-le-of-le-mul}
@@ -10,8 +10,8 @@ use native.Mathlib.Omega.{arith}
 use lib.Dec.{ltb, eqb}
 use lib.ListN.{length, getD, set, take, drop, length-set, length-drop, List·getD-eq-default}
 use lib.Seq.{getD-set-same, getD-set-other}
-use borrow.Author.Tests.{lt-ltb, le-ltb, le-leb, lt-leb, eq-eqb, ne-eqb, leb-true}
-use Rattle.page_ids.specs.Decode.{Page, none, page, byRemainder, decoded}
+use borrow.Author.Tests.{lt-ltb, le-ltb, le-leb, lt-leb, eq-eqb, ne-eqb}
+use Rattle.page_ids.specs.Decode.{none, page}
 use Rattle.page_ids.specs.declared.Layout.{Layout}
 use Rattle.index.specs.Index.{indexed, seek, freeCount}
 use Rattle.index.proofs.Logic.{same-or-not, lt-or-ge}
@@ -19,17 +19,20 @@ use Rattle.index.proofs.Counts.{used-free, count-fill}
 use Rattle.index.proofs.Places.{seek-hit, seek-le}
 use Rattle.index.proofs.Meaning.{once}
 use Rattle.store.specs.Mem.{Mem, mem, layoutOf, slotCount, pageCount, journalRoom, journalLength, inUse, dynamicLength, holders, entries, slotOrder, pageOrder, chunks}
-use Rattle.store.specs.Hold.{PagesIndexed}
-use Rattle.formed.specs.Pages.{LayoutRule, isFixed, isDynamic, fixed, dynamic, group, journalPlace}
+use Rattle.formed.specs.Pages.{LayoutRule, fixed, dynamic, group, journalPlace}
 use Rattle.formed.specs.Parts.{Note, tab, keyOf, entryOf, allocated, entriesLeft, slotOfChunk, holds, byteAt, noteAt, noteAddress, noteFirst, noteLast, oldAt, journal}
 use Rattle.formed.specs.WellFormed.{WellFormed, Lengths, ListedPage, NotedRight, holder, keyEntry}
 use Rattle.formed.proofs.Bools.{refute, or-off}
 use Rattle.formed.proofs.Keys.{le-or-gt, seek-is, key-entry}
+use Rattle.formed.proofs.Asks.{pages-asked}
 use Rattle.formed.proofs.Sizes.{entries-long}
+use Rattle.formed.proofs.Same.{layout-same}
+use Rattle.formed.proofs.Above.{dynamic-above}
 use Rattle.formed.proofs.Facts.{PageRight, SlotRight, Facts}
-use Rattle.formed.proofs.Meaning.{pages-index, facts-of, formed-by}
-use Rattle.formed.proofs.Sense.{slot-near, slot-far, holds-held, left-is, allocated-is, listed-allocated, fixed-allocated}
+use Rattle.formed.proofs.Meaning.{facts-of, formed-by}
+use Rattle.formed.proofs.Sense.{slot-near, slot-far, left-is, allocated-is, fixed-allocated}
 use Rattle.view.specs.View.{viewOf, settingOf}
+use Rattle.view.proofs.Counts.{fixed-only}
 use Rattle.view.specs.Steps.{max}
 use Rattle.view.specs.Does.{Shows}
 use Rattle.view.specs.Inner.{listing, ListAsks}
@@ -49,36 +52,6 @@ max-upto d g n a b = ⊎-elim (λ (l : d ≤ g). rw (le-leb d g l) b) (λ (l : g
 max-same : (d g : ℕ) → g ≤ d → d ≡ max d g
 max-same d g l = let a = max-low d g in let b = max-upto d g d (omega arith) l in omega arith
 
--- a fixed page is not dynamic, and a dynamic one lies at or above the base
-fixed-alone : (l : Layout) (p : ℕ) → fixed l p ≡ true → dynamic l p ≡ false
-unfolding fixed dynamic
-fixed-alone l p = go (decoded l p)
-  where
-    go : (x : Page) → isFixed x ≡ true → isDynamic x ≡ false
-    go none y = refl
-    go (page k g) y = le-ltb k 3 (leb-true 3 k y)
-
-dynamic-above : (l : Layout) (p : ℕ) → dynamic l p ≡ true → l .base .0 ≤ p
-unfolding dynamic
-dynamic-above l p y =
-    ⊎-elim
-    (λ (low : p < l .base .0).
-    let n = go (eqb p (l .«static_memory» .0)) (eqb p (l .calldata .0)) (eqb p (l .«bootloader_heap» .0)) (eqb p (l .«bootloader_aux» .0)) (ltb p (l .base .0))
-    (cond (eqb (l .stride) 0) none (byRemainder ((p - l .base .0) % l .stride) (group l p))) (lt-ltb p (l .base .0) low) in
-    absurd (false≢true (sym n ∙ y)))
-    (λ (h : l .base .0 ≤ p). h)
-    (lt-or-ge p (l .base .0))
-  where
-    go : (a b c d x : Bool) (z : Page) → x ≡ true → isDynamic (cond a (page 3 0) (cond b (page 4 0) (cond c (page 5 0) (cond d (page 6 0) (cond x none z))))) ≡ false
-    go true b c d x z e = refl
-    go false true c d x z e = refl
-    go false false true d x z e = refl
-    go false false false true x z e = refl
-    go false false false false x z e = rw e
-
-layout-same : (w w' : List ℕ) → ((i : ℕ) → i < 6 → getD w' i 0 ≡ getD w i 0) → layoutOf w' ≡ layoutOf w
-layout-same w w' h = rw (h 0 (omega arith), h 1 (omega arith), h 2 (omega arith), h 3 (omega arith), h 4 (omega arith), h 5 (omega arith))
-
 -- a place that was free is given the key k: the others stand where they stood
 seek-other : (ks : List ℕ) (s k j : ℕ) → getD ks s 0 ≡ 0 → 0 < j → (j ≡ k → ⊥) → seek (set ks s k) j ≡ seek ks j
 unfolding seek
@@ -90,17 +63,8 @@ seek-other (x ∷ ks) (suc s) k j z p n = ap (λ (r : ℕ). cond (eqb x j) 0 (su
 abbrev noteOf : Mem → ℕ → ℕ → Note
 noteOf m j i = record { address = noteAddress m j i; old = tab 32 (λ k. getD (m .bytes) (oldAt m j i + k) 0) }
 
--- ---- a page that is not allocated holds nothing
+-- ---- no slot has a key of an entry that is free or past the table
 module _ (m : Mem) (f : WellFormed m) where
-  pub unlisted-holds : (p k : ℕ) → allocated m p ≡ false → holds m p k ≡ false
-  unlisted-holds p k n =
-      sym (refute (holds m p k) (λ h.
-      ⊎-elim
-      (λ (x : fixed (layoutOf (m .words)) p ≡ true). false≢true (sym n ∙ fixed-allocated m f p x))
-      (λ (x : ListedPage m p). false≢true (sym n ∙ listed-allocated m f p x))
-      (f .holders-known (slotOfChunk m p k) p k (holds-held m f p k h))))
-
-  -- and no slot has a key of an entry that is free or past the table
   nobody : (e k : ℕ) → getD (entries m) e 0 ≡ 0 → k ≤ 16777216 → seek (holders m) (keyOf e k) ≡ length (holders m)
   nobody e k z l =
       let u = seek-le (holders m) (keyOf e k) in
@@ -115,11 +79,6 @@ module _ (m : Mem) (f : WellFormed m) where
 
 -- ---- what the calls ask
 module _ (m : Mem) (p : ℕ) (a : ListAsks m p) where
-  pub pages-asked : PagesIndexed (m .keys) (m .order) (m .words)
-  pages-asked =
-      let l = a .formed .lengths in
-      record { head = omega arith; few = l .slots-hi; in-keys = omega arith; in-order = omega arith; index = pages-index m (a .formed) }
-
   -- the page is allocated already
   module _ (l : entryOf m p < pageCount (m .words) + 4) where
     was : allocated m p ≡ true
@@ -132,7 +91,7 @@ module _ (m : Mem) (p : ℕ) (a : ListAsks m p) where
     was-high : dynamicLength (m .words) ≡ cond (dynamic (layoutOf (m .words)) p) (max (dynamicLength (m .words)) (group (layoutOf (m .words)) p + 1)) (dynamicLength (m .words))
     was-high =
         ⊎-elim
-        (λ (x : fixed (layoutOf (m .words)) p ≡ true). rw (fixed-alone (layoutOf (m .words)) p x))
+        (λ (x : fixed (layoutOf (m .words)) p ≡ true). rw (fixed-only (layoutOf (m .words)) p x))
         (λ (x : ListedPage m p).
         let b = a .formed .pages-below (x .entry) p (x .there) in
         rw (a .formed .pages-dynamic (x .entry) p (x .there)) (max-same (dynamicLength (m .words)) (group (layoutOf (m .words)) p + 1) (omega arith)))
@@ -165,7 +124,7 @@ module _ (m : Mem) (p : ℕ) (a : ListAsks m p) where
         let i = left-is m (a .formed) in
         let t = a .formed .layout .stride in
         record {
-          pages = pages-asked;
+          pages = pages-asked m (a .formed);
           few = omega arith;
           none = omega arith;
           room = omega arith;
@@ -199,7 +158,7 @@ module _ (m : Mem) (p : ℕ) (a : ListAsks m p) where
       past i x = head i (λ e. omega arith) (λ e. omega arith)
 
       in-head : 16 ≤ length (m .words)
-      in-head = pages-asked .head
+      in-head = pages-asked m (a .formed) .head
 
       ten : inUse words' ≡ inUse (m .words) + 1
       ten =

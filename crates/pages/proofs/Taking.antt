@@ -2,16 +2,16 @@
 -- Assumes nothing.
 use mathlib.Core.Path.{_≡_, sym, ap, _∙_}
 use mathlib.Core.Bool.{true}
-use mathlib.Core.List.{List, _++_, append-nil}
+use mathlib.Core.List.{List, _++_}
 use Prim.Native.Nat.{ℕ, _+_, _-_, _≤_, _<_}
 use native.Mathlib.Omega.{arith}
-use lib.ListN.{length, getD, set, take, drop, length-drop, drop-of-length-le}
-use lib.Seq.{getD-set-other, set-getD, length-take-le}
+use lib.ListN.{length, getD, set, take, drop, length-drop}
+use lib.Seq.{getD-set-other, set-getD}
 use borrow.Author.Tests.{le-leb, lt-leb}
 use Rattle.index.specs.Index.{indexed, usedCount, Insertable}
 use Rattle.index.proofs.Orders.{index-count}
 use Rattle.store.specs.Mem.{layoutOf, slotCount, inUse}
-use Rattle.store.proofs.Parts.{take-front, drop-front, rest-part}
+use Rattle.store.proofs.Parts.{rest-low, rest-high, rest-part}
 use Rattle.formed.specs.Pages.{group}
 use Rattle.view.specs.Steps.{max}
 use Rattle.pages.specs.Entry.{EntryAsks, EntryTaken}
@@ -22,17 +22,6 @@ raise-not w g l = rw (lt-leb (getD w 11 0) g l) (sym (set-getD w 11 0))
 
 pub raise-set : (w : List ℕ) (g : ℕ) → getD w 11 0 ≤ g → set w 11 g ≡ set w 11 (max (getD w 11 0) g)
 raise-set w g l = rw (le-leb (getD w 11 0) g l)
-
--- `&mut xs[n..]` leaves `take n xs ++ (e ++ drop (length xs - n) (drop n xs))`: the first part as it was, and e
-module _ (xs e : List ℕ) (n : ℕ) (l : n ≤ length xs) where
-  pub rest-low : take n (take n xs ++ (e ++ drop (length xs - n) (drop n xs))) ≡ take n xs
-  rest-low = take-front (take n xs) (e ++ drop (length xs - n) (drop n xs)) n (length-take-le n xs l)
-
-  pub rest-high : drop n (take n xs ++ (e ++ drop (length xs - n) (drop n xs))) ≡ e
-  rest-high =
-      drop-front (take n xs) (e ++ drop (length xs - n) (drop n xs)) n (length-take-le n xs l)
-      ∙ ap (λ (x : List ℕ). e ++ x) (drop-of-length-le (drop n xs) {i = length xs - n} (let d = length-drop n xs in omega arith))
-      ∙ append-nil e
 
 module _ (keys order words : List ℕ) (p : ℕ) (ix : EntryAsks keys order words p) where
   abbrev es : List ℕ

@@ -2,31 +2,39 @@
 -- Assumes nothing.
 use mathlib.Core.Path.{_≡_, refl, sym, ap, _∙_, subst}
 use mathlib.Core.List.{List}
-use mathlib.Core.Bool.{Bool, true, false, cond, true≢false}
-use Prim.Native.Nat.{ℕ, _-_, _≤_}
+use mathlib.Core.Bool.{Bool, true, false, cond, _&&_, true≢false}
+use Prim.Native.Nat.{ℕ, _+_, _-_}
 use native.Mathlib.Omega.{arith}
 use lib.ListN.{length}
 use borrow.Author.Tests.{ltb-false}
 use Rattle.outcome.specs.Outcome.{Outcome, done, carriedOut, firstOf}
 use Rattle.store.specs.Mem.{Mem}
-use Rattle.formed.specs.Pages.{LayoutRule}
+use Rattle.formed.specs.Pages.{LayoutRule, dynamic}
 use Rattle.formed.specs.Parts.{pool}
-use Rattle.view.specs.View.{View, Setting}
-use Rattle.view.specs.Steps.{touchedCount}
+use Rattle.view.specs.View.{View, Setting, viewOf}
+use Rattle.view.specs.Steps.{touchedCount, count, pairs}
 use Rattle.view.specs.Checks.{openingChecks, lengthsRight}
 use Rattle.view.specs.Does.{Shows, Does}
-use Rattle.view.specs.Calls.{Call, Value, Open, Allocate, ReadWord, ReadPartial, ReadRange, ReadByte, DynamicLength, WriteWord, WriteBytes, Lookup, LookupCheck, Snapshot, Rollback, DeleteHistory, nothing, sameLengths, outcomeOf, nextOf}
+use Rattle.view.specs.Calls.{Call, Value, Open, Allocate, ReadWord, ReadPartial, ReadRange, ReadByte, DynamicLength, WriteWord, WriteBytes, Lookup, LookupCheck, Free, Window, Truncate, CompareLeft, CompareRight, CompareBoth, Snapshot, Rollback, DeleteHistory, nothing, sameLengths, outcomeOf, nextOf}
+use Rattle.view.proofs.Counts.{pool-pairs, entries-pages}
 use Rattle.plain.specs.Plain.{Plain, follow, feed, seen}
 use Rattle.plain.specs.Claim.{Steps, Contracts, Started, by-opening, Listed, Run, none, more, Kept}
 use Rattle.plain.proofs.Tests.{clear}
-use Rattle.plain.proofs.Seen.{seen-follow, fits-follow, seen-fresh, fits-fresh}
+use Rattle.plain.proofs.Seen.{Fits, Counted, seen-follow, fits-follow, seen-fresh, fits-fresh}
 
--- the memory shows what the plain map has, and no more chunks are held than there are
+-- the memory shows what the plain map has, and no more chunks are held and no more pages listed than there is room for
 pub record Good (s : Setting) (m : Mem) (p : Plain) : Type 0 where
   pub shows : Shows s (seen s p) m
-  pub fits : length (p .held) ≤ s .chunks
+  pub fits : Fits s p
 
 -- ---- what it says
+-- the laws of the pool and of the entries
+abbrev PoolCounts : Setting → View → Type 0
+PoolCounts s v = v .pool + pairs (v .held) ≡ s .chunks
+
+abbrev EntriesCount : Setting → View → Type 0
+EntriesCount s v = v .entries + count (λ q. v .allocated q && dynamic (s .layout) q) 4294967296 ≡ s .pages
+
 module _ {s : Setting} {m : Mem} {p : Plain} (g : Good s m p) where
   pub rule : LayoutRule (s .layout)
   rule = subst (λ (t : Setting). LayoutRule (t .layout)) (g .shows .setting) (g .shows .formed .layout)
@@ -34,7 +42,16 @@ module _ {s : Setting} {m : Mem} {p : Plain} (g : Good s m p) where
   pub kept : Kept s m p
   kept =
       let e : pool m ≡ s .chunks - length (p .held) = ap (λ (v : View). v .pool) (g .shows .view) in
-      record { zeroes = g .shows .formed .pooled-zero; count = let f = g .fits in omega arith; shows = g .shows }
+      record { zeroes = g .shows .formed .pooled-zero; count = let f = g .fits .chunks in omega arith; shows = g .shows }
+
+  -- the map's pairs and its pages are counted by the pool and the entries
+  pub counted : Counted s p
+  counted =
+      let pool =
+      subst (λ (v : View). PoolCounts s v) (g .shows .view) (subst (λ (t : Setting). PoolCounts t (viewOf m)) (g .shows .setting) (pool-pairs m (g .shows .formed))) in
+      let entries =
+      subst (λ (v : View). EntriesCount s v) (g .shows .view) (subst (λ (t : Setting). EntriesCount t (viewOf m)) (g .shows .setting) (entries-pages m (g .shows .formed))) in
+      record { chunks = let c = g .fits .chunks in omega arith; pages = let c = g .fits .pages in omega arith }
 
   -- the lent buffers have the lengths that the memory's setting asks for
   pub same-lengths : (t : Setting) → lengthsRight t m ≡ sameLengths t s
@@ -66,6 +83,12 @@ module _ (S : Steps) (C : Contracts S) where
   does (WriteBytes p a bs) x l g = C .calls (λ t d e. never (cc)) x (g .shows)
   does (Lookup p k z) x l g = C .calls (λ t d e. never (cc)) x (g .shows)
   does (LookupCheck p k z) x l g = C .calls (λ t d e. never (cc)) x (g .shows)
+  does (Free p) x l g = C .calls (λ t d e. never (cc)) x (g .shows)
+  does (Window p a n) x l g = C .calls (λ t d e. never (cc)) x (g .shows)
+  does (Truncate n) x l g = C .calls (λ t d e. never (cc)) x (g .shows)
+  does (CompareLeft other) x l g = C .calls (λ t d e. never (cc)) x (g .shows)
+  does (CompareRight other) x l g = C .calls (λ t d e. never (cc)) x (g .shows)
+  does CompareBoth x l g = C .calls (λ t d e. never (cc)) x (g .shows)
   does Snapshot x l g = C .calls (λ t d e. never (cc)) x (g .shows)
   does (Rollback heap aux) x l g = C .calls (λ t d e. never (cc)) x (g .shows)
   does DeleteHistory x l g = C .calls (λ t d e. never (cc)) x (g .shows)
@@ -81,7 +104,7 @@ module _ (S : Steps) (C : Contracts S) where
       go : (b : Bool) → carriedOut o ≡ b → Good s m' (cond b (follow (s .layout) c p) p)
       go true e =
           let h : carriedOut (outcomeOf s c (seen s p)) ≡ true = ap carriedOut (sym (d .answer)) ∙ e in
-          record { shows = subst (λ (v : View). Shows s v m') (sym (seen-follow s p c h)) (d .changed h); fits = fits-follow s p c h (g .fits) }
+          record { shows = subst (λ (v : View). Shows s v m') (sym (seen-follow s p c h (counted g))) (d .changed h); fits = fits-follow s p c h (g .fits) }
       go false e = rw (d .kept (ap carriedOut (sym (d .answer)) ∙ e)) g
 
   -- it holds at the start, and so after every list

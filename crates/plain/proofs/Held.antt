@@ -3,7 +3,7 @@
 use mathlib.Core.Path.{_≡_, refl, sym, ap, _∙_}
 use mathlib.Core.List.{List, _∷_}
 use mathlib.Core.Bool.{Bool, true, false, cond, not, _&&_, _||_, or-assoc}
-use Prim.Native.Nat.{ℕ, zero, suc, _+_, _-_, _≤_}
+use Prim.Native.Nat.{ℕ, zero, suc, _+_, _-_, _≤_, _<_}
 use native.Mathlib.Omega.{arith}
 use lib.Dec.{leb, ltb, eqb}
 use lib.ListN.{length}
@@ -113,3 +113,12 @@ module _ (l : Layout) (p : ℕ) (pages : List ℕ) (either : dynamic l p ≡ not
       go true f t e = ap (λ (h : List ℕ). n - length h) (list-fixed f)
       go false f true e = ap (λ (h : List ℕ). n - length h) (list-there f e)
       go false f false e = ap (λ (h : List ℕ). n - length h) (list-new f e) ∙ omega arith
+
+  -- where one is left for it, no more pages are listed than there is room for
+  pub list-fits : (n : ℕ) → length pages ≤ n → ((fixed l p || member pages p) ≡ false → 0 < n - length pages) → length (list l p pages) ≤ n
+  list-fits n r h = go (fixed l p) refl (member pages p) refl h
+    where
+      go : (f : Bool) → fixed l p ≡ f → (t : Bool) → member pages p ≡ t → ((f || t) ≡ false → 0 < n - length pages) → length (list l p pages) ≤ n
+      go true f t e k = rw (list-fixed f) r
+      go false f true e k = rw (list-there f e) r
+      go false f false e k = rw (list-new f e) (let w = k refl in omega arith)

@@ -1,15 +1,15 @@
 -- The plain map shows what the contracts say: the view of the map after a call is the call's view of the map before it.
 -- Assumes nothing.
-use mathlib.Core.Path.{_≡_, refl, ap, _∙_}
+use mathlib.Core.Path.{_≡_, refl, sym, ap, _∙_}
 use mathlib.Core.Logic.{⊎-elim}
 use mathlib.Core.List.{List, []}
-use mathlib.Core.Bool.{Bool, true, false, not, _||_, or-true, or-false, true≢false, false≢true}
-use Prim.Native.Nat.{ℕ, zero, suc, _-_, _/_, _≤_, _<_}
+use mathlib.Core.Bool.{Bool, true, false, not, _&&_, _||_, and-false, or-true, or-false, true≢false, false≢true}
+use Prim.Native.Nat.{ℕ, zero, suc, _-_, _/_, _≤_, _<_, zero-le}
 use native.Mathlib.Omega.{arith}
 use lib.Dec.{eqb}
 use lib.ListN.{length}
-use borrow.Author.Tests.{lt-ltb, le-ltb, le-leb, lt-leb, eq-eqb, ltb-false}
-use Rattle.index.proofs.Logic.{lt-or-ge}
+use borrow.Author.Tests.{lt-ltb, le-ltb, le-leb, lt-leb, eq-eqb, ne-eqb, ltb-false, eqb-false}
+use Rattle.index.proofs.Logic.{same-or-not, lt-or-ge}
 use Rattle.outcome.specs.Outcome.{carriedOut}
 use Rattle.word.specs.Value.{wordBytes}
 use Rattle.word.proofs.Digits.{digits-long}
@@ -18,12 +18,14 @@ use Rattle.page_ids.specs.Decode.{Page, none, page, decoded}
 use Rattle.formed.specs.Pages.{fixedId, isFixed, isDynamic, fixed, dynamic}
 use Rattle.formed.specs.Parts.{Note}
 use Rattle.view.specs.View.{View, Setting}
-use Rattle.view.specs.Steps.{touchedCount, needs, written, opened, fresh as blank}
-use Rattle.view.specs.Checks.{isNone, undecodable, wordWriteChecks, byteWriteChecks, allocateChecks}
-use Rattle.view.specs.Calls.{Call, Open, Allocate, ReadWord, ReadPartial, ReadRange, ReadByte, DynamicLength, WriteWord, WriteBytes, Lookup, LookupCheck, Snapshot, Rollback, DeleteHistory, nothing, outcomeOf, nextOf}
-use Rattle.plain.specs.Plain.{Plain, has, member, put, follow, fresh, seen}
+use Rattle.view.specs.Steps.{touchedCount, needs, written, count, pairs, without, shortened, opened, fresh as blank}
+use Rattle.view.specs.Checks.{isNone, undecodable, wordWriteChecks, byteWriteChecks, allocateChecks, freeChecks}
+use Rattle.view.specs.Calls.{Call, Open, Allocate, ReadWord, ReadPartial, ReadRange, ReadByte, DynamicLength, WriteWord, WriteBytes, Lookup, LookupCheck, Free, Window, Truncate, CompareLeft, CompareRight, CompareBoth, Snapshot, Rollback, DeleteHistory, nothing, outcomeOf, nextOf}
+use Rattle.view.proofs.Counts.{fixed-only}
+use Rattle.plain.specs.Plain.{Plain, has, member, put, dropping, fromUp, follow, fresh, seen}
 use Rattle.plain.proofs.Tests.{clear}
-use Rattle.plain.proofs.Held.{has-hold, length-hold, missing-le, has-list, length-list}
+use Rattle.plain.proofs.Held.{has-hold, length-hold, missing-le, has-list, length-list, list-fits}
+use Rattle.plain.proofs.Others.{length-others, has-others, allocated-others, pairs-left, listedDynamic, pages-left}
 
 -- ---- pages
 -- a decodable page is fixed or dynamic, and not both
@@ -64,6 +66,11 @@ fixed-known : (s : Setting) (p : ℕ) → fixed (s .layout) p ≡ true → undec
 unfolding undecodable fixed
 fixed-known s p e = not-none (decoded (s .layout) p) e
 
+-- ---- no more chunks are held and no more pages listed than there is room for
+pub record Fits (s : Setting) (m : Plain) : Type 0 where
+  pub chunks : length (m .held) ≤ s .chunks
+  pub pages : length (m .pages) ≤ s .pages
+
 -- ---- a write
 module _ (s : Setting) (p a : ℕ) (bs : List ℕ) (notes : List Note) (m : Plain) where
   seen-put : undecodable s p ≡ false → seen s (put (s .layout) p a bs notes m) ≡ written (s .layout) p a bs notes (seen s m)
@@ -81,70 +88,130 @@ module _ (s : Setting) (p a : ℕ) (bs : List ℕ) (notes : List Note) (m : Plai
         journal = (put (s .layout) p a bs notes m) .journal;
       }
 
-  -- it holds no more chunks than there are
-  fits-put : length (m .held) ≤ s .chunks → needs (seen s m) p a (length bs) ≤ s .chunks - length (m .held)
-      → length ((put (s .layout) p a bs notes m) .held) ≤ s .chunks
-  fits-put f r = let h = length-hold p (a / 256) (touchedCount a (length bs)) (m .held) in omega arith
+  -- its checks keep it within the room
+  fits-put : Fits s m → undecodable s p ≡ false → needs (seen s m) p a (length bs) ≤ (seen s m) .pool
+      → ((seen s m) .allocated p ≡ false → 0 < (seen s m) .entries) → Fits s (put (s .layout) p a bs notes m)
+  fits-put f e r n = record {
+    chunks = let h = length-hold p (a / 256) (touchedCount a (length bs)) (m .held) in let c = f .chunks in omega arith;
+    pages = list-fits (s .layout) p (m .pages) (decodable s p e) (s .pages) (f .pages) n;
+  }
 
--- ---- what the checks of a write that is carried out say
+-- ---- a drop
+-- the map's pairs and its pages are as many as those that they stand for
+pub record Counted (s : Setting) (m : Plain) : Type 0 where
+  pub chunks : pairs (has (m .held)) ≡ length (m .held)
+  pub pages : count (listedDynamic (s .layout) (m .pages)) 4294967296 ≡ length (m .pages)
+
+module _ (s : Setting) (m : Plain) (d : ℕ → ℕ → Bool) (u : ℕ → Bool) (n : ℕ) where
+  -- one that names no fixed page
+  seen-drop : Counted s m → ((q : ℕ) → fixed (s .layout) q ≡ true → u q ≡ false) → seen s (dropping d u n m) ≡ shortened n (without s d u (seen s m))
+  seen-drop c loose = λ i. record {
+    bytes = (dropping d u n m) .bytes;
+    held = λ q k. has-others d (m .held) q k i;
+    pool = s .chunks - pairs-left d (m .held) (c .chunks) i;
+    allocated = λ q. allocated-others (s .layout) u (m .pages) q (loose q) i;
+    entries = s .pages - pages-left (s .layout) u (m .pages) 4294967296 (c .pages) i;
+    dynamicLength = n;
+    journal = m .journal;
+  }
+
+  fits-drop : Fits s m → Fits s (dropping d u n m)
+  fits-drop f = record {
+    chunks = let h = length-others (λ pair. d (pair .0) (pair .1)) (m .held) in let c = f .chunks in omega arith;
+    pages = let h = length-others u (m .pages) in let c = f .pages in omega arith;
+  }
+
+-- ---- what the checks of a call that is carried out say
 record Written (s : Setting) (v : View) (p a n : ℕ) : Type 0 where
   known : undecodable s p ≡ false
   room : needs v p a n ≤ v .pool
+  entry : v .allocated p ≡ false → 0 < v .entries
+
+entry-left : (a : Bool) (n : ℕ) → (not a && eqb n 0) ≡ false → a ≡ false → 0 < n
+entry-left true n e z = absurd (true≢false z)
+entry-left false n e z = let ne = eqb-false n 0 e in omega (arith, ne)
 
 module _ (s : Setting) (v : View) (p : ℕ) where
   word-passed : (a n : ℕ) → carriedOut (outcomeOf s (WriteWord p a n) v) ≡ true → Written s v p a 32
   word-passed a n e =
       let c = clear (wordWriteChecks s v p a) nothing e in
-      record { known = c .0; room = ltb-false (v .pool) (needs v p a 32) (c .1 .1 .0) }
+      record { known = c .0; room = ltb-false (v .pool) (needs v p a 32) (c .1 .1 .0); entry = entry-left (v .allocated p) (v .entries) (c .1 .0) }
 
   bytes-passed : (a : ℕ) (bs : List ℕ) → carriedOut (outcomeOf s (WriteBytes p a bs) v) ≡ true → Written s v p a (length bs)
   bytes-passed a bs e =
       let c = clear (byteWriteChecks s v p a (length bs)) nothing e in
-      record { known = c .0; room = ltb-false (v .pool) (needs v p a (length bs)) (c .1 .1 .1 .0) }
+      record { known = c .0; room = ltb-false (v .pool) (needs v p a (length bs)) (c .1 .1 .1 .0); entry = entry-left (v .allocated p) (v .entries) (c .1 .1 .0) }
 
   allocate-passed : (bs : List ℕ) → carriedOut (outcomeOf s (Allocate p bs) v) ≡ true → Written s v p 0 (length bs)
   allocate-passed bs e =
       let c = clear (allocateChecks s v p (length bs)) nothing e in
-      record { known = c .0; room = ltb-false (v .pool) (needs v p 0 (length bs)) (c .1 .1 .1 .1 .0) }
+      record { known = c .0; room = ltb-false (v .pool) (needs v p 0 (length bs)) (c .1 .1 .1 .1 .0); entry = entry-left (v .allocated p) (v .entries) (c .1 .1 .1 .0) }
 
   pub allocate-dynamic : (bs : List ℕ) → carriedOut (outcomeOf s (Allocate p bs) v) ≡ true → fixed (s .layout) p ≡ false
   allocate-dynamic bs e = clear (allocateChecks s v p (length bs)) nothing e .1 .0
 
+  -- a fixed page is not freed
+  pub free-loose : carriedOut (outcomeOf s (Free p) v) ≡ true → (q : ℕ) → fixed (s .layout) q ≡ true → eqb q p ≡ false
+  free-loose e q f = ne-eqb q p (λ z. true≢false (sym f ∙ ap (fixed (s .layout)) z ∙ clear (freeChecks s v p) nothing e .1 .0))
+
+-- a window and a truncation name dynamic pages alone
+pub window-loose : (l : Layout) (p q : ℕ) (b : Bool) → fixed l q ≡ true → ((eqb q p && dynamic l p) && b) ≡ false
+window-loose l p q b f =
+    ⊎-elim
+    (λ (e : q ≡ p). rw (ap (dynamic l) (sym e) ∙ fixed-only l q f, and-false (eqb q p)))
+    (λ (n : q ≡ p → ⊥). rw (ne-eqb q p n))
+    (same-or-not q p)
+
+pub truncate-loose : (l : Layout) (n q : ℕ) → fixed l q ≡ true → fromUp l n q ≡ false
+truncate-loose l n q f = rw (fixed-only l q f)
+
 -- ---- each call
 module _ (s : Setting) (m : Plain) where
-  pub seen-follow : (c : Call) → carriedOut (outcomeOf s c (seen s m)) ≡ true → seen s (follow (s .layout) c m) ≡ nextOf s c (seen s m)
-  seen-follow (Open t calldata) e = refl
-  seen-follow (Allocate p bs) e = seen-put s p 0 bs _ m (allocate-passed s (seen s m) p bs e .known)
-  seen-follow (ReadWord p a) e = refl
-  seen-follow (ReadPartial p x y) e = refl
-  seen-follow (ReadRange p x y n) e = refl
-  seen-follow (ReadByte p a) e = refl
-  seen-follow DynamicLength e = refl
-  seen-follow (WriteWord p a n) e = seen-put s p a (wordBytes n) _ m (word-passed s (seen s m) p a n e .known)
-  seen-follow (WriteBytes p a bs) e = seen-put s p a bs _ m (bytes-passed s (seen s m) p a bs e .known)
-  seen-follow (Lookup p k z) e = refl
-  seen-follow (LookupCheck p k z) e = refl
-  seen-follow Snapshot e = refl
-  seen-follow (Rollback heap aux) e = refl
-  seen-follow DeleteHistory e = refl
+  pub seen-follow : (c : Call) → carriedOut (outcomeOf s c (seen s m)) ≡ true → Counted s m → seen s (follow (s .layout) c m) ≡ nextOf s c (seen s m)
+  seen-follow (Open t calldata) e k = refl
+  seen-follow (Allocate p bs) e k = seen-put s p 0 bs _ m (allocate-passed s (seen s m) p bs e .known)
+  seen-follow (ReadWord p a) e k = refl
+  seen-follow (ReadPartial p x y) e k = refl
+  seen-follow (ReadRange p x y n) e k = refl
+  seen-follow (ReadByte p a) e k = refl
+  seen-follow DynamicLength e k = refl
+  seen-follow (WriteWord p a n) e k = seen-put s p a (wordBytes n) _ m (word-passed s (seen s m) p a n e .known)
+  seen-follow (WriteBytes p a bs) e k = seen-put s p a bs _ m (bytes-passed s (seen s m) p a bs e .known)
+  seen-follow (Lookup p j z) e k = refl
+  seen-follow (LookupCheck p j z) e k = refl
+  seen-follow (Free p) e k = seen-drop s m _ (λ q. eqb q p) (m .dynamicLength) k (free-loose s (seen s m) p e)
+  seen-follow (Window p start n) e k = seen-drop s m _ (λ q. false) (m .dynamicLength) k (λ q f. refl)
+  seen-follow (Truncate n) e k = seen-drop s m _ (fromUp (s .layout) n) n k (truncate-loose (s .layout) n)
+  seen-follow (CompareLeft other) e k = refl
+  seen-follow (CompareRight other) e k = refl
+  seen-follow CompareBoth e k = refl
+  seen-follow Snapshot e k = refl
+  seen-follow (Rollback heap aux) e k = refl
+  seen-follow DeleteHistory e k = refl
 
-  pub fits-follow : (c : Call) → carriedOut (outcomeOf s c (seen s m)) ≡ true → length (m .held) ≤ s .chunks
-      → length ((follow (s .layout) c m) .held) ≤ s .chunks
+  pub fits-follow : (c : Call) → carriedOut (outcomeOf s c (seen s m)) ≡ true → Fits s m → Fits s (follow (s .layout) c m)
   fits-follow (Open t calldata) e f = f
-  fits-follow (Allocate p bs) e f = fits-put s p 0 bs [] m f (allocate-passed s (seen s m) p bs e .room)
+  fits-follow (Allocate p bs) e f = let w = allocate-passed s (seen s m) p bs e in fits-put s p 0 bs [] m f (w .known) (w .room) (w .entry)
   fits-follow (ReadWord p a) e f = f
   fits-follow (ReadPartial p x y) e f = f
   fits-follow (ReadRange p x y n) e f = f
   fits-follow (ReadByte p a) e f = f
   fits-follow DynamicLength e f = f
   fits-follow (WriteWord p a n) e f =
-      fits-put s p a (wordBytes n) [] m f (rw (digits-long 32 n) (word-passed s (seen s m) p a n e .room))
-  fits-follow (WriteBytes p a bs) e f = fits-put s p a bs [] m f (bytes-passed s (seen s m) p a bs e .room)
+      let w = word-passed s (seen s m) p a n e in
+      fits-put s p a (wordBytes n) _ m f (w .known) (rw (digits-long 32 n) (w .room)) (w .entry)
+  fits-follow (WriteBytes p a bs) e f = let w = bytes-passed s (seen s m) p a bs e in fits-put s p a bs _ m f (w .known) (w .room) (w .entry)
   fits-follow (Lookup p k z) e f = f
   fits-follow (LookupCheck p k z) e f = f
+  fits-follow (Free p) e f = fits-drop s m _ _ (m .dynamicLength) f
+  fits-follow (Window p start n) e f = fits-drop s m _ _ (m .dynamicLength) f
+  fits-follow (Truncate n) e f = fits-drop s m _ _ n f
+  fits-follow (CompareLeft other) e f = f
+  fits-follow (CompareRight other) e f = f
+  fits-follow CompareBoth e f = f
   fits-follow Snapshot e f = f
-  fits-follow (Rollback heap aux) e f = f
-  fits-follow DeleteHistory e f = f
+  fits-follow (Rollback heap aux) e f = record { chunks = f .chunks; pages = f .pages }
+  fits-follow DeleteHistory e f = record { chunks = f .chunks; pages = f .pages }
 
 -- ---- an opening: it puts calldata on an empty map
 abbrev empty : Plain
@@ -171,8 +238,13 @@ module _ (s : Setting) (calldata : List ℕ) where
       seen-put s (fixedId (s .layout) 1) 0 calldata [] empty (fixed-known s (fixedId (s .layout) 1) (fixed-id (s .layout) 1))
       ∙ ap (written (s .layout) (fixedId (s .layout) 1) 0 calldata []) (seen-empty s)
 
-  pub fits-fresh : touchedCount 0 (length calldata) ≤ s .chunks → length ((fresh s calldata) .held) ≤ s .chunks
+  pub fits-fresh : touchedCount 0 (length calldata) ≤ s .chunks → Fits s (fresh s calldata)
   fits-fresh r =
-      let h = length-hold (s .layout .calldata .0) 0 (touchedCount 0 (length calldata)) [] in
-      let k = missing-le (has [] (s .layout .calldata .0)) 0 (touchedCount 0 (length calldata)) in
-      omega arith
+      let y = fixed-id (s .layout) 1 in
+      record {
+        chunks =
+            let h = length-hold (s .layout .calldata .0) 0 (touchedCount 0 (length calldata)) [] in
+            let k = missing-le (has [] (s .layout .calldata .0)) 0 (touchedCount 0 (length calldata)) in
+            omega arith;
+        pages = list-fits (s .layout) (s .layout .calldata .0) [] (decodable s _ (fixed-known s _ y)) (s .pages) zero-le (λ e. absurd (true≢false (sym (rw y) ∙ e)));
+      }

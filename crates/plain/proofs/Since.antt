@@ -3,7 +3,7 @@
 use mathlib.Core.Path.{_≡_, refl, sym, ap, _∙_, subst}
 use mathlib.Core.Logic.{⊎-elim}
 use mathlib.Core.List.{List, [], _++_}
-use mathlib.Core.Bool.{true, false, true≢false}
+use mathlib.Core.Bool.{Bool, true, false, cond, not, true≢false}
 use Prim.Native.Nat.{ℕ, zero, suc, _+_, _*_, _/_, _≤_, _<_}
 use native.Mathlib.Omega.{arith}
 use native.Mathlib.Nat.{not-suc-le-zero}
@@ -19,12 +19,12 @@ use Rattle.page_ids.specs.declared.Layout.{Layout}
 use Rattle.formed.specs.Pages.{LayoutRule, fixed, journalCount, journalPlace, journalPage}
 use Rattle.formed.specs.Parts.{Note, tab}
 use Rattle.view.specs.View.{Setting}
-use Rattle.view.specs.Steps.{over, undone, rolledBytes, marks, alignedCount}
-use Rattle.view.specs.Calls.{Call, Value, Open, Allocate, ReadWord, ReadPartial, ReadRange, ReadByte, DynamicLength, WriteWord, WriteBytes, Lookup, LookupCheck, Snapshot, Rollback, DeleteHistory, outcomeOf}
-use Rattle.plain.specs.Plain.{Plain, put, follow, seen}
+use Rattle.view.specs.Steps.{over, touches, undone, rolledBytes, marks, alignedCount}
+use Rattle.view.specs.Calls.{Call, Value, Open, Allocate, ReadWord, ReadPartial, ReadRange, ReadByte, DynamicLength, WriteWord, WriteBytes, Lookup, LookupCheck, Free, Window, Truncate, CompareLeft, CompareRight, CompareBoth, Snapshot, Rollback, DeleteHistory, outcomeOf}
+use Rattle.plain.specs.Plain.{Plain, put, dropping, follow, seen}
 use Rattle.plain.specs.Claim.{Keeps}
 use Rattle.plain.proofs.Undone.{over-page, undone-at, undone-append, undone-write, word-covered, aligned-covered, rolled-own, drop-cut}
-use Rattle.plain.proofs.Seen.{fixed-id, allocate-dynamic}
+use Rattle.plain.proofs.Seen.{fixed-id, allocate-dynamic, free-loose, window-loose, truncate-loose}
 
 -- were a rollback to the numbers `to` the next call, it would be carried out, and the journals' pages would have the bytes f
 pub record Since (l : Layout) (to : ℕ → ℕ) (f : ℕ → ℕ → ℕ) (p : Plain) : Type 0 where
@@ -105,6 +105,16 @@ module _ (l : Layout) (r : LayoutRule l) (to : ℕ → ℕ) where
       since-put : Since l to f (put l q a bs notes p)
       since-put = since-own p (put l q a bs notes p) put-long put-page h
 
+    -- ---- a drop that names no chunk of a fixed page, as the journals' are
+    since-drop : (d : ℕ → ℕ → Bool) (u : ℕ → Bool) (n : ℕ) (p : Plain) → ((q k : ℕ) → fixed l q ≡ true → d q k ≡ false) → Since l to f p
+        → Since l to f (dropping d u n p)
+    since-drop d u n p loose h =
+        since-own p (dropping d u n p) (h .long)
+        (λ j b k.
+        undone-at (journalPage l j) (drop (to j) (p .journal j)) ((dropping d u n p) .bytes) (p .bytes) (journalPage l j) b
+        (ap (λ (t : Bool). cond t 0 (p .bytes (journalPage l j) b)) (loose (journalPage l j) (b / 256) (fixed-id l (journalPlace j)))))
+        h
+
     -- ---- a rollback to numbers that are no smaller
     module _ (heap aux : ℕ) (p : Plain) (h : Since l to f p) (up : (j : ℕ) → j < journalCount → to j ≤ marks heap aux j) where
       back-long : (j : ℕ) → j < journalCount → to j ≤ length (take (marks heap aux j) (p .journal j))
@@ -149,6 +159,13 @@ module _ (s : Setting) (r : LayoutRule (s .layout)) (heap aux : ℕ) (f : ℕ �
       (λ j w. undone-write q (p .bytes) a bs (alignedCount a (length bs)) (λ i. 32 * (a / 32 + i)) (aligned-covered a (length bs)))
   since-follow (Lookup q n z) e k h = h
   since-follow (LookupCheck q n z) e k h = h
+  since-follow (Free q) e k h = since-drop (s .layout) r (marks heap aux) f _ _ (p .dynamicLength) p (λ j i y. free-loose s (seen s p) q e j y) h
+  since-follow (Window q a n) e k h =
+      since-drop (s .layout) r (marks heap aux) f _ _ (p .dynamicLength) p (λ j i y. window-loose (s .layout) q j (not (touches a n i)) y) h
+  since-follow (Truncate n) e k h = since-drop (s .layout) r (marks heap aux) f _ _ n p (λ j i y. truncate-loose (s .layout) n j y) h
+  since-follow (CompareLeft other) e k h = h
+  since-follow (CompareRight other) e k h = h
+  since-follow CompareBoth e k h = h
   since-follow Snapshot e k h = h
   since-follow (Rollback x y) e k h =
       let u = k .1 x y refl t in

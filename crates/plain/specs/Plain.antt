@@ -1,9 +1,9 @@
 -- THE PLAIN MAP of 01. It is fed each call's arguments, but no lent memory, and whether the call was carried out.
 -- Assumes nothing.
-use mathlib.Core.Bool.{Bool, false, cond, _&&_, _||_}
+use mathlib.Core.Bool.{Bool, false, cond, not, _&&_, _||_}
 use mathlib.Core.List.{List, [], _∷_, _++_}
 use Prim.Native.Nat.{ℕ, zero, suc, _+_, _*_, _-_, _/_}
-use lib.Dec.{eqb}
+use lib.Dec.{leb, eqb}
 use lib.ListN.{length, take}
 use Rattle.outcome.specs.Outcome.{Outcome, carriedOut}
 use Rattle.word.specs.Value.{wordBytes}
@@ -11,8 +11,8 @@ use Rattle.formed.specs.Pages.{fixed, dynamic, group, journalCount}
 use Rattle.formed.specs.Parts.{Note, tab}
 use Rattle.page_ids.specs.declared.Layout.{Layout}
 use Rattle.view.specs.View.{View, Setting}
-use Rattle.view.specs.Steps.{max, over, touchedCount, alignedCount, journalled, rolledBytes, marks}
-use Rattle.view.specs.Calls.{Call, Value, Open, Allocate, ReadWord, ReadPartial, ReadRange, ReadByte, DynamicLength, WriteWord, WriteBytes, Lookup, LookupCheck, Snapshot, Rollback, DeleteHistory}
+use Rattle.view.specs.Steps.{max, over, touchedCount, touches, alignedCount, journalled, rolledBytes, marks}
+use Rattle.view.specs.Calls.{Call, Value, Open, Allocate, ReadWord, ReadPartial, ReadRange, ReadByte, DynamicLength, WriteWord, WriteBytes, Lookup, LookupCheck, Free, Window, Truncate, CompareLeft, CompareRight, CompareBoth, Snapshot, Rollback, DeleteHistory}
 
 -- it keeps a byte for each page and address, the held pairs of page and chunk number, the two journals with old words from its own bytes,
 -- and, by the rules of Pages, the allocated dynamic pages and the dynamic length
@@ -41,6 +41,11 @@ member (q ∷ pages) p = eqb p q || member pages p
 abbrev pub list : Layout → ℕ → List ℕ → List ℕ
 list l p pages = cond (dynamic l p) (cond (member pages p) pages (p ∷ pages)) pages
 
+-- those that the test does not name
+unfoldable pub others : {A : Type 0} → (A → Bool) → List A → List A
+others named [] = []
+others named (x ∷ xs) = cond (named x) (others named xs) (x ∷ others named xs)
+
 -- ---- what a call that was carried out does
 -- a write sets its bytes, holds each chunk that has one of these, and journals the notes where its page is a bootloader page
 abbrev pub put : Layout → ℕ → ℕ → List ℕ → List Note → Plain → Plain
@@ -56,6 +61,20 @@ put l p a bs notes m = record {
 abbrev pub noteOf : Plain → ℕ → ℕ → Note
 noteOf m p a = record { address = a; old = tab 32 (λ i. m .bytes p (a + i)) }
 
+-- a chunk that `dropped` names is zero and no longer held, a page that `free` names no longer allocated; the dynamic length becomes n
+abbrev pub dropping : (ℕ → ℕ → Bool) → (ℕ → Bool) → ℕ → Plain → Plain
+dropping dropped free n m = record {
+  bytes = λ p a. cond (dropped p (a / 256)) 0 (m .bytes p a);
+  held = others (λ pair. dropped (pair .0) (pair .1)) (m .held);
+  pages = others free (m .pages);
+  dynamicLength = n;
+  journal = m .journal;
+}
+
+-- a dynamic page of a group from n up
+abbrev pub fromUp : Layout → ℕ → ℕ → Bool
+fromUp l n p = dynamic l p && leb n (group l p)
+
 abbrev pub follow : Layout → Call → Plain → Plain
 follow l (Open t calldata) m = m
 follow l (Allocate p bs) m = put l p 0 bs [] m
@@ -68,6 +87,13 @@ follow l (WriteWord p a n) m = put l p a (wordBytes n) (noteOf m p a ∷ []) m
 follow l (WriteBytes p a bs) m = put l p a bs (tab (alignedCount a (length bs)) (λ i. noteOf m p (32 * (a / 32 + i)))) m
 follow l (Lookup p k z) m = m
 follow l (LookupCheck p k z) m = m
+-- free drops its page's chunks, a window those of its dynamic page that it does not overlap, truncation to n those of dynamic pages of groups from n up
+follow l (Free p) m = dropping (λ q k. eqb q p) (λ q. eqb q p) (m .dynamicLength) m
+follow l (Window p start n) m = dropping (λ q k. (eqb q p && dynamic l p) && not (touches start n k)) (λ q. false) (m .dynamicLength) m
+follow l (Truncate n) m = dropping (λ q k. fromUp l n q) (fromUp l n) n m
+follow l (CompareLeft other) m = m
+follow l (CompareRight other) m = m
+follow l CompareBoth m = m
 follow l Snapshot m = m
 follow l (Rollback heap aux) m = record {
   bytes = rolledBytes l (marks heap aux) (m .journal) journalCount (m .bytes);

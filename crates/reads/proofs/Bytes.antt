@@ -11,14 +11,11 @@ use lib.Seq.{getD-take, getD-drop, length-take-le}
 use borrow.Author.Tests.{le-leb, lt-leb, eqb-true}
 use Rattle.index.specs.Index.{seek}
 use Rattle.index.proofs.Logic.{and-left, and-right}
-use Rattle.index.proofs.Places.{seek-le}
-use Rattle.store.specs.Mem.{Mem, slotCount, entries, chunks}
-use Rattle.store.specs.Hold.{Indexed, PagesIndexed}
+use Rattle.store.specs.Mem.{Mem, slotCount, chunks}
 use Rattle.formed.specs.Parts.{tab, keyOf, entryOf, slotOfChunk, byteAt}
 use Rattle.formed.specs.Formed.{zeros}
 use Rattle.formed.specs.WellFormed.{WellFormed}
-use Rattle.formed.proofs.Sizes.{entries-long, chunks-long}
-use Rattle.formed.proofs.Meaning.{slots-index, pages-index}
+use Rattle.formed.proofs.Sizes.{chunks-long}
 use Rattle.reads.specs.Reading.{slotOf, byteOf, Put}
 use Rattle.reads.proofs.Tabs.{tab-is}
 use Rattle.reads.proofs.Puts.{put-by, put-on}
@@ -43,28 +40,6 @@ zero-at (x ∷ z) e zero = eqb-true x 0 (and-left (eqb x 0) (zeros z) e)
 zero-at (x ∷ z) e (suc i) = zero-at z (and-right (eqb x 0) (zeros z) e) i
 
 module _ (m : Mem) (f : WellFormed m) where
-  -- what the lookups ask
-  pub slots-asked : Indexed (m .keys) (m .order) (m .words)
-  slots-asked =
-      let k = f .lengths .in-keys in
-      let o = f .lengths .in-order in
-      let w = f .lengths .in-words in
-      record { head = omega arith; few = f .lengths .slots-hi; in-keys = omega arith; in-order = omega arith; index = slots-index m f }
-
-  pub pages-asked : PagesIndexed (m .keys) (m .order) (m .words)
-  pages-asked =
-      let k = f .lengths .in-keys in
-      let o = f .lengths .in-order in
-      let w = f .lengths .in-words in
-      record { head = omega arith; few = f .lengths .slots-hi; in-keys = omega arith; in-order = omega arith; index = pages-index m f }
-
-  pub entry-le : (p : ℕ) → entryOf m p ≤ 4100
-  entry-le p =
-      let l = seek-le (entries m) (p + 1) in
-      let n = entries-long m (f .lengths) in
-      let h = f .lengths .pages-hi in
-      omega arith
-
   -- n bytes from address a on, of one chunk, whose slot is s
   module _ (e a n s : ℕ) (one : a % 256 + n ≤ 256) (is : s ≡ slotOf (m .keys) (m .words) e (a / 256)) where
     place : (i : ℕ) → i < n → 256 * slotOf (m .keys) (m .words) e ((a + i) / 256) + (a + i) % 256 ≡ 256 * s + a % 256 + i

@@ -55,11 +55,11 @@ words-fit a n w e l = let h = small n l in omega arith
 
 -- ---- 4 and what comes after it; d is the page as decoded
 module _ (s : Setting) (v : View) (p : ℕ) (d : Page) (is : d ≡ decoded (s .layout) p) where
-  none-is : {b : Bool} → isNone d ≡ b → undecodable s p ≡ b
+  pub none-is : {b : Bool} → isNone d ≡ b → undecodable s p ≡ b
   unfolding undecodable
   none-is e = sym (ap isNone is) ∙ e
 
-  fixed-is : {b : Bool} → isFixed d ≡ b → fixed (s .layout) p ≡ b
+  pub fixed-is : {b : Bool} → isFixed d ≡ b → fixed (s .layout) p ≡ b
   unfolding fixed
   fixed-is e = sym (ap isFixed is) ∙ e
 

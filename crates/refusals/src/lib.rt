@@ -11,7 +11,7 @@ use page_ids::DecodedPage;
 use page_ids::PageId;
 
 // What a page id stands for in the memory's layout.
-fn decode(bytes: &[u8], keys: &[u64], order: &[u32], words: &[u64], page: u32) -> DecodedPage
+pub fn decode(bytes: &[u8], keys: &[u64], order: &[u32], words: &[u64], page: u32) -> DecodedPage
     requires { ⌜ WellFormed (mem (now bytes) (now keys) (now order) (now words)) ⌝ }
     ensures { λ r. ⌜ pageOf r ≡ decoded (layoutOf (now (words .entry))) page ⌝ }
 {

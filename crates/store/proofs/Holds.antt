@@ -10,7 +10,7 @@ use lib.Seq.{getD-set-same, getD-set-other, getD-take, length-take-le}
 use borrow.Author.Tests.{lt-ltb, le-ltb}
 use Rattle.index.specs.Index.{indexed, seek, usedCount, freeCount, Insertable}
 use Rattle.index.proofs.Counts.{count-le, used-free}
-use Rattle.index.proofs.Orders.{index-count, index-rises}
+use Rattle.index.proofs.Orders.{index-fits, index-count, index-rises}
 use Rattle.index.proofs.Places.{place-at}
 use Rattle.store.specs.Mem.{slotCount, heldNow}
 use Rattle.store.specs.Hold.{lacks, Indexed, Taken, Held}
@@ -43,6 +43,9 @@ module _ (keys order words : List ℕ) (ix : Indexed keys order words) where
   -- what the calls on the part of the slots ask
   pub part-index : indexed (take (slotCount words - 0) keys) (take (slotCount words - 0) order) (heldNow words) ≡ true
   part-index = rw (sub-zero (slotCount words)) (ix .index)
+
+  pub part-fits : heldNow words ≤ length (take (slotCount words - 0) order)
+  part-fits = index-fits (take (slotCount words - 0) keys) (take (slotCount words - 0) order) (heldNow words) part-index
 
   pub part-room : heldNow words < slotCount words → usedCount (take (slotCount words - 0) keys) < length (take (slotCount words - 0) keys)
   part-room room = rw (sub-zero (slotCount words)) (let l = cut-keys in let n = used-is in omega arith)

@@ -2,3 +2,4 @@
 
 pub mod Parts
 pub mod Holds
+pub mod Gives

@@ -1,12 +1,12 @@
 -- Parts of a list, as calls lend them.
 -- Assumes nothing.
-use mathlib.Core.Path.{_≡_, refl, sym, ap}
-use mathlib.Core.List.{List, [], _∷_, _++_}
+use mathlib.Core.Path.{_≡_, refl, sym, ap, _∙_}
+use mathlib.Core.List.{List, [], _∷_, _++_, append-nil}
 use Prim.Native.Nat.{ℕ, zero, suc, _+_, _-_, _≤_, _<_}
 use native.Mathlib.Nat.{le-of-suc-le-suc, not-suc-le-zero, le-of-eq, add-sub-cancel-left}
 use native.Mathlib.Omega.{arith}
-use lib.ListN.{length, take, drop, set, length-append, length-drop}
-use lib.Seq.{take-all}
+use lib.ListN.{length, take, drop, set, length-append, length-drop, drop-of-length-le}
+use lib.Seq.{take-all, length-take-le}
 
 -- `&xs[0..n]` is `take (n - 0) xs`, and `&mut xs[0..n]` leaves `e ++ drop (n - 0) xs`
 pub sub-zero : (n : ℕ) → n - 0 ≡ n
@@ -59,6 +59,17 @@ put-long xs e n a b = simp (length-append, length-drop) (omega arith)
 -- `&xs[n..]` is `take (length xs - n) (drop n xs)`
 pub rest-part : (xs : List ℕ) (n : ℕ) → take (length xs - n) (drop n xs) ≡ drop n xs
 rest-part xs n = take-all (length xs - n) (drop n xs) (le-of-eq (length-drop n xs))
+
+-- `&mut xs[n..]` leaves `take n xs ++ (e ++ drop (length xs - n) (drop n xs))`: the first part as it was, and e
+module _ (xs e : List ℕ) (n : ℕ) (l : n ≤ length xs) where
+  pub rest-low : take n (take n xs ++ (e ++ drop (length xs - n) (drop n xs))) ≡ take n xs
+  rest-low = take-front (take n xs) (e ++ drop (length xs - n) (drop n xs)) n (length-take-le n xs l)
+
+  pub rest-high : drop n (take n xs ++ (e ++ drop (length xs - n) (drop n xs))) ≡ e
+  rest-high =
+      drop-front (take n xs) (e ++ drop (length xs - n) (drop n xs)) n (length-take-le n xs l)
+      ∙ ap (λ (x : List ℕ). e ++ x) (drop-of-length-le (drop n xs) {i = length xs - n} (let d = length-drop n xs in omega arith))
+      ∙ append-nil e
 
 -- `&xs[a..a + n]` is `take (a + n - a) (drop a xs)`
 pub mid-part : (xs : List ℕ) (a n : ℕ) → take (a + n - a) (drop a xs) ≡ take n (drop a xs)

@@ -1,11 +1,12 @@
 // Slots of chunks, in the lent buffers of a memory.
 ghost use mathlib.Core.Path.{_≡_};
 ghost use mathlib.Core.Bool.{true};
-ghost use Prim.Native.Nat.{_+_, _<_, _≤_};
+ghost use Prim.Native.Nat.{ℕ, _+_, _*_, _<_, _≤_};
 ghost use lib.ListN.{length, getD, take, drop};
 ghost use Rattle.index.specs.Index.{seek, usedCount, freeCount};
 ghost use Rattle.store.specs.Mem.{slotCount, heldNow};
 ghost use Rattle.store.specs.Hold.{lacks, Indexed, PagesIndexed, Taken, Held};
+ghost use Rattle.store.specs.Give.{Zeroed, Wiped, Given};
 
 // How many slots are pooled.
 pub fn pool_count(keys: &[u64], order: &[u32], words: &[u64]) -> u64
@@ -74,4 +75,50 @@ pub fn hold(keys: &mut [u64], order: &mut [u32], words: &mut [u64], k: u64) -> u
         return s;
     }
     take_slot(keys, order, words, k)
+}
+
+// Zeroes the 256 bytes from a place on.
+fn clear_chunk(bytes: &mut [u8], at: usize)
+    requires { ⌜ at + 256 ≤ length (now bytes) ⌝ }
+    ensures { λ _. ⌜ Zeroed (now (bytes .entry)) at 256 (now (bytes .exit)) ⌝ }
+{
+    let mut i = 0;
+    while i < 256 {
+        bytes[at + i] = 0;
+        i += 1;
+    }
+}
+
+// Zeroes the chunks of the slots at the ranks from `from` up to, but without, `to`.
+fn wipe(bytes: &mut [u8], order: &[u32], from: usize, to: usize)
+    requires { ⌜ (from ≤ to) × (to ≤ length (now order)) × ((i : ℕ) → from ≤ i → i < to → 256 * getD (now order) i 0 + 256 ≤ length (now bytes)) ⌝ }
+    ensures { λ _. ⌜ Wiped (now (bytes .entry)) (now (order .entry)) from to (now (bytes .exit)) ⌝ }
+{
+    let mut i = from;
+    while i < to {
+        clear_chunk(bytes, 256 * order[i] as usize);
+        i += 1;
+    }
+}
+
+// Gives the slots back to the pool whose keys are from lo up to, but without, hi; their chunks are zeroed.
+pub fn give(
+    bytes: &mut [u8],
+    keys: &mut [u64],
+    order: &mut [u32],
+    words: &mut [u64],
+    lo: u64,
+    hi: u64,
+)
+    requires { ⌜ Indexed (now keys) (now order) (now words) ⌝ }
+    requires { ⌜ (256 * slotCount (now words) ≤ length (now bytes)) × (0 < lo) × (lo ≤ hi) ⌝ }
+    ensures { λ _. ⌜ Given lo hi (now (bytes .entry)) (now (keys .entry)) (now (order .entry)) (now (words .entry)) (now (bytes .exit)) (now (keys .exit)) (now (order .exit)) (now (words .exit)) ⌝ }
+{
+    let c = words[6] as usize;
+    let n = words[9] as usize;
+    let from = index::rank_below(&keys[0..c], &order[0..c], n, lo);
+    let to = index::rank_below(&keys[0..c], &order[0..c], n, hi);
+    wipe(bytes, &order[0..c], from, to);
+    index::remove(&mut keys[0..c], &mut order[0..c], n, from, to);
+    words[9] = (n - (to - from)) as u64;
 }

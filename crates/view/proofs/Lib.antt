@@ -1,3 +1,7 @@
 -- Laws of views that the crates of the calls share.
 pub mod Equal
 pub mod Compose
+pub mod Counting
+pub mod Counts
+pub mod Dropping
+pub mod Reading

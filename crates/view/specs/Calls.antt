@@ -9,12 +9,12 @@ use Rattle.outcome.specs.Outcome.{Outcome, refused, done, firstOf}
 use Rattle.word.specs.Value.{bigEndian, wordBytes}
 use Rattle.outcome.specs.declared.Answer.{Answer}
 use Rattle.outcome.specs.declared.Answer.the-variants.{Done, Refused}
-use Rattle.store.specs.Mem.{Mem}
+use Rattle.store.specs.Mem.{Mem, layoutOf}
 use Rattle.formed.specs.Formed.{zeros, wellFormed}
 use Rattle.view.specs.View.{View, Setting, settingOf, viewOf}
-use Rattle.view.specs.Steps.{run, wordWritten, bytesWritten, contentsAllocated, marks, rolledBack, forgotten, opened}
+use Rattle.view.specs.Steps.{run, wordWritten, bytesWritten, contentsAllocated, freed, windowed, truncated, alike, marks, rolledBack, forgotten, opened}
 use Rattle.view.specs.Does.{Does}
-use Rattle.view.specs.Checks.{wordWriteChecks, byteWriteChecks, allocateChecks, partialChecks, rangeChecks, lookupChecks, rollbackChecks, openingChecks, lengthsRight, bytesLength, keysLength, orderLength, wordsLength}
+use Rattle.view.specs.Checks.{wordWriteChecks, byteWriteChecks, allocateChecks, partialChecks, rangeChecks, lookupChecks, freeChecks, truncateChecks, compareChecks, rollbackChecks, openingChecks, lengthsRight, bytesLength, keysLength, orderLength, wordsLength}
 
 pub data Call : Type 0 where
   -- an opening with this setting and calldata
@@ -35,6 +35,16 @@ pub data Call : Type 0 where
   -- of a page, a chunk number, with this zero block
   Lookup : ℕ → ℕ → List ℕ → Call
   LookupCheck : ℕ → ℕ → List ℕ → Call
+  -- of a page
+  Free : ℕ → Call
+  -- of a page: a start and a length
+  Window : ℕ → ℕ → ℕ → Call
+  -- to a dynamic length
+  Truncate : ℕ → Call
+  -- with another memory, of which nothing is known: this one on the left, on the right, on both sides
+  CompareLeft : Mem → Call
+  CompareRight : Mem → Call
+  CompareBoth : Call
   Snapshot : Call
   Rollback : ℕ → ℕ → Call
   DeleteHistory : Call
@@ -44,6 +54,7 @@ pub data Value : Type 0 where
   number : ℕ → Value
   lengths : ℕ → ℕ → Value
   bytes : List ℕ → Value
+  verdict : Bool → Value
 
 -- two settings ask for buffers of the same lengths
 abbrev pub sameLengths : Setting → Setting → Bool
@@ -71,6 +82,12 @@ outcomeOf s (WriteWord p a n) v = firstOf (wordWriteChecks s v p a) (done nothin
 outcomeOf s (WriteBytes p a bs) v = firstOf (byteWriteChecks s v p a (length bs)) (done nothing)
 outcomeOf s (Lookup p k z) v = done (bytes (shown v p k z))
 outcomeOf s (LookupCheck p k z) v = firstOf (lookupChecks z) (done nothing)
+outcomeOf s (Free p) v = firstOf (freeChecks s v p) (done nothing)
+outcomeOf s (Window p start n) v = done nothing
+outcomeOf s (Truncate n) v = firstOf (truncateChecks v n) (done nothing)
+outcomeOf s (CompareLeft other) v = firstOf (compareChecks (s .layout) other) (done (verdict (alike v (viewOf other))))
+outcomeOf s (CompareRight other) v = firstOf (compareChecks (s .layout) other) (done (verdict (alike (viewOf other) v)))
+outcomeOf s CompareBoth v = done (verdict (alike v v))
 outcomeOf s Snapshot v = done (lengths (length (v .journal 0)) (length (v .journal 1)))
 outcomeOf s (Rollback heap aux) v = firstOf (rollbackChecks v heap aux) (done nothing)
 outcomeOf s DeleteHistory v = done nothing
@@ -88,6 +105,12 @@ nextOf s (WriteWord p a n) v = wordWritten (s .layout) p a (wordBytes n) v
 nextOf s (WriteBytes p a bs) v = bytesWritten (s .layout) p a bs v
 nextOf s (Lookup p k z) v = v
 nextOf s (LookupCheck p k z) v = v
+nextOf s (Free p) v = freed s p v
+nextOf s (Window p start n) v = windowed s p start n v
+nextOf s (Truncate n) v = truncated s n v
+nextOf s (CompareLeft other) v = v
+nextOf s (CompareRight other) v = v
+nextOf s CompareBoth v = v
 nextOf s Snapshot v = v
 nextOf s (Rollback heap aux) v = rolledBack (s .layout) (marks heap aux) v
 nextOf s DeleteHistory v = forgotten v
@@ -100,6 +123,10 @@ answerOf m c = firstOf ((not (wellFormed m), refused 3) ∷ []) (outcomeOf (sett
 -- call c on the buffers m has the outcome o and leaves the buffers m'
 abbrev pub CallDoes : Mem → Call → Outcome Value → Mem → Type 0
 CallDoes m c o m' = Does m (answerOf m c) (settingOf m) (nextOf (settingOf m) c (viewOf m)) o m'
+
+-- a comparison of two memories, neither of which has to be well formed
+abbrev pub comparisonOf : Mem → Mem → Outcome Value
+comparisonOf m n = firstOf ((not (wellFormed m), refused 3) ∷ compareChecks (layoutOf (m .words)) n) (done (verdict (alike (viewOf m) (viewOf n))))
 
 -- an opening, on any buffers
 abbrev pub OpenDoes : Mem → Setting → List ℕ → Outcome Value → Mem → Type 0

@@ -7,7 +7,8 @@ use lib.Dec.{ltb, leb, eqb}
 use lib.ListN.{length}
 use Rattle.outcome.specs.Outcome.{Outcome, refused, done, firstOf}
 use Rattle.page_ids.specs.Decode.{Page, none, page, badLayout, decoded}
-use Rattle.store.specs.Mem.{Mem, headLength}
+use Rattle.page_ids.specs.declared.Layout.{Layout}
+use Rattle.store.specs.Mem.{Mem, headLength, layoutOf}
 use Rattle.formed.specs.Pages.{fixed, journalCount}
 use Rattle.formed.specs.Formed.{wellFormed, zeros}
 use Rattle.view.specs.View.{View, Setting}
@@ -52,6 +53,10 @@ byteWriteChecks s v p a n = (undecodable s p, refused 4) ∷ (ltb (2 ^ 32) (a + 
 abbrev pub allocateChecks : {A : Type 0} → Setting → View → ℕ → ℕ → List (Check A)
 allocateChecks s v p n = (undecodable s p, refused 4) ∷ (fixed (s .layout) p, refused 5) ∷ (v .allocated p, refused 6) ∷ room s v p 0 n 0
 
+-- a free of page p
+abbrev pub freeChecks : {A : Type 0} → Setting → View → ℕ → List (Check A)
+freeChecks s v p = (undecodable s p, refused 4) ∷ (fixed (s .layout) p, refused 5) ∷ (not (v .allocated p), refused 7) ∷ []
+
 -- a partial read of the bytes from `start` to `end`
 abbrev pub partialChecks : {A : Type 0} → ℕ → ℕ → List (Check A)
 partialChecks start end = (ltb 32 (end - start), refused 8) ∷ []
@@ -67,6 +72,24 @@ lookupChecks z = (not (eqb (length z) 256 && zeros z), refused 8) ∷ []
 -- a rollback to the numbers `heap` and `aux`
 abbrev pub rollbackChecks : {A : Type 0} → View → ℕ → ℕ → List (Check A)
 rollbackChecks v heap aux = (ltb (length (v .journal 0)) heap || ltb (length (v .journal 1)) aux, refused 12) ∷ []
+
+-- a truncation to n
+abbrev pub truncateChecks : {A : Type 0} → View → ℕ → List (Check A)
+truncateChecks v n = (ltb (v .dynamicLength) n, refused 13) ∷ []
+
+-- two layouts have the same six numbers
+abbrev pub sameLayout : Layout → Layout → Bool
+sameLayout l k =
+    eqb (l .«static_memory» .0) (k .«static_memory» .0)
+    && (eqb (l .calldata .0) (k .calldata .0)
+    && (eqb (l .«bootloader_heap» .0) (k .«bootloader_heap» .0)
+    && (eqb (l .«bootloader_aux» .0) (k .«bootloader_aux» .0)
+    && (eqb (l .base .0) (k .base .0)
+    && eqb (l .stride) (k .stride)))))
+
+-- a comparison with another memory, which may be not well formed; 1 comes after 3
+abbrev pub compareChecks : {A : Type 0} → Layout → Mem → List (Check A)
+compareChecks l other = (not (wellFormed other), refused 3) ∷ (not (sameLayout l (layoutOf (other .words))), refused 1) ∷ []
 
 -- ---- opening
 -- the counts are in bounds

@@ -1,10 +1,11 @@
 -- What each call that is carried out does to the view, in the order of 01's plain map.
 -- Assumes nothing.
-use mathlib.Core.Bool.{Bool, false, cond, _&&_, _||_}
+use mathlib.Core.Bool.{Bool, false, cond, not, _&&_, _||_}
 use mathlib.Core.List.{List, [], _∷_, _++_}
-use Prim.Native.Nat.{ℕ, zero, suc, _+_, _*_, _-_, _/_}
+use Prim.Native.Nat.{ℕ, zero, suc, _+_, _*_, _-_, _/_, _%_}
 use lib.Dec.{ltb, leb, eqb}
 use lib.ListN.{length, getD, take, drop}
+use Rattle.index.specs.Index.{all}
 use Rattle.formed.specs.Pages.{fixed, dynamic, group, journalCount, journalPage}
 use Rattle.formed.specs.Parts.{Note, tab}
 use Rattle.page_ids.specs.declared.Layout.{Layout}
@@ -78,6 +79,62 @@ bytesWritten l p a bs v = written l p a bs (alignedNotes v p a (length bs)) v
 -- ---- allocation: contents from address 0; it journals nothing
 abbrev pub contentsAllocated : Layout → ℕ → List ℕ → View → View
 contentsAllocated l p bs v = written l p 0 bs [] v
+
+-- ---- freeing
+-- how many of the numbers below n pass the test
+unfoldable pub count : (ℕ → Bool) → ℕ → ℕ
+count test zero = 0
+count test (suc n) = count test n + cond (test n) 1 0
+
+-- how many pairs of a page and a chunk number pass it; a page id has 32 bits, and no chunk number reaches 33,554,432
+unfoldable pub pairs : (ℕ → ℕ → Bool) → ℕ
+pairs test = count (λ i. test (i / 33554432) (i % 33554432)) 144115188075855872
+
+-- the chunks that `dropped` names are zero and no longer held, the pages that `free` names no longer allocated; each chunk that is not held
+-- is in the pool, and each entry that no dynamic page has is left
+abbrev pub without : Setting → (ℕ → ℕ → Bool) → (ℕ → Bool) → View → View
+without s dropped free v = record {
+  bytes = λ q a. cond (dropped q (a / 256)) 0 (v .bytes q a);
+  held = λ q k. v .held q k && not (dropped q k);
+  pool = s .chunks - pairs (λ q k. v .held q k && not (dropped q k));
+  allocated = λ q. v .allocated q && not (free q);
+  entries = s .pages - count (λ q. (v .allocated q && not (free q)) && dynamic (s .layout) q) 4294967296;
+  dynamicLength = v .dynamicLength;
+  journal = v .journal;
+}
+
+-- free drops its page's chunks
+abbrev pub freed : Setting → ℕ → View → View
+freed s p v = without s (λ q k. eqb q p) (λ q. eqb q p) v
+
+-- a window those of its dynamic page that it does not overlap
+abbrev pub windowed : Setting → ℕ → ℕ → ℕ → View → View
+windowed s p start n v = without s (λ q k. (eqb q p && dynamic (s .layout) p) && not (touches start n k)) (λ q. false) v
+
+-- truncation to n those of dynamic pages of groups from n up, and the dynamic length becomes n
+abbrev pub fromGroup : Layout → ℕ → ℕ → Bool
+fromGroup l n q = dynamic l q && leb n (group l q)
+
+abbrev pub shortened : ℕ → View → View
+shortened n v = record {
+  bytes = v .bytes;
+  held = v .held;
+  pool = v .pool;
+  allocated = v .allocated;
+  entries = v .entries;
+  dynamicLength = n;
+  journal = v .journal;
+}
+
+abbrev pub truncated : Setting → ℕ → View → View
+truncated s n v = shortened n (without s (λ q k. fromGroup (s .layout) n q) (fromGroup (s .layout) n) v)
+
+-- ---- comparison: two memories are equal when every page has equal bytes and the same dynamic pages are allocated (fixed ones always are)
+abbrev pub same : Bool → Bool → Bool
+same a b = cond a b (not b)
+
+unfoldable pub alike : View → View → Bool
+alike v w = all (λ p. same (v .allocated p) (w .allocated p) && all (λ a. eqb (v .bytes p a) (w .bytes p a)) 4294967327) 4294967296
 
 -- ---- history
 -- the words put back, newest first

@@ -12,7 +12,9 @@ use Rattle.word.specs.Value.{wordBytes}
 use Rattle.page_ids.specs.declared.Layout.{Layout}
 use Rattle.store.specs.Mem.{Mem, layoutOf, journalRoom, holders}
 use Rattle.formed.specs.Pages.{journalCount, journalPlace, journalPage}
-use Rattle.formed.specs.Parts.{Note, tab}
+use Rattle.formed.proofs.Sense.{unlisted-holds}
+use Rattle.formed.proofs.Same.{tab-same}
+use Rattle.formed.specs.Parts.{Note}
 use Rattle.formed.specs.WellFormed.{WellFormed}
 use Rattle.formed.proofs.Pages.{is-fixed, place-lt}
 use Rattle.view.specs.View.{View, Setting, settingOf, viewOf}
@@ -28,7 +30,6 @@ use Rattle.index.proofs.Counts.{used-free}
 use Rattle.formed.proofs.Sizes.{holders-long}
 use Rattle.view.specs.Checks.{wordWriteChecks, byteWriteChecks, allocateChecks}
 use Rattle.room.specs.Refusals.{number}
-use Rattle.pages.proofs.Listing.{unlisted-holds}
 use Rattle.refusals.proofs.Passed.{Room, decodable, word-passed, bytes-passed, allocate-passed}
 
 -- ---- ranges
@@ -219,11 +220,6 @@ pub counted-by : (m : Mem) (a n j i : ℕ) → i ≡ alignedCount a n → (m' : 
 counted-by m a n j i is m' shown = subst (λ (x : ℕ). Shows (settingOf m) (noting j (alignedFrom (viewOf m) (journalPage (layoutOf (m .words)) j) (a / 32) x) (viewOf m)) m') is shown
 
 -- ---- the notes are those of the memory before
-tab-same : {A : Type 0} (n : ℕ) (f g : ℕ → A) → ((i : ℕ) → f i ≡ g i) → tab n f ≡ tab n g
-unfolding tab
-tab-same zero f g h = refl
-tab-same (suc n) f g h = rw (h 0, tab-same n (λ i. f (suc i)) (λ i. g (suc i)) (λ i. h (suc i))) refl
-
 run-same : (v w : View) (p x n : ℕ) → ((b : ℕ) → v .bytes p b ≡ w .bytes p b) → run v p x n ≡ run w p x n
 run-same v w p x n h = tab-same n _ _ (λ i. h (x + i))
 

@@ -3,11 +3,12 @@ use Prim.Native.Nat.{_+_, _-_, _≤_}
 use native.Mathlib.Omega.{arith}
 use lib.ListN.{length, take}
 use borrow.Author.Needs.{needs}
+use Rattle.formed.proofs.Asks.{pages-asked, slots-asked}
 use Rattle.store.specs.Mem.{mem}
 use Rattle.view.specs.View.{settingOf, viewOf}
 use Rattle.view.specs.Does.{Shows}
 use Rattle.view.specs.Inner.{putting}
-use Rattle.bodies.proofs.Puts.{slots-asked, pages-asked, entry-small, put-none, put-slot, put-in, put-more, put-done}
+use Rattle.bodies.proofs.Puts.{entry-small, put-none, put-slot, put-in, put-more, put-done}
 use Rattle.bodies.proofs.write_from.Statement.{statement}
 use Rattle.bodies.proofs.write_from.Tie as tie
 

@@ -4,11 +4,11 @@ use native.Mathlib.Nat.{le-antisymm}
 use native.Mathlib.Omega.{arith}
 use lib.ListN.{length}
 use borrow.Author.Needs.{needs}
+use Rattle.formed.proofs.Asks.{entry-few, pages-asked, slots-asked}
 use Rattle.store.specs.Mem.{mem}
 use Rattle.view.specs.View.{viewOf, settingOf}
 use Rattle.view.specs.Does.{Shows}
 use Rattle.view.specs.Inner.{holding}
-use Rattle.chunks.proofs.Asks.{slots-asks, pages-asks, entry-few}
 use Rattle.chunks.proofs.Turns.{After, after-none, turn-room, turn-after}
 use Rattle.chunks.proofs.hold_chunks.Statement.{statement}
 use Rattle.chunks.proofs.hold_chunks.Tie as tie
@@ -23,7 +23,7 @@ abbrev μ-loop : tie.MeasureT-loop
 entry-of-requires : tie.Need-entry-of-requires Inv-loop μ-loop
 entry-of-requires c κs =
     let start = c .before .before .before .before .before .before .before in
-    pages-asks _ (start .pre .formed)
+    pages-asked _ (start .pre .formed)
 
 mul-k : tie.Need-mul-k Inv-loop μ-loop
 mul-k c =
@@ -64,7 +64,7 @@ hold-requires c κs =
     let at-loop = at-loop-test .before in
     let at-entry-of = at-loop .before in
     let start = at-entry-of .before .before .before .before .before .before .before .before in
-    (slots-asks _ (at-loop .loop .inv .4 .shows .formed), (omega arith, turn-room _ _ _ _ (start .pre) (at-loop .loop .i) (at-loop-test .loop-test .taken) _ _ _ _ (at-loop .loop .inv .4) _ (at-entry-of .entry-of .result * 33554432 + 1 + start .args .first + at-loop .loop .i) (at-entry-of .entry-of .ensures) (omega arith)))
+    (slots-asked _ (at-loop .loop .inv .4 .shows .formed), (omega arith, turn-room _ _ _ _ (start .pre) (at-loop .loop .i) (at-loop-test .loop-test .taken) _ _ _ _ (at-loop .loop .inv .4) _ (at-entry-of .entry-of .result * 33554432 + 1 + start .args .first + at-loop .loop .i) (at-entry-of .entry-of .ensures) (omega arith)))
 
 add-i : tie.Need-add-i Inv-loop μ-loop
 add-i c = search needs

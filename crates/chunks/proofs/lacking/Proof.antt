@@ -4,10 +4,10 @@ use Prim.Native.Nat.{_+_, _*_, _-_, _≤_}
 use native.Mathlib.Nat.{le-antisymm}
 use native.Mathlib.Omega.{arith}
 use borrow.Author.Needs.{needs}
+use Rattle.formed.proofs.Asks.{entry-few, pages-asked, slots-asked}
 use Rattle.store.specs.Mem.{mem}
 use Rattle.formed.specs.Parts.{holds, keyOf, entryOf}
 use Rattle.view.specs.Steps.{missing}
-use Rattle.chunks.proofs.Asks.{slots-asks, pages-asks, entry-few}
 use Rattle.chunks.proofs.Ranges.{missing-none}
 use Rattle.chunks.proofs.Turns.{count-lack, count-hold}
 use Rattle.chunks.proofs.lacking.Statement.{statement}
@@ -22,7 +22,7 @@ abbrev μ-loop : tie.MeasureT-loop
 entry-of-requires : tie.Need-entry-of-requires Inv-loop μ-loop
 entry-of-requires c κs =
     let start = c .before .before .before .before in
-    pages-asks _ (start .pre .0)
+    pages-asked _ (start .pre .0)
 
 mul-k : tie.Need-mul-k Inv-loop μ-loop
 mul-k c =
@@ -63,7 +63,7 @@ add-slot-of c =
 slot-of-requires : tie.Need-slot-of-requires Inv-loop μ-loop
 slot-of-requires c κs =
     let start = c .before .before .before .before .before .before .before .before in
-    (slots-asks _ (start .pre .0), omega arith)
+    (slots-asked _ (start .pre .0), omega arith)
 
 add-n : tie.Need-add-n Inv-loop μ-loop
 add-n c = search needs

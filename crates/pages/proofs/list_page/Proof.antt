@@ -1,13 +1,14 @@
 use native.Mathlib.Omega.{arith}
 use borrow.Author.Needs.{needs}
-use Rattle.pages.proofs.Listing.{pages-asked, listed-already, entry-asks, listed-now}
+use Rattle.formed.proofs.Asks.{pages-asked}
+use Rattle.pages.proofs.Listing.{listed-already, entry-asks, listed-now}
 use Rattle.pages.proofs.list_page.Statement.{statement}
 use Rattle.pages.proofs.list_page.Tie as tie
 
 entry-of-requires : tie.Need-entry-of-requires
 entry-of-requires c κs =
     let start = c .before .before .before .before .before .before .before in
-    pages-asked _ _ (start .pre)
+    pages-asked _ (start .pre .formed)
 
 slice-read-if1 : tie.Need-slice-read-if1
 slice-read-if1 c = search needs

@@ -1,7 +1,8 @@
 use native.Mathlib.Omega.{arith}
 use borrow.Author.Needs.{needs}
+use Rattle.formed.proofs.Asks.{entry-few, pages-asked, slots-asked}
 use Rattle.store.specs.Mem.{mem}
-use Rattle.reads.proofs.Bytes.{slots-asked, pages-asked, entry-le, byte-held, byte-none}
+use Rattle.reads.proofs.Bytes.{byte-held, byte-none}
 use Rattle.reads.proofs.byte_at.Statement.{statement}
 use Rattle.reads.proofs.byte_at.Tie as tie
 
@@ -19,7 +20,7 @@ slot-at-requires c κs =
     let at-entry-of = c in
     let start = at-entry-of .before .before .before .before .before in
     let m = mem (start .args .bytes .now) (start .args .keys .now) (start .args .order .now) (start .args .words .now) in
-    (slots-asked m (start .pre), omega (arith, at-entry-of .entry-of .ensures, entry-le m (start .pre) (start .args .page)))
+    (slots-asked m (start .pre), omega (arith, at-entry-of .entry-of .ensures, entry-few m (start .pre) (start .args .page)))
 
 shared-slice-read-if1 : tie.Need-shared-slice-read-if1
 shared-slice-read-if1 c = search needs

@@ -4,10 +4,11 @@ use native.Mathlib.Nat.{not-suc-le-zero}
 use native.Mathlib.Omega.{arith}
 use lib.ListN.{length, getD}
 use borrow.Author.Needs.{needs}
+use Rattle.formed.proofs.Asks.{entry-few, pages-asked}
 use Rattle.store.specs.Mem.{mem}
 use Rattle.formed.specs.Parts.{byteAt}
 use Rattle.reads.proofs.Tabs.{tab-is}
-use Rattle.reads.proofs.Bytes.{pages-asked, entry-le, part-on}
+use Rattle.reads.proofs.Bytes.{part-on}
 use Rattle.reads.proofs.read_into.Statement.{statement}
 use Rattle.reads.proofs.read_into.Tie as tie
 
@@ -46,7 +47,7 @@ read-part-requires c κs =
     let at-entry-of = at-loop .before in
     let start = at-entry-of .before .before .before .before .before .before in
     let m = mem (start .args .bytes .now) (start .args .keys .now) (start .args .order .now) (start .args .words .now) in
-    (start .pre .0, (omega (arith, at-entry-of .entry-of .ensures, entry-le m (start .pre .0) (start .args .page)), omega (arith, at-least .least .ensures), omega (arith, at-least .least .ensures, at-loop .loop .inv .1, at-loop-test .loop-test .taken)))
+    (start .pre .0, (omega (arith, at-entry-of .entry-of .ensures, entry-few m (start .pre .0) (start .args .page)), omega (arith, at-least .least .ensures), omega (arith, at-least .least .ensures, at-loop .loop .inv .1, at-loop-test .loop-test .taken)))
 
 add-pos : tie.Need-add-pos Inv-loop μ-loop
 add-pos c = search needs

@@ -1,6 +1,7 @@
 use borrow.Author.Needs.{needs}
+use Rattle.formed.proofs.Asks.{slots-asked}
 use Rattle.store.specs.Mem.{mem}
-use Rattle.reads.proofs.Bytes.{slots-asked, part-held, part-none}
+use Rattle.reads.proofs.Bytes.{part-held, part-none}
 use Rattle.reads.proofs.read_part.Statement.{statement}
 use Rattle.reads.proofs.read_part.Tie as tie
 

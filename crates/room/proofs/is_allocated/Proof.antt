@@ -1,12 +1,12 @@
 use borrow.Author.Needs.{needs}
+use Rattle.formed.proofs.Asks.{pages-asked}
 use Rattle.store.specs.Mem.{mem}
-use Rattle.chunks.proofs.Asks.{pages-asks}
 use Rattle.room.proofs.Tables.{allocated-by}
 use Rattle.room.proofs.is_allocated.Statement.{statement}
 use Rattle.room.proofs.is_allocated.Tie as tie
 
 entry-of-requires : tie.Need-entry-of-requires
-entry-of-requires c κs = let start = c .before .before .before .before in pages-asks (mem (start .args .bytes .now) (start .args .keys .now) (start .args .order .now) (start .args .words .now)) (start .pre)
+entry-of-requires c κs = let start = c .before .before .before .before in pages-asked (mem (start .args .bytes .now) (start .args .keys .now) (start .args .order .now) (start .args .words .now)) (start .pre)
 
 shared-slice-read-result : tie.Need-shared-slice-read-result
 shared-slice-read-result c = search needs

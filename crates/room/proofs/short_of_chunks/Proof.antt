@@ -3,13 +3,13 @@ use mathlib.Core.Path.{_≡_, sym, _∙_}
 use Prim.Native.Nat.{_-_, _≤_}
 use native.Mathlib.Omega.{arith}
 use borrow.Author.Needs.{needs}
+use Rattle.formed.proofs.Asks.{entry-few, pages-asked, slots-asked}
 use Rattle.room.proofs.Ranges.{counted-lack, counted-has, over-pool, within-pool}
 use Rattle.room.proofs.Tables.{lacks-at}
 use Rattle.store.specs.Mem.{mem}
 use Rattle.view.specs.View.{viewOf}
 use Rattle.view.specs.Steps as spec
 use Rattle.formed.specs.Parts.{pool}
-use Rattle.chunks.proofs.Asks.{slots-asks, pages-asks, entry-few}
 use Rattle.chunks.proofs.Ranges.{missing-none}
 use Rattle.room.proofs.short_of_chunks.Statement.{statement}
 use Rattle.room.proofs.short_of_chunks.Tie as tie
@@ -21,10 +21,10 @@ abbrev μ-loop : tie.MeasureT-loop
 μ-loop bytes keys order words page first count pool e missing₀ i₀ missing i = count - i
 
 pool-count-requires : tie.Need-pool-count-requires Inv-loop μ-loop
-pool-count-requires c κs = let start = c .before .before .before .before in slots-asks (mem (start .args .bytes .now) (start .args .keys .now) (start .args .order .now) (start .args .words .now)) (start .pre .0)
+pool-count-requires c κs = let start = c .before .before .before .before in slots-asked (mem (start .args .bytes .now) (start .args .keys .now) (start .args .order .now) (start .args .words .now)) (start .pre .0)
 
 entry-of-requires : tie.Need-entry-of-requires Inv-loop μ-loop
-entry-of-requires c κs = let start = c .before .before .before .before .before in pages-asks (mem (start .args .bytes .now) (start .args .keys .now) (start .args .order .now) (start .args .words .now)) (start .pre .0)
+entry-of-requires c κs = let start = c .before .before .before .before .before in pages-asked (mem (start .args .bytes .now) (start .args .keys .now) (start .args .order .now) (start .args .words .now)) (start .pre .0)
 
 loop-holds : tie.Need-loop-holds Inv-loop μ-loop
 loop-holds c = let start = c .before .before .before .before .before .before in (search needs, search needs, sym (missing-none (viewOf (mem (start .args .bytes .now) (start .args .keys .now) (start .args .order .now) (start .args .words .now)) .held (start .args .page)) (start .args .first)))
@@ -33,7 +33,7 @@ add-lacks : tie.Need-add-lacks Inv-loop μ-loop
 add-lacks c = search needs
 
 lacks-requires : tie.Need-lacks-requires Inv-loop μ-loop
-lacks-requires c κs = let start = c .before .before .before .before .before .before .before .before in (slots-asks (mem (start .args .bytes .now) (start .args .keys .now) (start .args .order .now) (start .args .words .now)) (start .pre .0), let e = entry-few (mem (start .args .bytes .now) (start .args .keys .now) (start .args .order .now) (start .args .words .now)) (start .pre .0) (start .args .page) in let q = c .before .before .entry-of .ensures in omega arith)
+lacks-requires c κs = let start = c .before .before .before .before .before .before .before .before in (slots-asked (mem (start .args .bytes .now) (start .args .keys .now) (start .args .order .now) (start .args .words .now)) (start .pre .0), let e = entry-few (mem (start .args .bytes .now) (start .args .keys .now) (start .args .order .now) (start .args .words .now)) (start .pre .0) (start .args .page) in let q = c .before .before .entry-of .ensures in omega arith)
 
 returns : tie.Need-returns Inv-loop μ-loop
 returns c = let start = c .before .before .before .before .before .before .before .before .before .before .before in let at-loop = c .before .before .before .before in over-pool (viewOf (mem (start .args .bytes .now) (start .args .keys .now) (start .args .order .now) (start .args .words .now)) .held (start .args .page)) (start .args .first) _ (at-loop .loop .i) (c .before .before .lacks .ensures ∙ lacks-at (mem (start .args .bytes .now) (start .args .keys .now) (start .args .order .now) (start .args .words .now)) (start .args .page) _ _ (c .before .before .before .before .before .entry-of .ensures)) (start .args .count) _ _ (c .before .before .before .loop-test .taken) (c .before .if1 .taken) (at-loop .loop .inv .2) (c .if2 .taken ∙ c .before .before .before .before .before .before .pool-count .ensures)

@@ -1,0 +1,48 @@
+use Rattle.drops.proofs.Drops.{freed-by}
+use Rattle.drops.proofs.Drops.{all-asked, unlist-asked}
+use Prim.Native.Nat.{_-_}
+use borrow.Author.Needs.{needs}
+use Rattle.drops.proofs.free_page.Statement.{statement}
+use Rattle.drops.proofs.free_page.Tie as tie
+
+drop-chunks-requires : tie.Need-drop-chunks-requires
+drop-chunks-requires c κs =
+    let start = c .before .before .before .before .before .before .before .before in
+    all-asked _ _ (start .pre)
+
+unlist-page-requires : tie.Need-unlist-page-requires
+unlist-page-requires c κs =
+    let at-drop-chunks = c .before .before .before .before .before .before .before .before .before .before .before .before in
+    let start = at-drop-chunks .before .before .before .before .before .before .before .before .before in
+    unlist-asked _ _ (start .pre) _ (at-drop-chunks .drop-chunks .ensures .0)
+
+same-length : tie.Need-same-length
+same-length c = search needs
+
+same-length-2 : tie.Need-same-length-2
+same-length-2 c = search needs
+
+same-length-3 : tie.Need-same-length-3
+same-length-3 c = search needs
+
+same-length-4 : tie.Need-same-length-4
+same-length-4 c = search needs
+
+returns : tie.Need-returns
+returns c =
+    let at-unlist-page = c .before .before .before .before .before .before in
+    let at-drop-chunks = at-unlist-page .before .before .before .before .before .before .before .before .before .before .before .before .before in
+    let start = at-drop-chunks .before .before .before .before .before .before .before .before .before in
+    freed-by _ _ (start .pre) _ _ (at-drop-chunks .drop-chunks .ensures) (at-unlist-page .unlist-page .ensures)
+
+pub free-page-spec : {M : Type 1} → statement M
+free-page-spec =
+    tie.close
+    (tie.spec
+    drop-chunks-requires
+    unlist-page-requires
+    same-length
+    same-length-2
+    same-length-3
+    same-length-4
+    returns)

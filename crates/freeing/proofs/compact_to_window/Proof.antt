@@ -1,0 +1,121 @@
+use Rattle.freeing.proofs.Calls.{both-asked}
+use Rattle.freeing.proofs.Windows.{window-none}
+use Rattle.refusals.proofs.Passed.{end, refused-does, done-does}
+use Rattle.refusals.proofs.Chosen.{ill-chosen, well-chosen}
+use Rattle.view.specs.Calls.{Call, nextOf}
+use mathlib.Core.List.{[]}
+use mathlib.Core.Path.{refl}
+use Rattle.formed.proofs.Meaning.{well-formed-means}
+use Rattle.view.specs.View.{settingOf, viewOf}
+use Rattle.store.specs.Mem.{mem}
+use borrow.Author.Tests.{not-true, not-false}
+use mathlib.Core.Path.{sym, _∙_}
+use Prim.Native.Nat.{_-_}
+use mathlib.Core.Path.{refl, sym, _∙_}
+use native.Mathlib.Omega.{arith}
+use lib.ListN.{length}
+use borrow.Author.Needs.{needs}
+use Rattle.freeing.proofs.compact_to_window.Statement.{statement}
+use Rattle.freeing.proofs.compact_to_window.Tie as tie
+
+well-formed-requires : tie.Need-well-formed-requires
+well-formed-requires c κs = search needs
+
+same-length : tie.Need-same-length
+same-length c = search needs
+
+same-length-2 : tie.Need-same-length-2
+same-length-2 c = search needs
+
+same-length-3 : tie.Need-same-length-3
+same-length-3 c = search needs
+
+same-length-4 : tie.Need-same-length-4
+same-length-4 c = search needs
+
+returns : tie.Need-returns
+returns c =
+    let at-if1 = c in
+    let at-well-formed = at-if1 .before in
+    let start = at-well-formed .before .before .before .before .before .before .before .before .before in
+    refused-does (mem (start .args .bytes .now) (start .args .keys .now) (start .args .order .now) (start .args .words .now)) [] (settingOf (mem (start .args .bytes .now) (start .args .keys .now) (start .args .order .now) (start .args .words .now))) (nextOf (settingOf (mem (start .args .bytes .now) (start .args .keys .now) (start .args .order .now) (start .args .words .now))) (Call.Window (start .args .page .0) (start .args .start .0) (start .args .length)) (viewOf (mem (start .args .bytes .now) (start .args .keys .now) (start .args .order .now) (start .args .words .now)))) 3 (ill-chosen (mem (start .args .bytes .now) (start .args .keys .now) (start .args .order .now) (start .args .words .now)) [] (sym (at-well-formed .well-formed .ensures) ∙ not-true _ (at-if1 .if1 .taken))) (λ e. omega arith)
+
+is-dynamic-requires : tie.Need-is-dynamic-requires
+is-dynamic-requires c κs =
+    let at-if1 = c .before .before .before .before in
+    let at-well-formed = at-if1 .before in
+    let start = at-well-formed .before .before .before .before .before .before .before .before .before in
+    well-formed-means (mem (start .args .bytes .now) (start .args .keys .now) (start .args .order .now) (start .args .words .now)) (sym (at-well-formed .well-formed .ensures) ∙ not-false _ (at-if1 .if1 .left))
+
+same-length-5 : tie.Need-same-length-5
+same-length-5 c = search needs
+
+same-length-6 : tie.Need-same-length-6
+same-length-6 c = search needs
+
+same-length-7 : tie.Need-same-length-7
+same-length-7 c = search needs
+
+same-length-8 : tie.Need-same-length-8
+same-length-8 c = search needs
+
+returns-2 : tie.Need-returns-2
+returns-2 c =
+    let at-if2 = c in
+    let at-is-dynamic = at-if2 .before in
+    let at-if1 = at-is-dynamic .before .before .before .before .before in
+    let at-well-formed = at-if1 .before in
+    let start = at-well-formed .before .before .before .before .before .before .before .before .before in
+    done-does (mem (start .args .bytes .now) (start .args .keys .now) (start .args .order .now) (start .args .words .now)) [] (settingOf (mem (start .args .bytes .now) (start .args .keys .now) (start .args .order .now) (start .args .words .now))) (nextOf (settingOf (mem (start .args .bytes .now) (start .args .keys .now) (start .args .order .now) (start .args .words .now))) (Call.Window (start .args .page .0) (start .args .start .0) (start .args .length)) (viewOf (mem (start .args .bytes .now) (start .args .keys .now) (start .args .order .now) (start .args .words .now)))) end (sym (well-chosen (mem (start .args .bytes .now) (start .args .keys .now) (start .args .order .now) (start .args .words .now)) [] (sym (at-well-formed .well-formed .ensures) ∙ not-false _ (at-if1 .if1 .left)) 0 refl)) (window-none (start .args .start .0) (start .args .length) (mem (start .args .bytes .now) (start .args .keys .now) (start .args .order .now) (start .args .words .now)) (start .args .page .0) (well-formed-means (mem (start .args .bytes .now) (start .args .keys .now) (start .args .order .now) (start .args .words .now)) (sym (at-well-formed .well-formed .ensures) ∙ not-false _ (at-if1 .if1 .left))) (sym (at-is-dynamic .is-dynamic .ensures) ∙ not-true _ (at-if2 .if2 .taken)))
+
+retain-window-requires : tie.Need-retain-window-requires
+retain-window-requires c κs =
+    let at-if2 = c .before .before .before .before in
+    let at-is-dynamic = at-if2 .before in
+    let at-if1 = at-is-dynamic .before .before .before .before .before in
+    let at-well-formed = at-if1 .before in
+    let start = at-well-formed .before .before .before .before .before .before .before .before .before in
+    both-asked (mem (start .args .bytes .now) (start .args .keys .now) (start .args .order .now) (start .args .words .now)) (start .args .page .0) (well-formed-means (mem (start .args .bytes .now) (start .args .keys .now) (start .args .order .now) (start .args .words .now)) (sym (at-well-formed .well-formed .ensures) ∙ not-false _ (at-if1 .if1 .left))) (sym (at-is-dynamic .is-dynamic .ensures) ∙ not-false _ (at-if2 .if2 .left))
+
+same-length-9 : tie.Need-same-length-9
+same-length-9 c = search needs
+
+same-length-10 : tie.Need-same-length-10
+same-length-10 c = search needs
+
+same-length-11 : tie.Need-same-length-11
+same-length-11 c = search needs
+
+same-length-12 : tie.Need-same-length-12
+same-length-12 c = search needs
+
+returns-3 : tie.Need-returns-3
+returns-3 c =
+    let at-retain-window = c .before .before .before .before .before .before .before .before in
+    let at-if1 = at-retain-window .before .before .before .before .before .before .before .before .before .before .before in
+    let at-well-formed = at-if1 .before in
+    let start = at-well-formed .before .before .before .before .before .before .before .before .before in
+    done-does (mem (start .args .bytes .now) (start .args .keys .now) (start .args .order .now) (start .args .words .now)) [] (settingOf (mem (start .args .bytes .now) (start .args .keys .now) (start .args .order .now) (start .args .words .now))) (nextOf (settingOf (mem (start .args .bytes .now) (start .args .keys .now) (start .args .order .now) (start .args .words .now))) (Call.Window (start .args .page .0) (start .args .start .0) (start .args .length)) (viewOf (mem (start .args .bytes .now) (start .args .keys .now) (start .args .order .now) (start .args .words .now)))) end (sym (well-chosen (mem (start .args .bytes .now) (start .args .keys .now) (start .args .order .now) (start .args .words .now)) [] (sym (at-well-formed .well-formed .ensures) ∙ not-false _ (at-if1 .if1 .left)) 0 refl)) (at-retain-window .retain-window .ensures)
+
+pub compact-to-window-spec : {M : Type 1} → statement M
+compact-to-window-spec =
+    tie.close
+    (tie.spec
+    well-formed-requires
+    same-length
+    same-length-2
+    same-length-3
+    same-length-4
+    returns
+    is-dynamic-requires
+    same-length-5
+    same-length-6
+    same-length-7
+    same-length-8
+    returns-2
+    retain-window-requires
+    same-length-9
+    same-length-10
+    same-length-11
+    same-length-12
+    returns-3)

@@ -1,0 +1,59 @@
+use Rattle.freeing.proofs.Calls.{is-none, is-fixed, is-dynamic}
+use Rattle.store.specs.Mem.{mem}
+use mathlib.Core.Path.{sym, _∙_}
+use Prim.Native.Nat.{_-_}
+use mathlib.Core.Path.{sym, _∙_}
+use borrow.Author.Needs.{needs}
+use Rattle.freeing.proofs.is_dynamic.Statement.{statement}
+use Rattle.freeing.proofs.is_dynamic.Tie as tie
+
+decode-requires : tie.Need-decode-requires
+decode-requires c κs = search needs
+
+is-undecodable-requires : tie.Need-is-undecodable-requires
+is-undecodable-requires c κs = search needs
+
+returns : tie.Need-returns
+returns c =
+    let at-if1 = c in
+    let at-is-undecodable = at-if1 .before in
+    let at-decode = at-is-undecodable .before in
+    let start = at-decode .before .before .before .before .before in
+    is-none (mem (start .args .bytes .now) (start .args .keys .now) (start .args .order .now) (start .args .words .now)) (start .args .page) _ (at-decode .decode .ensures) (sym (at-is-undecodable .is-undecodable .ensures) ∙ at-if1 .if1 .taken)
+
+is-fixed-requires : tie.Need-is-fixed-requires
+is-fixed-requires c κs = search needs
+
+returns-2 : tie.Need-returns-2
+returns-2 c =
+    let at-if2 = c in
+    let at-is-fixed = at-if2 .before in
+    let at-decode = at-is-fixed .before .before .before in
+    let start = at-decode .before .before .before .before .before in
+    is-fixed (mem (start .args .bytes .now) (start .args .keys .now) (start .args .order .now) (start .args .words .now)) (start .args .page) _ (at-decode .decode .ensures) (sym (at-is-fixed .is-fixed .ensures) ∙ at-if2 .if2 .taken)
+
+is-allocated-requires : tie.Need-is-allocated-requires
+is-allocated-requires c κs = search needs
+
+returns-3 : tie.Need-returns-3
+returns-3 c =
+    let at-is-allocated = c in
+    let at-if2 = at-is-allocated .before in
+    let at-is-fixed = at-if2 .before in
+    let at-if1 = at-is-fixed .before in
+    let at-is-undecodable = at-if1 .before in
+    let at-decode = at-is-undecodable .before in
+    let start = at-decode .before .before .before .before .before in
+    is-dynamic (mem (start .args .bytes .now) (start .args .keys .now) (start .args .order .now) (start .args .words .now)) (start .args .page) _ (at-decode .decode .ensures) (sym (at-is-undecodable .is-undecodable .ensures) ∙ at-if1 .if1 .left) (sym (at-is-fixed .is-fixed .ensures) ∙ at-if2 .if2 .left) _ (at-is-allocated .is-allocated .ensures)
+
+pub is-dynamic-spec : {M : Type 1} → statement M
+is-dynamic-spec =
+    tie.close
+    (tie.spec
+    decode-requires
+    is-undecodable-requires
+    returns
+    is-fixed-requires
+    returns-2
+    is-allocated-requires
+    returns-3)

@@ -1,0 +1,103 @@
+use Rattle.freeing.proofs.Groups.{entry-in, entry-at, from-asked, at-told, used, few, asked-by, freed-visit, kept-visit}
+use Rattle.store.specs.Mem.{mem}
+use Prim.Native.Nat.{_-_}
+use native.Mathlib.Omega.{arith}
+use borrow.Author.Needs.{needs}
+use Rattle.freeing.proofs.steps.free_entry.Statement.{statement}
+use Rattle.freeing.proofs.steps.free_entry.Tie as tie
+
+slice-read-x : tie.Need-slice-read-x
+slice-read-x c =
+    let start = c .before .before .before .before .before in
+    let l = start .pre .formed .lengths .in-words in search needs
+
+add-x : tie.Need-add-x
+add-x c =
+    let start = c .before .before .before .before .before in
+    let h = entry-in _ _ (start .pre) in search needs
+
+mul-x : tie.Need-mul-x
+mul-x c =
+    let start = c .before .before .before .before .before in
+    let h = entry-in _ _ (start .pre) in search needs
+
+slice-read-x-2 : tie.Need-slice-read-x-2
+slice-read-x-2 c =
+    let start = c .before .before .before .before .before .before in
+    let h = entry-in _ _ (start .pre) in omega arith
+
+is-from-requires : tie.Need-is-from-requires
+is-from-requires c κs =
+    let start = c .before .before .before .before .before .before .before in
+    from-asked (mem (start .args .bytes .now) (start .args .keys .now) (start .args .order .now) (start .args .words .now)) (start .args .e) (start .pre)
+
+sub-free-page : tie.Need-sub-free-page
+sub-free-page c =
+    let at-if1 = c .before .before .before .before in
+    let at-is-from = at-if1 .before in
+    let start = at-is-from .before .before .before .before .before .before .before .before in
+    let u = used (mem (start .args .bytes .now) (start .args .keys .now) (start .args .order .now) (start .args .words .now)) (start .args .e) (start .pre) (start .args .len) (at-told (mem (start .args .bytes .now) (start .args .keys .now) (start .args .order .now) (start .args .words .now)) (start .args .e) (start .pre) (start .args .len) _ (at-is-from .is-from .ensures) (at-if1 .if1 .taken)) in let q = entry-at (mem (start .args .bytes .now) (start .args .keys .now) (start .args .order .now) (start .args .words .now)) (start .args .e) (start .pre) in omega arith
+
+cast-free-page : tie.Need-cast-free-page
+cast-free-page c =
+    let at-if1 = c .before .before .before .before in
+    let at-is-from = at-if1 .before in
+    let start = at-is-from .before .before .before .before .before .before .before .before in
+    let u = few (mem (start .args .bytes .now) (start .args .keys .now) (start .args .order .now) (start .args .words .now)) (start .args .e) (start .pre) (start .args .len) (at-told (mem (start .args .bytes .now) (start .args .keys .now) (start .args .order .now) (start .args .words .now)) (start .args .e) (start .pre) (start .args .len) _ (at-is-from .is-from .ensures) (at-if1 .if1 .taken)) in let q = entry-at (mem (start .args .bytes .now) (start .args .keys .now) (start .args .order .now) (start .args .words .now)) (start .args .e) (start .pre) in omega arith
+
+free-page-requires : tie.Need-free-page-requires
+free-page-requires c κs =
+    let at-if1 = c .before .before .before .before in
+    let at-is-from = at-if1 .before in
+    let start = at-is-from .before .before .before .before .before .before .before .before in
+    asked-by (mem (start .args .bytes .now) (start .args .keys .now) (start .args .order .now) (start .args .words .now)) (start .args .e) (start .pre) (start .args .len) (at-told (mem (start .args .bytes .now) (start .args .keys .now) (start .args .order .now) (start .args .words .now)) (start .args .e) (start .pre) (start .args .len) _ (at-is-from .is-from .ensures) (at-if1 .if1 .taken))
+
+same-length : tie.Need-same-length
+same-length c = search needs
+
+same-length-2 : tie.Need-same-length-2
+same-length-2 c = search needs
+
+same-length-3 : tie.Need-same-length-3
+same-length-3 c = search needs
+
+same-length-4 : tie.Need-same-length-4
+same-length-4 c = search needs
+
+returns : tie.Need-returns
+returns c =
+    let at-free-page = c .before .before .before .before .before .before .before .before in
+    let at-if1 = at-free-page .before .before .before .before .before in
+    let at-is-from = at-if1 .before in
+    let start = at-is-from .before .before .before .before .before .before .before .before in
+    freed-visit (mem (start .args .bytes .now) (start .args .keys .now) (start .args .order .now) (start .args .words .now)) (start .args .e) (start .pre) (start .args .len) (at-told (mem (start .args .bytes .now) (start .args .keys .now) (start .args .order .now) (start .args .words .now)) (start .args .e) (start .pre) (start .args .len) _ (at-is-from .is-from .ensures) (at-if1 .if1 .taken)) _ (at-free-page .free-page .ensures)
+
+same-length-5 : tie.Need-same-length-5
+same-length-5 c = search needs
+
+returns-2 : tie.Need-returns-2
+returns-2 c =
+    let at-if1 = c in
+    let at-is-from = at-if1 .before in
+    let start = at-is-from .before .before .before .before .before .before .before .before in
+    kept-visit (mem (start .args .bytes .now) (start .args .keys .now) (start .args .order .now) (start .args .words .now)) (start .args .e) (start .pre) (start .args .len) _ (at-is-from .is-from .ensures) (at-if1 .if1 .left)
+
+pub free-entry-spec : {M : Type 1} → statement M
+free-entry-spec =
+    tie.close
+    (tie.spec
+    slice-read-x
+    add-x
+    mul-x
+    slice-read-x-2
+    is-from-requires
+    sub-free-page
+    cast-free-page
+    free-page-requires
+    same-length
+    same-length-2
+    same-length-3
+    same-length-4
+    returns
+    same-length-5
+    returns-2)

@@ -1,0 +1,103 @@
+use Rattle.freeing.proofs.Groups.{lengths-kept, Freeing, freeing-none, visit-asked, visited, emptied-shows}
+use Rattle.store.specs.Mem.{pageCount}
+use Prim.Native.Nat.{_+_, _-_, _≤_}
+use mathlib.Core.Path.{_≡_, refl}
+use Rattle.store.specs.Mem.{mem}
+use borrow.Author.Needs.{needs}
+use Prim.Native.Nat.{_+_, _-_, _≤_}
+use mathlib.Core.Path.{_≡_, refl}
+use native.Mathlib.Omega.{arith}
+use Rattle.freeing.proofs.steps.free_groups.Statement.{statement}
+use Rattle.freeing.proofs.steps.free_groups.Tie as tie
+
+abbrev Inv-loop : tie.InvT-loop
+Inv-loop bytes₀ keys₀ order₀ words₀ len end e₀ bytes keys order words e = (4 ≤ e) × (e ≤ end) × (end ≡ pageCount words₀ + 4) × Freeing (mem bytes₀ keys₀ order₀ words₀) len e (mem bytes keys order words)
+
+abbrev μ-loop : tie.MeasureT-loop
+μ-loop bytes₀ keys₀ order₀ words₀ len end e₀ bytes keys order words e = end - e
+
+slice-read-end : tie.Need-slice-read-end Inv-loop μ-loop
+slice-read-end c =
+    let start = c .before .before .before .before .before in
+    let l = start .pre .lengths .in-words in search needs
+
+add-end : tie.Need-add-end Inv-loop μ-loop
+add-end c =
+    let start = c .before .before .before .before .before in
+    let l = start .pre .lengths .pages-hi in omega arith
+
+loop-holds : tie.Need-loop-holds Inv-loop μ-loop
+loop-holds c =
+    let start = c .before .before .before .before .before in
+    (omega arith, omega arith, refl, freeing-none (mem (start .args .bytes .now) (start .args .keys .now) (start .args .order .now) (start .args .words .now)) (start .args .len) (start .pre))
+
+free-entry-requires : tie.Need-free-entry-requires Inv-loop μ-loop
+free-entry-requires c κs =
+    let at-loop-test = c .before .before .before .before in
+    let at-loop = at-loop-test .before in
+    let start = at-loop .before .before .before .before .before .before in
+    let t = at-loop-test .loop-test .taken in let q = at-loop .loop .inv .2 in visit-asked _ (start .pre) _ _ _ (at-loop .loop .inv .3) (at-loop .loop .inv .0) (omega arith)
+
+add-e : tie.Need-add-e Inv-loop μ-loop
+add-e c = search needs
+
+loop-less : tie.Need-loop-less Inv-loop μ-loop
+loop-less c = search needs
+
+loop-again : tie.Need-loop-again Inv-loop μ-loop
+loop-again c =
+    let at-free-entry = c .before .before .before .before .before .before .before .before in
+    let at-loop-test = at-free-entry .before .before .before .before .before in
+    let at-loop = at-loop-test .before in
+    let start = at-loop .before .before .before .before .before .before in
+    let t = at-loop-test .loop-test .taken in let q = at-loop .loop .inv .2 in (omega arith, omega arith, q, visited _ (start .pre) _ _ _ (at-loop .loop .inv .3) (at-loop .loop .inv .0) (visit-asked _ (start .pre) _ _ _ (at-loop .loop .inv .3) (at-loop .loop .inv .0) (omega arith)) _ (at-free-entry .free-entry .ensures))
+
+same-length : tie.Need-same-length Inv-loop μ-loop
+same-length c =
+    let at-loop = c .before in
+    let start = at-loop .before .before .before .before .before .before in
+    lengths-kept _ (start .pre) _ _ _ (at-loop .loop .inv .3) (at-loop .loop .inv .0) .0
+
+same-length-2 : tie.Need-same-length-2 Inv-loop μ-loop
+same-length-2 c =
+    let at-loop = c .before in
+    let start = at-loop .before .before .before .before .before .before in
+    lengths-kept _ (start .pre) _ _ _ (at-loop .loop .inv .3) (at-loop .loop .inv .0) .1
+
+same-length-3 : tie.Need-same-length-3 Inv-loop μ-loop
+same-length-3 c =
+    let at-loop = c .before in
+    let start = at-loop .before .before .before .before .before .before in
+    lengths-kept _ (start .pre) _ _ _ (at-loop .loop .inv .3) (at-loop .loop .inv .0) .2
+
+same-length-4 : tie.Need-same-length-4 Inv-loop μ-loop
+same-length-4 c =
+    let at-loop = c .before in
+    let start = at-loop .before .before .before .before .before .before in
+    lengths-kept _ (start .pre) _ _ _ (at-loop .loop .inv .3) (at-loop .loop .inv .0) .3
+
+returns : tie.Need-returns Inv-loop μ-loop
+returns c =
+    let at-loop-test = c in
+    let at-loop = at-loop-test .before in
+    let start = at-loop .before .before .before .before .before .before in
+    let t = at-loop-test .loop-test .left in let q = at-loop .loop .inv .2 in emptied-shows _ (start .pre) _ _ _ (at-loop .loop .inv .3) (at-loop .loop .inv .0) (omega arith)
+
+pub free-groups-spec : {M : Type 1} → statement M
+free-groups-spec =
+    tie.close
+    (tie.spec
+    Inv-loop
+    μ-loop
+    slice-read-end
+    add-end
+    loop-holds
+    free-entry-requires
+    add-e
+    loop-less
+    loop-again
+    same-length
+    same-length-2
+    same-length-3
+    same-length-4
+    returns)

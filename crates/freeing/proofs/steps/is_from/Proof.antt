@@ -1,0 +1,49 @@
+use Rattle.store.specs.Mem.{layoutOf}
+use Rattle.freeing.proofs.Groups.{not-told, told-by}
+use Prim.Native.Nat.{_-_}
+use native.Mathlib.Omega.{arith}
+use borrow.Author.Needs.{needs}
+use Rattle.freeing.proofs.steps.is_from.Statement.{statement}
+use Rattle.freeing.proofs.steps.is_from.Tie as tie
+
+returns : tie.Need-returns
+returns c =
+    let at-if1 = c in
+    let start = at-if1 .before in
+    not-told (layoutOf (start .args .words .now)) _ _ (at-if1 .if1 .taken)
+
+sub-result : tie.Need-sub-result
+sub-result c = search needs
+
+shared-slice-read-result : tie.Need-shared-slice-read-result
+shared-slice-read-result c = search needs
+
+sub-result-2 : tie.Need-sub-result-2
+sub-result-2 c =
+    let at-if1 = c .before in
+    let start = at-if1 .before in
+    let h = start .pre .2 (omega (arith, at-if1 .if1 .left)) in search needs
+
+shared-slice-read-result-2 : tie.Need-shared-slice-read-result-2
+shared-slice-read-result-2 c = search needs
+
+div-result : tie.Need-div-result
+div-result c = search needs
+
+returns-2 : tie.Need-returns-2
+returns-2 c =
+    let at-if1 = c .before .before in
+    let start = at-if1 .before in
+    told-by (layoutOf (start .args .words .now)) _ _ (at-if1 .if1 .left)
+
+pub is-from-spec : {M : Type 1} → statement M
+is-from-spec =
+    tie.close
+    (tie.spec
+    returns
+    sub-result
+    shared-slice-read-result
+    sub-result-2
+    shared-slice-read-result-2
+    div-result
+    returns-2)

@@ -1,0 +1,46 @@
+use Rattle.freeing.proofs.Windows.{touched-few, end-past, end-within}
+use Prim.Native.Nat.{ℕ, _+_, _/_}
+use mathlib.Core.Path.{ap}
+use mathlib.Core.Path.{_∙_}
+use Prim.Native.Nat.{ℕ, _+_, _-_, _/_}
+use mathlib.Core.Path.{ap, _∙_}
+use native.Mathlib.Omega.{arith}
+use lib.ListN.{length}
+use borrow.Author.Needs.{needs}
+use Rattle.freeing.proofs.steps.window_end.Statement.{statement}
+use Rattle.freeing.proofs.steps.window_end.Tie as tie
+
+cast-end : tie.Need-cast-end
+cast-end c = search needs
+
+touched-requires : tie.Need-touched-requires
+touched-requires c κs = search needs
+
+add-end : tie.Need-add-end
+add-end c =
+    let at-touched = c in
+    let start = at-touched .before in
+    let e = at-touched .touched .ensures in let t = touched-few (start .args .start) (start .args .length) in omega (arith, start .fits .start, start .fits .length)
+
+returns : tie.Need-returns
+returns c =
+    let at-if1 = c in
+    let at-touched = at-if1 .before in
+    let start = at-touched .before in
+    let e = at-touched .touched .ensures in let l = at-if1 .if1 .taken in end-past (start .args .start) (start .args .length) (omega arith)
+
+cast-result : tie.Need-cast-result
+cast-result c =
+    let at-if1 = c in
+    let l = at-if1 .if1 .left in omega arith
+
+returns-2 : tie.Need-returns-2
+returns-2 c =
+    let at-if1 = c in
+    let at-touched = at-if1 .before in
+    let start = at-touched .before in
+    let e = at-touched .touched .ensures in let l = at-if1 .if1 .left in ap (λ (x : ℕ). start .args .start / 256 + x) e ∙ end-within (start .args .start) (start .args .length) (omega arith)
+
+pub window-end-spec : {M : Type 1} → statement M
+window-end-spec =
+    tie.close (tie.spec cast-end touched-requires add-end returns cast-result returns-2)

@@ -1,0 +1,88 @@
+use Rattle.freeing.proofs.Calls.{truncate-refusals, truncate-passed, shorten-asked, truncated-shows}
+use Rattle.refusals.proofs.Passed.{refused-does, passed-formed, done-does}
+use Rattle.view.specs.Calls.{Call, nextOf}
+use Rattle.view.specs.Checks.{truncateChecks}
+use Rattle.view.specs.View.{settingOf, viewOf}
+use Rattle.store.specs.Mem.{mem}
+use mathlib.Core.Path.{sym, _∙_}
+use Prim.Native.Nat.{_-_}
+use mathlib.Core.Path.{sym, _∙_}
+use borrow.Author.Needs.{needs}
+use Rattle.freeing.proofs.truncate_dynamic_to.Statement.{statement}
+use Rattle.freeing.proofs.truncate_dynamic_to.Tie as tie
+
+truncate-refusal-requires : tie.Need-truncate-refusal-requires
+truncate-refusal-requires c κs = search needs
+
+same-length : tie.Need-same-length
+same-length c = search needs
+
+same-length-2 : tie.Need-same-length-2
+same-length-2 c = search needs
+
+same-length-3 : tie.Need-same-length-3
+same-length-3 c = search needs
+
+same-length-4 : tie.Need-same-length-4
+same-length-4 c = search needs
+
+returns : tie.Need-returns
+returns c =
+    let at-if1 = c in
+    let at-truncate-refusal = at-if1 .before in
+    let start = at-truncate-refusal .before .before .before .before .before .before .before .before .before in
+    refused-does (mem (start .args .bytes .now) (start .args .keys .now) (start .args .order .now) (start .args .words .now)) (truncateChecks (viewOf (mem (start .args .bytes .now) (start .args .keys .now) (start .args .order .now) (start .args .words .now))) (start .args .len)) (settingOf (mem (start .args .bytes .now) (start .args .keys .now) (start .args .order .now) (start .args .words .now))) (nextOf (settingOf (mem (start .args .bytes .now) (start .args .keys .now) (start .args .order .now) (start .args .words .now))) (Call.Truncate (start .args .len)) (viewOf (mem (start .args .bytes .now) (start .args .keys .now) (start .args .order .now) (start .args .words .now)))) _ (at-truncate-refusal .truncate-refusal .ensures) (at-if1 .if1 .taken)
+
+free-groups-requires : tie.Need-free-groups-requires
+free-groups-requires c κs =
+    let at-if1 = c .before .before .before .before in
+    let at-truncate-refusal = at-if1 .before in
+    let start = at-truncate-refusal .before .before .before .before .before .before .before .before .before in
+    passed-formed (mem (start .args .bytes .now) (start .args .keys .now) (start .args .order .now) (start .args .words .now)) (truncateChecks (viewOf (mem (start .args .bytes .now) (start .args .keys .now) (start .args .order .now) (start .args .words .now))) (start .args .len)) (settingOf (mem (start .args .bytes .now) (start .args .keys .now) (start .args .order .now) (start .args .words .now))) (nextOf (settingOf (mem (start .args .bytes .now) (start .args .keys .now) (start .args .order .now) (start .args .words .now))) (Call.Truncate (start .args .len)) (viewOf (mem (start .args .bytes .now) (start .args .keys .now) (start .args .order .now) (start .args .words .now)))) (sym (at-truncate-refusal .truncate-refusal .ensures) ∙ at-if1 .if1 .left) .0
+
+shorten-requires : tie.Need-shorten-requires
+shorten-requires c κs =
+    let at-free-groups = c .before .before .before .before .before .before .before .before .before .before .before .before in
+    let at-if1 = at-free-groups .before .before .before .before .before in
+    let at-truncate-refusal = at-if1 .before in
+    let start = at-truncate-refusal .before .before .before .before .before .before .before .before .before in
+    let h = passed-formed (mem (start .args .bytes .now) (start .args .keys .now) (start .args .order .now) (start .args .words .now)) (truncateChecks (viewOf (mem (start .args .bytes .now) (start .args .keys .now) (start .args .order .now) (start .args .words .now))) (start .args .len)) (settingOf (mem (start .args .bytes .now) (start .args .keys .now) (start .args .order .now) (start .args .words .now))) (nextOf (settingOf (mem (start .args .bytes .now) (start .args .keys .now) (start .args .order .now) (start .args .words .now))) (Call.Truncate (start .args .len)) (viewOf (mem (start .args .bytes .now) (start .args .keys .now) (start .args .order .now) (start .args .words .now)))) (sym (at-truncate-refusal .truncate-refusal .ensures) ∙ at-if1 .if1 .left) in shorten-asked (mem (start .args .bytes .now) (start .args .keys .now) (start .args .order .now) (start .args .words .now)) (start .args .len) (truncate-passed (viewOf (mem (start .args .bytes .now) (start .args .keys .now) (start .args .order .now) (start .args .words .now))) (start .args .len) (h .1)) _ (at-free-groups .free-groups .ensures)
+
+same-length-5 : tie.Need-same-length-5
+same-length-5 c = search needs
+
+same-length-6 : tie.Need-same-length-6
+same-length-6 c = search needs
+
+same-length-7 : tie.Need-same-length-7
+same-length-7 c = search needs
+
+same-length-8 : tie.Need-same-length-8
+same-length-8 c = search needs
+
+returns-2 : tie.Need-returns-2
+returns-2 c =
+    let at-shorten = c .before .before in
+    let at-free-groups = at-shorten .before .before .before .before .before .before .before .before .before .before .before .before .before in
+    let at-if1 = at-free-groups .before .before .before .before .before in
+    let at-truncate-refusal = at-if1 .before in
+    let start = at-truncate-refusal .before .before .before .before .before .before .before .before .before in
+    let h = passed-formed (mem (start .args .bytes .now) (start .args .keys .now) (start .args .order .now) (start .args .words .now)) (truncateChecks (viewOf (mem (start .args .bytes .now) (start .args .keys .now) (start .args .order .now) (start .args .words .now))) (start .args .len)) (settingOf (mem (start .args .bytes .now) (start .args .keys .now) (start .args .order .now) (start .args .words .now))) (nextOf (settingOf (mem (start .args .bytes .now) (start .args .keys .now) (start .args .order .now) (start .args .words .now))) (Call.Truncate (start .args .len)) (viewOf (mem (start .args .bytes .now) (start .args .keys .now) (start .args .order .now) (start .args .words .now)))) (sym (at-truncate-refusal .truncate-refusal .ensures) ∙ at-if1 .if1 .left) in done-does (mem (start .args .bytes .now) (start .args .keys .now) (start .args .order .now) (start .args .words .now)) (truncateChecks (viewOf (mem (start .args .bytes .now) (start .args .keys .now) (start .args .order .now) (start .args .words .now))) (start .args .len)) (settingOf (mem (start .args .bytes .now) (start .args .keys .now) (start .args .order .now) (start .args .words .now))) (nextOf (settingOf (mem (start .args .bytes .now) (start .args .keys .now) (start .args .order .now) (start .args .words .now))) (Call.Truncate (start .args .len)) (viewOf (mem (start .args .bytes .now) (start .args .keys .now) (start .args .order .now) (start .args .words .now)))) (truncate-refusals (viewOf (mem (start .args .bytes .now) (start .args .keys .now) (start .args .order .now) (start .args .words .now))) (start .args .len)) (sym (at-truncate-refusal .truncate-refusal .ensures) ∙ at-if1 .if1 .left) (truncated-shows (mem (start .args .bytes .now) (start .args .keys .now) (start .args .order .now) (start .args .words .now)) (start .args .len) (truncate-passed (viewOf (mem (start .args .bytes .now) (start .args .keys .now) (start .args .order .now) (start .args .words .now))) (start .args .len) (h .1)) _ (at-free-groups .free-groups .ensures) _ (at-shorten .shorten .ensures))
+
+pub truncate-dynamic-to-spec : {M : Type 1} → statement M
+truncate-dynamic-to-spec =
+    tie.close
+    (tie.spec
+    truncate-refusal-requires
+    same-length
+    same-length-2
+    same-length-3
+    same-length-4
+    returns
+    free-groups-requires
+    shorten-requires
+    same-length-5
+    same-length-6
+    same-length-7
+    same-length-8
+    returns-2)

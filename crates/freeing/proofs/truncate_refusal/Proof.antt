@@ -1,0 +1,51 @@
+use Rattle.freeing.proofs.Calls.{truncate-13, truncate-0}
+use Rattle.refusals.proofs.Chosen.{ill-chosen, well-chosen}
+use Rattle.view.specs.Checks.{truncateChecks}
+use Rattle.formed.proofs.Meaning.{well-formed-means}
+use Rattle.view.specs.View.{viewOf}
+use Rattle.store.specs.Mem.{mem}
+use borrow.Author.Tests.{not-true, not-false}
+use mathlib.Core.Path.{sym, _∙_}
+use Prim.Native.Nat.{_-_}
+use mathlib.Core.Path.{sym, _∙_}
+use native.Mathlib.Omega.{arith}
+use borrow.Author.Needs.{needs}
+use Rattle.freeing.proofs.truncate_refusal.Statement.{statement}
+use Rattle.freeing.proofs.truncate_refusal.Tie as tie
+
+well-formed-requires : tie.Need-well-formed-requires
+well-formed-requires c κs = search needs
+
+returns : tie.Need-returns
+returns c =
+    let at-if1 = c in
+    let at-well-formed = at-if1 .before in
+    let start = at-well-formed .before .before .before .before .before in
+    ill-chosen (mem (start .args .bytes .now) (start .args .keys .now) (start .args .order .now) (start .args .words .now)) (truncateChecks (viewOf (mem (start .args .bytes .now) (start .args .keys .now) (start .args .order .now) (start .args .words .now))) (start .args .len)) (sym (at-well-formed .well-formed .ensures) ∙ not-true _ (at-if1 .if1 .taken))
+
+shared-slice-read-if2 : tie.Need-shared-slice-read-if2
+shared-slice-read-if2 c =
+    let at-if1 = c .before in
+    let at-well-formed = at-if1 .before in
+    let start = at-well-formed .before .before .before .before .before in
+    let f = well-formed-means (mem (start .args .bytes .now) (start .args .keys .now) (start .args .order .now) (start .args .words .now)) (sym (at-well-formed .well-formed .ensures) ∙ not-false _ (at-if1 .if1 .left)) in omega (arith, f .lengths .in-words)
+
+returns-2 : tie.Need-returns-2
+returns-2 c =
+    let at-if2 = c in
+    let at-if1 = at-if2 .before .before in
+    let at-well-formed = at-if1 .before in
+    let start = at-well-formed .before .before .before .before .before in
+    well-chosen (mem (start .args .bytes .now) (start .args .keys .now) (start .args .order .now) (start .args .words .now)) (truncateChecks (viewOf (mem (start .args .bytes .now) (start .args .keys .now) (start .args .order .now) (start .args .words .now))) (start .args .len)) (sym (at-well-formed .well-formed .ensures) ∙ not-false _ (at-if1 .if1 .left)) _ (truncate-13 (viewOf (mem (start .args .bytes .now) (start .args .keys .now) (start .args .order .now) (start .args .words .now))) (start .args .len) (at-if2 .if2 .taken))
+
+returns-3 : tie.Need-returns-3
+returns-3 c =
+    let at-if2 = c in
+    let at-if1 = at-if2 .before .before in
+    let at-well-formed = at-if1 .before in
+    let start = at-well-formed .before .before .before .before .before in
+    well-chosen (mem (start .args .bytes .now) (start .args .keys .now) (start .args .order .now) (start .args .words .now)) (truncateChecks (viewOf (mem (start .args .bytes .now) (start .args .keys .now) (start .args .order .now) (start .args .words .now))) (start .args .len)) (sym (at-well-formed .well-formed .ensures) ∙ not-false _ (at-if1 .if1 .left)) _ (truncate-0 (viewOf (mem (start .args .bytes .now) (start .args .keys .now) (start .args .order .now) (start .args .words .now))) (start .args .len) (at-if2 .if2 .left))
+
+pub truncate-refusal-spec : {M : Type 1} → statement M
+truncate-refusal-spec =
+    tie.close (tie.spec well-formed-requires returns shared-slice-read-if2 returns-2 returns-3)

@@ -1,0 +1,24 @@
+use Rattle.heaptrace.specs.declared.lines.State.{State}
+use Prim.Native.Nat.{_≤_}
+use native.Mathlib.Omega.{arith}
+use mathlib.Core.Logic.{inl, inr}
+use mathlib.Core.Path.{_≡_, refl, sym, ap}
+use borrow.Author.Needs.{needs}
+use Rattle.heaptrace.proofs.lines.roomy.Statement.{statement}
+use Rattle.heaptrace.proofs.lines.roomy.Tie as tie
+
+flush-requires : tie.Need-flush-requires
+flush-requires c κs = search needs
+
+returns : tie.Need-returns
+returns c =
+    let at-flush = c in
+    let e : at-flush .flush .result .out ≡ 0 = ap (λ (x : State). x .out) (at-flush .flush .ensures) in (inr (at-flush .flush .ensures), omega arith)
+
+returns-2 : tie.Need-returns-2
+returns-2 c =
+    let at-if1 = c in
+    (inl refl, at-if1 .if1 .left)
+
+pub roomy-spec : {M : Type 1} → statement M
+roomy-spec = tie.close (tie.spec flush-requires returns returns-2)

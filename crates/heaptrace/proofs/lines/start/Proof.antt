@@ -1,0 +1,9 @@
+use borrow.Author.Needs.{needs}
+use Rattle.heaptrace.proofs.lines.start.Statement.{statement}
+use Rattle.heaptrace.proofs.lines.start.Tie as tie
+
+returns : tie.Need-returns
+returns c = search needs
+
+pub start-spec : {M : Type 1} → statement M
+start-spec = tie.close (tie.spec returns)

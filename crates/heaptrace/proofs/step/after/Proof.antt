@@ -1,0 +1,41 @@
+use Rattle.heaptrace.proofs.Tells.{after-other}
+use Rattle.heaptrace.specs.Trace.{afterOpening}
+use Rattle.word.specs.Value.{value}
+use Rattle.trace.specs.Text.{Told, replyWith}
+use Rattle.trace.specs.declared.text.Answered.the-variants.{Unread, Done, Word, Marks, Refused}
+use Rattle.trace.specs.declared.text.Answered.{Answered}
+use Prim.Native.Nat.{ℕ, suc, _+_, _*_, _-_, _/_, _%_, _≤_, _<_}
+use mathlib.Core.Path.{_≡_, refl, sym, ap, _∙_}
+use native.Mathlib.Omega.{arith}
+use lib.ListN.{length, getD, set, length-set}
+use borrow.Author.Needs.{needs}
+use Rattle.heaptrace.proofs.step.after.Statement.{statement}
+use Rattle.heaptrace.proofs.step.after.Tie as tie
+
+enum-told : tie.Need-enum-told
+enum-told c = search needs
+
+array-read-t8 : tie.Need-array-read-t8
+array-read-t8 c = search needs
+
+array-read-t11 : tie.Need-array-read-t11
+array-read-t11 c = search needs
+
+array-read-t14 : tie.Need-array-read-t14
+array-read-t14 c = search needs
+
+returns : tie.Need-returns
+returns c =
+    let at-enum-told = c in
+    let start = at-enum-told .before .before in
+    ap (λ (a : Answered). afterOpening (start .args .run) (getD (start .args .t2) 6 0) (getD (start .args .t2) 7 0) (getD (start .args .t2) 8 0) (replyWith a (value (start .args .reply .word .limbs)) (start .args .reply .first) (start .args .reply .second))) (sym (at-enum-told .enum-told .given .1))
+
+returns-2 : tie.Need-returns-2
+returns-2 c =
+    let at-match = c in
+    let start = at-match .before in
+    after-other (start .args .run) (getD (start .args .t2) 6 0) (getD (start .args .t2) 7 0) (getD (start .args .t2) 8 0) (value (start .args .reply .word .limbs)) (start .args .reply .first) (start .args .reply .second) (start .args .reply .answered) (at-match .match .keys2)
+
+pub after-spec : {M : Type 1} → statement M
+after-spec =
+    tie.close (tie.spec enum-told array-read-t8 array-read-t11 array-read-t14 returns returns-2)

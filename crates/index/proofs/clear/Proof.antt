@@ -1,0 +1,83 @@
+use Rattle.index.proofs.Removes.{clear-end}
+use Rattle.index.specs.Index.{Cleared}
+use Rattle.index.proofs.Removes.{clear-none, clear-more}
+use borrow.Author.Needs.{needs}
+use Prim.Native.Nat.{_-_, _≤_}
+use native.Mathlib.Omega.{arith}
+use Rattle.index.proofs.clear.Statement.{statement}
+use Rattle.index.proofs.clear.Tie as tie
+
+abbrev Inv-loop : tie.InvT-loop
+Inv-loop keys₀ order from to i₀ keys i = (from ≤ i) × (i ≤ to) × Cleared keys₀ order from i keys
+
+abbrev μ-loop : tie.MeasureT-loop
+μ-loop keys₀ order from to i₀ keys i = to - i
+
+loop-holds : tie.Need-loop-holds Inv-loop μ-loop
+loop-holds c = (search needs, search needs, clear-none _ _ _ _ (omega arith))
+
+mul-keys : tie.Need-mul-keys Inv-loop μ-loop
+mul-keys c = search needs
+
+shared-slice-read-keys : tie.Need-shared-slice-read-keys Inv-loop μ-loop
+shared-slice-read-keys c = search needs
+
+cast-keys : tie.Need-cast-keys Inv-loop μ-loop
+cast-keys c =
+    let at-shared-slice-known = c in
+    let at-loop = at-shared-slice-known .before .before in
+    omega (arith, at-shared-slice-known .shared-slice-known .given (at-loop .loop .i))
+
+mul-keys-2 : tie.Need-mul-keys-2 Inv-loop μ-loop
+mul-keys-2 c =
+    let at-loop-test = c .before in
+    let at-loop = at-loop-test .before in
+    let start = at-loop .before in
+    let h = start .pre .2 (at-loop .loop .i) (at-loop .loop .inv .0) (at-loop-test .loop-test .taken) in let l = at-loop .loop .inv .2 .long in search needs
+
+slice-write-keys : tie.Need-slice-write-keys Inv-loop μ-loop
+slice-write-keys c =
+    let at-loop-test = c .before in
+    let at-loop = at-loop-test .before in
+    let start = at-loop .before in
+    let h = start .pre .2 (at-loop .loop .i) (at-loop .loop .inv .0) (at-loop-test .loop-test .taken) in let l = at-loop .loop .inv .2 .long in omega arith
+
+add-i : tie.Need-add-i Inv-loop μ-loop
+add-i c = search needs
+
+loop-less : tie.Need-loop-less Inv-loop μ-loop
+loop-less c = search needs
+
+loop-again : tie.Need-loop-again Inv-loop μ-loop
+loop-again c =
+    let at-loop-test = c .before in
+    let at-loop = at-loop-test .before in
+    let start = at-loop .before in
+    (omega arith, omega arith, clear-more _ _ _ _ _ (at-loop .loop .inv .0) (start .pre .2 (at-loop .loop .i) (at-loop .loop .inv .0) (at-loop-test .loop-test .taken)) (at-loop .loop .inv .2))
+
+same-length : tie.Need-same-length Inv-loop μ-loop
+same-length c = search needs
+
+returns : tie.Need-returns Inv-loop μ-loop
+returns c =
+    let at-loop-test = c in
+    let at-loop = at-loop-test .before in
+    clear-end _ _ _ _ _ _ (at-loop .loop .inv .2) (at-loop .loop .inv .1) (at-loop-test .loop-test .left)
+
+pub clear-spec : {M : Type 1} → statement M
+clear-spec =
+    tie.close
+    (tie.spec
+    Inv-loop
+    μ-loop
+    loop-holds
+    mul-keys
+    shared-slice-read-keys
+    cast-keys
+    mul-keys-2
+    slice-write-keys
+    add-i
+    loop-less
+    loop-again
+    same-length
+    returns)

@@ -1,0 +1,177 @@
+-- Chunks zeroed, and what giving slots back leaves.
+-- Assumes nothing.
+use mathlib.Core.Path.{_≡_, refl, sym, ap, _∙_, subst}
+use mathlib.Core.Logic.{_⊎_, inl, inr, ⊎-elim}
+use mathlib.Core.Bool.{Bool, true, false, cond, _&&_}
+use mathlib.Core.List.{List, _++_}
+use Prim.Native.Nat.{ℕ, _+_, _*_, _-_, _/_, _≤_, _<_}
+use native.Mathlib.Omega.{arith}
+use lib.Dec.{leb}
+use lib.ListN.{length, getD, set, take, drop, length-set}
+use lib.Seq.{getD-set-same, getD-set-other, getD-take}
+use borrow.Author.Tests.{lt-ltb, le-ltb, le-leb, lt-leb}
+use Rattle.index.specs.Index.{LowerBound, Removed}
+use Rattle.index.proofs.Logic.{same-or-not, lt-or-ge}
+use Rattle.index.proofs.Orders.{slot-lt, index-rises}
+use Rattle.index.proofs.Removes.{ranks-order, rank-within, rank-outside}
+use Rattle.store.specs.Mem.{slotCount, heldNow}
+use Rattle.store.specs.Hold.{Indexed}
+use Rattle.store.specs.Give.{Zeroed, Wiped, within, Given}
+use Rattle.store.proofs.Parts.{sub-zero, take-front, drop-front, put-long}
+use Rattle.store.proofs.Holds.{cut-keys, cut-order}
+
+-- ---- the loop of `clear_chunk`
+pub zero-none : (bs : List ℕ) (at : ℕ) → Zeroed bs at 0 bs
+zero-none bs at = record { long = refl; gone = λ x a b. absurd (omega arith); kept = λ x o. refl }
+
+pub zero-more : (bs ds : List ℕ) (at n : ℕ) → at + n < length bs → Zeroed bs at n ds → Zeroed bs at (n + 1) (set ds (at + n) 0)
+zero-more bs ds at n l z = record {
+  long = length-set ds (at + n) 0 ∙ z .long;
+  gone = λ x a b.
+      ⊎-elim (λ (e : x ≡ at + n). ap (λ (y : ℕ). getD (set ds (at + n) 0) y 0) e ∙ getD-set-same ds (at + n) 0 0 (let h = z .long in omega arith))
+      (λ (ne : x ≡ at + n → ⊥). getD-set-other ds (at + n) x 0 0 ne ∙ z .gone x a (omega arith))
+      (same-or-not x (at + n));
+  kept = λ x o.
+      getD-set-other ds (at + n) x 0 0 (λ e. ⊎-elim (λ (a : x < at). omega arith) (λ (a : at + (n + 1) ≤ x). omega arith) o)
+      ∙ z .kept x (⊎-elim (λ (a : x < at). inl a) (λ (a : at + (n + 1) ≤ x). inr (omega arith)) o);
+}
+
+pub zero-end : (bs ds : List ℕ) (at i : ℕ) → Zeroed bs at i ds → i ≤ 256 → 256 ≤ i → Zeroed bs at 256 ds
+zero-end bs ds at i z a b = let e : i ≡ 256 = omega arith in subst (λ (x : ℕ). Zeroed bs at x ds) e z
+
+-- ---- the loop of `wipe`
+pub wipe-none : (bs os : List ℕ) (from to : ℕ) → to ≤ from → Wiped bs os from to bs
+wipe-none bs os from to l = record { long = refl; gone = λ i r a b h. absurd (omega arith); kept = λ x n. refl }
+
+pub wipe-more : (bs os ds ds' : List ℕ) (from i : ℕ) → from ≤ i → Wiped bs os from i ds → Zeroed ds (256 * getD os i 0) 256 ds' → Wiped bs os from (i + 1) ds'
+wipe-more bs os ds ds' from i l w z = record {
+  long = z .long ∙ w .long;
+  gone = λ j r a b h.
+      ⊎-elim (λ (e : getD os j 0 ≡ getD os i 0). z .gone (256 * getD os j 0 + r) (omega arith) (omega arith))
+      (λ (ne : getD os j 0 ≡ getD os i 0 → ⊥).
+      z .kept (256 * getD os j 0 + r) (apart (getD os j 0) (getD os i 0) r h ne) ∙ w .gone j r a (earlier j ne b) h)
+      (same-or-not (getD os j 0) (getD os i 0));
+  kept = λ x n. z .kept x (away x (getD os i 0) (n i l (omega arith))) ∙ w .kept x (λ j a b. n j a (omega arith));
+}
+  where
+    earlier : (j : ℕ) → (getD os j 0 ≡ getD os i 0 → ⊥) → j < i + 1 → j < i
+    earlier j n b = ⊎-elim (λ (e : j ≡ i). absurd (n (ap (λ (x : ℕ). getD os x 0) e))) (λ (ne : j ≡ i → ⊥). omega arith) (same-or-not j i)
+
+    apart : (s t r : ℕ) → r < 256 → (s ≡ t → ⊥) → (256 * s + r < 256 * t) ⊎ (256 * t + 256 ≤ 256 * s + r)
+    apart s t r h ne = ⊎-elim (λ (a : s < t). inl (omega arith)) (λ (a : t ≤ s). inr (⊎-elim (λ (e : s ≡ t). absurd (ne e)) (λ (e : s ≡ t → ⊥). omega arith) (same-or-not s t))) (lt-or-ge s t)
+
+    away : (x t : ℕ) → (t ≡ x / 256 → ⊥) → (x < 256 * t) ⊎ (256 * t + 256 ≤ x)
+    away x t ne = ⊎-elim (λ (a : x < 256 * t). inl a) (λ (a : 256 * t ≤ x). inr (⊎-elim (λ (b : x < 256 * t + 256). absurd (ne (omega arith))) (λ (b : 256 * t + 256 ≤ x). b) (lt-or-ge x (256 * t + 256)))) (lt-or-ge x (256 * t))
+
+pub wipe-end : (bs os ds : List ℕ) (from to i : ℕ) → Wiped bs os from i ds → i ≤ to → to ≤ i → Wiped bs os from to ds
+wipe-end bs os ds from to i w a b = let e : i ≡ to = omega arith in subst (λ (x : ℕ). Wiped bs os from x ds) e w
+
+-- ---- within a range or not
+pub within-yes : (lo hi k : ℕ) → lo ≤ k → k < hi → within lo hi k ≡ true
+within-yes lo hi k a b = rw (le-leb lo k a, lt-ltb k hi b)
+
+pub within-no : (lo hi k : ℕ) → (k < lo) ⊎ (hi ≤ k) → within lo hi k ≡ false
+within-no lo hi k o = ⊎-elim (λ (a : k < lo). rw (lt-leb lo k a)) (λ (a : hi ≤ k). rw (le-ltb k hi a) (last (leb lo k))) o
+  where
+    last : (b : Bool) → (b && false) ≡ false
+    last true = refl
+    last false = refl
+
+-- an equation with `within`, by its two cases
+cases : (lo hi k x y : ℕ) → (lo ≤ k → k < hi → x ≡ 0) → ((k < lo) ⊎ (hi ≤ k) → x ≡ y) → x ≡ cond (within lo hi k) 0 y
+cases lo hi k x y inside outside =
+    ⊎-elim (λ (a : k < lo). outside (inl a) ∙ ap (λ (b : Bool). cond b 0 y) (sym (within-no lo hi k (inl a))))
+    (λ (a : lo ≤ k).
+    ⊎-elim (λ (b : k < hi). inside a b ∙ ap (λ (c : Bool). cond c 0 y) (sym (within-yes lo hi k a b)))
+    (λ (b : hi ≤ k). outside (inr b) ∙ ap (λ (c : Bool). cond c 0 y) (sym (within-no lo hi k (inr b))))
+    (lt-or-ge k hi))
+    (lt-or-ge k lo)
+
+-- ---- `give`
+module _ (bytes keys order words : List ℕ) (ix : Indexed keys order words) (lo hi from to : ℕ) (room : 256 * slotCount words ≤ length bytes) (pos : 0 < lo) (le : lo ≤ hi)
+    (lower : LowerBound (take (slotCount words - 0) keys) (take (slotCount words - 0) order) (heldNow words) lo from)
+    (upper : LowerBound (take (slotCount words - 0) keys) (take (slotCount words - 0) order) (heldNow words) hi to) where
+  abbrev ks : List ℕ
+  ks = take (slotCount words) keys
+
+  abbrev os : List ℕ
+  os = take (slotCount words) order
+
+  low : LowerBound ks os (heldNow words) lo from
+  low = rw (sub-zero (slotCount words)) at lower
+
+  high : LowerBound ks os (heldNow words) hi to
+  high = rw (sub-zero (slotCount words)) at upper
+
+  pub in-order : from ≤ to
+  in-order = ranks-order ks os (heldNow words) lo hi from to (ix .index) low high le
+
+  pub ranks-end : to ≤ heldNow words
+  ranks-end = high .within
+
+  slot-of-rank : (i : ℕ) → i < to → getD os i 0 < slotCount words
+  slot-of-rank i b =
+      let h = slot-lt ks os (heldNow words) (index-rises ks os (heldNow words) (ix .index)) i (let w = high .within in omega arith) in
+      let c = cut-keys keys order words ix in
+      omega arith
+
+  pub chunks-in : (i : ℕ) → from ≤ i → i < to → 256 * getD (take (slotCount words - 0) order) i 0 + 256 ≤ length bytes
+  chunks-in i a b = rw (sub-zero (slotCount words)) (let h = slot-of-rank i b in omega arith)
+
+  module _ (bytes' e₁ e₂ : List ℕ) (wiped : Wiped bytes (take (slotCount words - 0) order) from to bytes')
+      (gone : Removed (take (slotCount words - 0) keys) (take (slotCount words - 0) order) (heldNow words) from to e₁ e₂) where
+    w : Wiped bytes os from to bytes'
+    w = rw (sub-zero (slotCount words)) at wiped
+
+    g : Removed ks os (heldNow words) from to e₁ e₂
+    g = rw (sub-zero (slotCount words)) at gone
+
+    l₁ : length e₁ ≡ slotCount words
+    l₁ = g .cleared .long ∙ cut-keys keys order words ix
+
+    l₂ : length e₂ ≡ slotCount words
+    l₂ = g .order-long ∙ cut-order keys order words ix
+
+    key-in : (s : ℕ) → s < slotCount words → getD keys s 0 ≡ getD ks s 0
+    key-in s l = sym (getD-take (slotCount words) keys s 0 l)
+
+    slot-keys : (s : ℕ) → s < slotCount words → getD e₁ s 0 ≡ cond (within lo hi (getD ks s 0)) 0 (getD ks s 0)
+    slot-keys s l =
+        cases lo hi (getD ks s 0) (getD e₁ s 0) (getD ks s 0)
+        (λ a b. let r = rank-within ks os (heldNow words) lo hi from to (ix .index) low high s pos a b in ap (λ (x : ℕ). getD e₁ x 0) (sym (r .is)) ∙ g .cleared .gone (r .rank) (r .from-le) (r .to-lt))
+        (λ o. g .cleared .kept s (rank-outside ks os (heldNow words) lo hi from to (ix .index) low high s o))
+
+    chunk-bytes : (s r : ℕ) → s < slotCount words → r < 256 → getD bytes' (256 * s + r) 0 ≡ cond (within lo hi (getD ks s 0)) 0 (getD bytes (256 * s + r) 0)
+    chunk-bytes s r l h =
+        let e : (256 * s + r) / 256 ≡ s = omega arith in
+        cases lo hi (getD ks s 0) (getD bytes' (256 * s + r) 0) (getD bytes (256 * s + r) 0)
+        (λ a b. let q = rank-within ks os (heldNow words) lo hi from to (ix .index) low high s pos a b in ap (λ (x : ℕ). getD bytes' (256 * x + r) 0) (sym (q .is)) ∙ w .gone (q .rank) r (q .from-le) (q .to-lt) h)
+        (λ o. w .kept (256 * s + r) (λ i a b q. rank-outside ks os (heldNow words) lo hi from to (ix .index) low high s o i a b (q ∙ e)))
+
+    pub given : Given lo hi bytes keys order words bytes' (e₁ ++ drop (slotCount words - 0) keys) (e₂ ++ drop (slotCount words - 0) order) (set words 9 (heldNow words - (to - from)))
+    given =
+        let six : getD (set words 9 (heldNow words - (to - from))) 6 0 ≡ slotCount words = getD-set-other words 9 6 (heldNow words - (to - from)) 0 (λ z. omega arith) in
+        let nine : getD (set words 9 (heldNow words - (to - from))) 9 0 ≡ heldNow words - (to - from) = getD-set-same words 9 (heldNow words - (to - from)) 0 (let h = ix .head in omega arith) in
+        let lk : length (e₁ ++ drop (slotCount words) keys) ≡ length keys = put-long keys e₁ (slotCount words) l₁ (ix .in-keys) in
+        let lo′ : length (e₂ ++ drop (slotCount words) order) ≡ length order = put-long order e₂ (slotCount words) l₂ (ix .in-order) in
+        let front : take (slotCount words) (e₁ ++ drop (slotCount words) keys) ≡ e₁ = take-front e₁ (drop (slotCount words) keys) (slotCount words) l₁ in
+        let here : (s : ℕ) → s < slotCount words → getD (e₁ ++ drop (slotCount words) keys) s 0 ≡ getD e₁ s 0 = λ s l. sym (getD-take (slotCount words) (e₁ ++ drop (slotCount words) keys) s 0 l) ∙ ap (λ (x : List ℕ). getD x s 0) front in
+        rw (sub-zero (slotCount words)) record {
+          slot-keys = λ s l. here s l ∙ slot-keys s l ∙ ap (λ (x : ℕ). cond (within lo hi x) 0 x) (sym (key-in s l));
+          chunk-bytes = λ s r l h. chunk-bytes s r l h ∙ ap (λ (x : ℕ). cond (within lo hi x) 0 (getD bytes (256 * s + r) 0)) (sym (key-in s l));
+          bytes-rest = λ x l. w .kept x (λ i a b q. let h = slot-of-rank i b in omega arith);
+          keys-rest = drop-front e₁ (drop (slotCount words) keys) (slotCount words) l₁;
+          order-rest = drop-front e₂ (drop (slotCount words) order) (slotCount words) l₂;
+          head = λ i n. getD-set-other words 9 i (heldNow words - (to - from)) 0 n;
+          bytes-long = w .long;
+          keys-long = lk;
+          order-long = lo′;
+          words-long = length-set words 9 (heldNow words - (to - from));
+          indexed-still = record {
+            head = let h = ix .head in let q = length-set words 9 (heldNow words - (to - from)) in omega arith;
+            few = let h = ix .few in omega arith;
+            in-keys = let h = ix .in-keys in omega arith;
+            in-order = let h = ix .in-order in omega arith;
+            index = rw (six, nine, front, take-front e₂ (drop (slotCount words) order) (slotCount words) l₂) (g .index);
+          };
+        }

@@ -1,0 +1,61 @@
+use Rattle.store.proofs.Gives.{zero-none, zero-more, zero-end}
+use Rattle.store.specs.Give.{Zeroed}
+use borrow.Author.Needs.{needs}
+use Prim.Native.Nat.{_-_, _≤_}
+use native.Mathlib.Omega.{arith}
+use Rattle.store.proofs.clear_chunk.Statement.{statement}
+use Rattle.store.proofs.clear_chunk.Tie as tie
+
+abbrev Inv-loop : tie.InvT-loop
+Inv-loop bytes₀ at i₀ bytes i = (i ≤ 256) × Zeroed bytes₀ at i bytes
+
+abbrev μ-loop : tie.MeasureT-loop
+μ-loop bytes₀ at i₀ bytes i = 256 - i
+
+loop-holds : tie.Need-loop-holds Inv-loop μ-loop
+loop-holds c = (search needs, zero-none _ _)
+
+add-bytes : tie.Need-add-bytes Inv-loop μ-loop
+add-bytes c = search needs
+
+slice-write-bytes : tie.Need-slice-write-bytes Inv-loop μ-loop
+slice-write-bytes c =
+    let at-loop = c .before in
+    let l = at-loop .loop .inv .1 .long in search needs
+
+add-i : tie.Need-add-i Inv-loop μ-loop
+add-i c = search needs
+
+loop-less : tie.Need-loop-less Inv-loop μ-loop
+loop-less c = search needs
+
+loop-again : tie.Need-loop-again Inv-loop μ-loop
+loop-again c =
+    let at-loop-test = c in
+    let at-loop = at-loop-test .before in
+    let start = at-loop .before in
+    (omega arith, zero-more _ _ _ _ (omega (arith, at-loop-test .loop-test .taken, start .pre)) (at-loop .loop .inv .1))
+
+same-length : tie.Need-same-length Inv-loop μ-loop
+same-length c = search needs
+
+returns : tie.Need-returns Inv-loop μ-loop
+returns c =
+    let at-loop-test = c in
+    let at-loop = at-loop-test .before in
+    zero-end _ _ _ _ (at-loop .loop .inv .1) (at-loop .loop .inv .0) (at-loop-test .loop-test .left)
+
+pub clear-chunk-spec : {M : Type 1} → statement M
+clear-chunk-spec =
+    tie.close
+    (tie.spec
+    Inv-loop
+    μ-loop
+    loop-holds
+    add-bytes
+    slice-write-bytes
+    add-i
+    loop-less
+    loop-again
+    same-length
+    returns)

@@ -1,0 +1,81 @@
+use Rattle.store.proofs.Gives.{wipe-none, wipe-more, wipe-end}
+use Rattle.store.specs.Give.{Wiped}
+use borrow.Author.Needs.{needs}
+use Prim.Native.Nat.{_-_, _≤_}
+use native.Mathlib.Omega.{arith}
+use Rattle.store.proofs.wipe.Statement.{statement}
+use Rattle.store.proofs.wipe.Tie as tie
+
+abbrev Inv-loop : tie.InvT-loop
+Inv-loop bytes₀ order from to i₀ bytes i = (from ≤ i) × (i ≤ to) × Wiped bytes₀ order from i bytes
+
+abbrev μ-loop : tie.MeasureT-loop
+μ-loop bytes₀ order from to i₀ bytes i = to - i
+
+loop-holds : tie.Need-loop-holds Inv-loop μ-loop
+loop-holds c = (search needs, search needs, wipe-none _ _ _ _ (omega arith))
+
+mul-clear-chunk : tie.Need-mul-clear-chunk Inv-loop μ-loop
+mul-clear-chunk c = search needs
+
+shared-slice-read-clear-chunk : tie.Need-shared-slice-read-clear-chunk Inv-loop μ-loop
+shared-slice-read-clear-chunk c = search needs
+
+cast-clear-chunk : tie.Need-cast-clear-chunk Inv-loop μ-loop
+cast-clear-chunk c =
+    let at-loop = c .before .before .before in
+    let at-shared-slice-known = at-loop .before in
+    omega (arith, at-shared-slice-known .shared-slice-known .given (at-loop .loop .i))
+
+mul-clear-chunk-2 : tie.Need-mul-clear-chunk-2 Inv-loop μ-loop
+mul-clear-chunk-2 c =
+    let at-loop-test = c .before .before in
+    let at-loop = at-loop-test .before in
+    let start = at-loop .before .before .before in
+    let l = start .pre .2 (at-loop .loop .i) (at-loop .loop .inv .0) (at-loop-test .loop-test .taken) in let e = at-loop .loop .inv .2 .long in search needs
+
+clear-chunk-requires : tie.Need-clear-chunk-requires Inv-loop μ-loop
+clear-chunk-requires c κs =
+    let at-loop-test = c .before .before in
+    let at-loop = at-loop-test .before in
+    let start = at-loop .before .before .before in
+    let l = start .pre .2 (at-loop .loop .i) (at-loop .loop .inv .0) (at-loop-test .loop-test .taken) in let e = at-loop .loop .inv .2 .long in omega arith
+
+add-i : tie.Need-add-i Inv-loop μ-loop
+add-i c = search needs
+
+loop-less : tie.Need-loop-less Inv-loop μ-loop
+loop-less c = search needs
+
+loop-again : tie.Need-loop-again Inv-loop μ-loop
+loop-again c =
+    let at-clear-chunk = c .before .before in
+    let at-loop = at-clear-chunk .before .before .before .before in
+    (omega arith, omega arith, wipe-more _ _ _ _ _ _ (at-loop .loop .inv .0) (at-loop .loop .inv .2) (at-clear-chunk .clear-chunk .ensures))
+
+same-length : tie.Need-same-length Inv-loop μ-loop
+same-length c = search needs
+
+returns : tie.Need-returns Inv-loop μ-loop
+returns c =
+    let at-loop-test = c in
+    let at-loop = at-loop-test .before in
+    wipe-end _ _ _ _ _ _ (at-loop .loop .inv .2) (at-loop .loop .inv .1) (at-loop-test .loop-test .left)
+
+pub wipe-spec : {M : Type 1} → statement M
+wipe-spec =
+    tie.close
+    (tie.spec
+    Inv-loop
+    μ-loop
+    loop-holds
+    mul-clear-chunk
+    shared-slice-read-clear-chunk
+    cast-clear-chunk
+    mul-clear-chunk-2
+    clear-chunk-requires
+    add-i
+    loop-less
+    loop-again
+    same-length
+    returns)

@@ -1,0 +1,41 @@
+-- Slots are given back to the pool: what `give` leaves.
+-- Assumes nothing.
+use mathlib.Core.Path.{_≡_}
+use mathlib.Core.Bool.{Bool, cond, _&&_}
+use mathlib.Core.Logic.{_⊎_}
+use mathlib.Core.List.{List}
+use Prim.Native.Nat.{ℕ, _+_, _*_, _/_, _≤_, _<_}
+use lib.Dec.{leb, ltb}
+use lib.ListN.{length, getD, drop}
+use Rattle.store.specs.Mem.{slotCount}
+use Rattle.store.specs.Hold.{Indexed}
+
+-- bs' is bs with n zeros from place `at` on
+pub record Zeroed (bs : List ℕ) (at n : ℕ) (bs' : List ℕ) : Type 0 where
+  pub long : length bs' ≡ length bs
+  pub gone : (x : ℕ) → at ≤ x → x < at + n → getD bs' x 0 ≡ 0
+  pub kept : (x : ℕ) → (x < at) ⊎ (at + n ≤ x) → getD bs' x 0 ≡ getD bs x 0
+
+-- .. with the chunks zeroed of the slots at the ranks from `from` up to, but without, `to`
+pub record Wiped (bs os : List ℕ) (from to : ℕ) (bs' : List ℕ) : Type 0 where
+  pub long : length bs' ≡ length bs
+  pub gone : (i r : ℕ) → from ≤ i → i < to → r < 256 → getD bs' (256 * getD os i 0 + r) 0 ≡ 0
+  pub kept : (x : ℕ) → ((i : ℕ) → from ≤ i → i < to → getD os i 0 ≡ x / 256 → ⊥) → getD bs' x 0 ≡ getD bs x 0
+
+-- k is from lo up to, but without, hi
+abbrev pub within : ℕ → ℕ → ℕ → Bool
+within lo hi k = leb lo k && ltb k hi
+
+-- the slots with such keys are pooled, their chunks zero, and the rest is as it was
+pub record Given (lo hi : ℕ) (bytes keys order words bytes' keys' order' words' : List ℕ) : Type 0 where
+  pub slot-keys : (s : ℕ) → s < slotCount words → getD keys' s 0 ≡ cond (within lo hi (getD keys s 0)) 0 (getD keys s 0)
+  pub chunk-bytes : (s r : ℕ) → s < slotCount words → r < 256 → getD bytes' (256 * s + r) 0 ≡ cond (within lo hi (getD keys s 0)) 0 (getD bytes (256 * s + r) 0)
+  pub bytes-rest : (x : ℕ) → 256 * slotCount words ≤ x → getD bytes' x 0 ≡ getD bytes x 0
+  pub keys-rest : drop (slotCount words) keys' ≡ drop (slotCount words) keys
+  pub order-rest : drop (slotCount words) order' ≡ drop (slotCount words) order
+  pub head : (i : ℕ) → (i ≡ 9 → ⊥) → getD words' i 0 ≡ getD words i 0
+  pub bytes-long : length bytes' ≡ length bytes
+  pub keys-long : length keys' ≡ length keys
+  pub order-long : length order' ≡ length order
+  pub words-long : length words' ≡ length words
+  pub indexed-still : Indexed keys' order' words'

@@ -1,0 +1,8 @@
+-- The laws that the proofs of this crate share.
+pub mod Fields
+pub mod Figures
+pub mod Shifts
+pub mod Lines
+pub mod Numerals
+pub mod Long
+pub mod RoundTrip

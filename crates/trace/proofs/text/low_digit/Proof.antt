@@ -1,0 +1,19 @@
+use Rattle.trace.proofs.Numerals.{low-of}
+use Rattle.word.specs.Value.{value}
+use Prim.Native.Nat.{ℕ, suc, _+_, _*_, _-_, _/_, _%_, _≤_, _<_}
+use mathlib.Core.Path.{_≡_, refl, sym, ap, _∙_}
+use native.Mathlib.Omega.{arith}
+use lib.ListN.{length, getD, set, length-set}
+use borrow.Author.Needs.{needs}
+use Rattle.trace.proofs.text.low_digit.Statement.{statement}
+use Rattle.trace.proofs.text.low_digit.Tie as tie
+
+array-read-result : tie.Need-array-read-result
+array-read-result c = search needs
+
+returns : tie.Need-returns
+unfolding value
+returns c = (low-of _ _, omega arith)
+
+pub low-digit-spec : {M : Type 1} → statement M
+low-digit-spec = tie.close (tie.spec array-read-result returns)

@@ -1,0 +1,19 @@
+use Rattle.trace.specs.Text.{replyWith}
+use Prim.Native.Nat.{ℕ, suc, _+_, _*_, _-_, _/_, _%_, _≤_, _<_}
+use mathlib.Core.Path.{_≡_, refl, sym, ap, _∙_}
+use native.Mathlib.Omega.{arith}
+use lib.ListN.{length, getD, set, length-set}
+use borrow.Author.Needs.{needs}
+use Rattle.trace.proofs.text.marks.Statement.{statement}
+use Rattle.trace.proofs.text.marks.Tie as tie
+
+plain-requires : tie.Need-plain-requires
+plain-requires c κs = search needs
+
+returns : tie.Need-returns
+returns c =
+    let at-plain = c in
+    rw (at-plain .plain .ensures .0, at-plain .plain .ensures .1, at-plain .plain .ensures .2)
+
+pub marks-spec : {M : Type 1} → statement M
+marks-spec = tie.close (tie.spec plain-requires returns)

@@ -1,0 +1,51 @@
+use Rattle.trace.specs.Text.{numeral}
+use Rattle.trace.proofs.Numerals.{part-text, part-short, as-text, numeral-length}
+use Prim.Native.Nat.{ℕ, suc, _+_, _*_, _-_, _/_, _%_, _≤_, _<_}
+use mathlib.Core.Path.{_≡_, refl, sym, ap, _∙_}
+use native.Mathlib.Omega.{arith}
+use lib.ListN.{length, getD, set, length-set, take, drop, length-take}
+use borrow.Author.Needs.{needs}
+use Rattle.trace.proofs.text.put_decimal.Statement.{statement}
+use Rattle.trace.proofs.text.put_decimal.Tie as tie
+
+decimal-numeral-requires : tie.Need-decimal-numeral-requires
+decimal-numeral-requires c κs = search needs
+
+sub-put : tie.Need-sub-put
+sub-put c = search needs
+
+part-put-start : tie.Need-part-put-start
+part-put-start c = search needs
+
+part-put-end : tie.Need-part-put-end
+part-put-end c =
+    let at-decimal-numeral = c .before .before .before in
+    omega (arith, at-decimal-numeral .decimal-numeral .ensures .2)
+
+put-requires : tie.Need-put-requires
+put-requires c κs =
+    let at-decimal-numeral = c .before .before .before .before in
+    let start = at-decimal-numeral .before .before in
+    omega (arith, start .pre, length-take (64 - at-decimal-numeral .decimal-numeral .result .from) (drop (at-decimal-numeral .decimal-numeral .result .from) (at-decimal-numeral .decimal-numeral .result .text)))
+
+same-length : tie.Need-same-length
+same-length c = search needs
+
+returns : tie.Need-returns
+returns c =
+    let at-put = c .before .before in
+    let at-decimal-numeral = at-put .before .before .before .before .before in
+    let start = at-decimal-numeral .before .before in
+    as-text (part-text (at-decimal-numeral .decimal-numeral .result .text) (numeral 10 64 (start .args .number)) (at-decimal-numeral .decimal-numeral .result .from) (at-decimal-numeral .decimal-numeral .ensures .2) (at-decimal-numeral .decimal-numeral .ensures .0)) (at-put .put .ensures)
+
+pub put-decimal-spec : {M : Type 1} → statement M
+put-decimal-spec =
+    tie.close
+    (tie.spec
+    decimal-numeral-requires
+    sub-put
+    part-put-start
+    part-put-end
+    put-requires
+    same-length
+    returns)

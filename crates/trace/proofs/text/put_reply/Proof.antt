@@ -1,0 +1,34 @@
+use Rattle.trace.specs.Text.{replyOf}
+use Rattle.trace.proofs.Numerals.{then, reply-length}
+use Prim.Native.Nat.{ℕ, suc, _+_, _*_, _-_, _/_, _%_, _≤_, _<_}
+use mathlib.Core.Path.{_≡_, refl, sym, ap, _∙_}
+use native.Mathlib.Omega.{arith}
+use lib.ListN.{length, getD, set, length-set}
+use borrow.Author.Needs.{needs}
+use Rattle.trace.proofs.text.put_reply.Statement.{statement}
+use Rattle.trace.proofs.text.put_reply.Tie as tie
+
+put-text-requires : tie.Need-put-text-requires
+put-text-requires c κs = search needs
+
+slice-aggregate-put : tie.Need-slice-aggregate-put
+slice-aggregate-put c = search needs
+
+put-requires : tie.Need-put-requires
+put-requires c κs =
+    let at-put-text = c .before .before .before .before in
+    let start = at-put-text .before .before .before in
+    let p = at-put-text .put-text .ensures .place in let l = at-put-text .put-text .ensures .long in omega (arith, reply-length (replyOf (start .args .r)), start .pre)
+
+same-length : tie.Need-same-length
+same-length c = search needs
+
+returns : tie.Need-returns
+returns c =
+    let at-put = c .before .before in
+    let at-put-text = at-put .before .before .before .before .before in
+    then (at-put-text .put-text .ensures) (at-put .put .ensures)
+
+pub put-reply-spec : {M : Type 1} → statement M
+put-reply-spec =
+    tie.close (tie.spec put-text-requires slice-aggregate-put put-requires same-length returns)

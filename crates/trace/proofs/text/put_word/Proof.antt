@@ -1,0 +1,52 @@
+use Rattle.trace.specs.Text.{numeral}
+use Rattle.word.specs.Value.{value}
+use Rattle.trace.proofs.Numerals.{part-text, part-short, as-text, numeral-length}
+use Prim.Native.Nat.{ℕ, suc, _+_, _*_, _-_, _/_, _%_, _≤_, _<_}
+use mathlib.Core.Path.{_≡_, refl, sym, ap, _∙_}
+use native.Mathlib.Omega.{arith}
+use lib.ListN.{length, getD, set, length-set, take, drop, length-take}
+use borrow.Author.Needs.{needs}
+use Rattle.trace.proofs.text.put_word.Statement.{statement}
+use Rattle.trace.proofs.text.put_word.Tie as tie
+
+hexadecimal-numeral-requires : tie.Need-hexadecimal-numeral-requires
+hexadecimal-numeral-requires c κs = search needs
+
+sub-put : tie.Need-sub-put
+sub-put c = search needs
+
+part-put-start : tie.Need-part-put-start
+part-put-start c = search needs
+
+part-put-end : tie.Need-part-put-end
+part-put-end c =
+    let at-hexadecimal-numeral = c .before .before .before in
+    omega (arith, at-hexadecimal-numeral .hexadecimal-numeral .ensures .2)
+
+put-requires : tie.Need-put-requires
+put-requires c κs =
+    let at-hexadecimal-numeral = c .before .before .before .before in
+    let start = at-hexadecimal-numeral .before .before in
+    omega (arith, start .pre, length-take (64 - at-hexadecimal-numeral .hexadecimal-numeral .result .from) (drop (at-hexadecimal-numeral .hexadecimal-numeral .result .from) (at-hexadecimal-numeral .hexadecimal-numeral .result .text)))
+
+same-length : tie.Need-same-length
+same-length c = search needs
+
+returns : tie.Need-returns
+returns c =
+    let at-put = c .before .before in
+    let at-hexadecimal-numeral = at-put .before .before .before .before .before in
+    let start = at-hexadecimal-numeral .before .before in
+    as-text (part-text (at-hexadecimal-numeral .hexadecimal-numeral .result .text) (numeral 16 64 (value (start .args .word .limbs))) (at-hexadecimal-numeral .hexadecimal-numeral .result .from) (at-hexadecimal-numeral .hexadecimal-numeral .ensures .2) (at-hexadecimal-numeral .hexadecimal-numeral .ensures .0)) (at-put .put .ensures)
+
+pub put-word-spec : {M : Type 1} → statement M
+put-word-spec =
+    tie.close
+    (tie.spec
+    hexadecimal-numeral-requires
+    sub-put
+    part-put-start
+    part-put-end
+    put-requires
+    same-length
+    returns)

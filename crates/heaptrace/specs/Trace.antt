@@ -10,14 +10,14 @@ use Rattle.outcome.specs.Outcome as outcome
 use Rattle.store.specs.Mem.{Mem, mem}
 use Rattle.view.specs.View.{Setting}
 use Rattle.view.specs.Checks.{openingChecks, lengthsRight}
-use Rattle.view.specs.Calls.{Call, WriteWord, ReadWord, Snapshot, Rollback, Value, nothing, number, lengths, bytes, verdict, answerOf, CallDoes, OpenDoes}
+use Rattle.view.specs.Calls.{Call, WriteWord, ReadWord, Snapshot, Rollback, Value, nothing, number, lengths, bytes, verdict, given, answerOf, CallDoes, OpenDoes}
 use Rattle.opening.specs.Opening.{layoutFrom, setting}
 use Rattle.trace.specs.Language.{Line, opens, writes, reads, takesSnapshot, rollsBack}
 use Rattle.trace.specs.Language as language
 use Rattle.trace.specs.Text.{Told, unread, done, word, marks, refused}
 use Rattle.heaptrace.specs.declared.step.Run.{Run}
 
--- the answer that tells an outcome; no call of a trace gives bytes or compares memories
+-- the answer that tells an outcome; no call of a trace gives bytes, compares memories or is an instruction
 abbrev pub toldOf : Outcome Value → Told
 toldOf (outcome.refused n) = refused n
 toldOf (outcome.done nothing) = done
@@ -25,6 +25,8 @@ toldOf (outcome.done (number n)) = word n
 toldOf (outcome.done (lengths h a)) = marks h a
 toldOf (outcome.done (bytes bs)) = unread
 toldOf (outcome.done (verdict b)) = unread
+toldOf (outcome.done (given g)) = unread
+toldOf (outcome.panicked v) = unread
 
 -- ---- one call, on the buffers m of just its memory: it is answered with t, and leaves the buffers m'
 abbrev pub CallTells : Mem → Call → Told → Mem → Type 0

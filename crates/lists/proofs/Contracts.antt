@@ -16,7 +16,7 @@ use Rattle.reads.proofs.Calls.{word-call, partial-call, range-call, byte-call, 
 use Rattle.lists.proofs.Compares.{left-call, right-call, both-call}
 use Rattle.plain.specs.Claim.{Contracts}
 use Rattle.plain.proofs.Good.{never}
-use Rattle.lists.specs.Steps.{Step, lent, rest, did-open, did-read-word, did-read-partial, did-read-range, did-read-byte, did-dynamic-length, did-lookup, did-lookup-check, did-snapshot, did-write-word, did-write-bytes, did-allocate, did-allocate-with, did-free, did-window, did-truncate, did-compare-left, did-compare-right, did-compare-both, did-rollback, did-delete-history}
+use Rattle.lists.specs.Steps.{Step, lent, rest, did-open, did-read-word, did-read-partial, did-read-range, did-read-byte, did-dynamic-length, did-lookup, did-lookup-check, did-snapshot, did-write-word, did-write-bytes, did-allocate, did-allocate-with, did-free, did-window, did-truncate, did-compare-left, did-compare-right, did-compare-both, did-rollback, did-delete-history, did-load, did-store, did-load-pointer, did-load-static, did-store-static}
 
 -- an opening does its own; any other call, on a well-formed memory, what is shared
 record Meets (m : Mem) (c : Call) (o : Outcome Value) (m' : Mem) : Type 0 where
@@ -58,6 +58,11 @@ does (did-compare-right w) = by-call _ (λ s d e. never (cc)) (λ _. right-call 
 does (did-compare-both w e) = by-call _ (λ s d e. never (cc)) (λ _. both-call (lent (w .args)) (lent (rest (w .args))) _ e (w .ensures))
 does (did-rollback w) = by-call _ (λ s d e. never (cc)) (λ _. w .ensures)
 does (did-delete-history w) = by-call _ (λ s d e. never (cc)) (λ _. w .ensures)
+does (did-load w) = by-call _ (λ s d e. never (cc)) (λ _. w .ensures .does)
+does (did-store w) = by-call _ (λ s d e. never (cc)) (λ _. w .ensures .does)
+does (did-load-pointer w) = by-call _ (λ s d e. never (cc)) (λ _. w .ensures .does)
+does (did-load-static w) = by-call _ (λ s d e. never (cc)) (λ _. w .ensures .does)
+does (did-store-static w) = by-call _ (λ s d e. never (cc)) (λ _. w .ensures .does)
 
 -- on a memory of setting s and view v, what is shared is said of s and v
 pub of-shown : {m m' : Mem} (c : Call) {o : Outcome Value} {s : Setting} {v : View} → Shows s v m → CallDoes m c o m' → Does m (outcomeOf s c v) s (nextOf s c v) o m'

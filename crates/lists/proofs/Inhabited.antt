@@ -12,17 +12,17 @@ use borrow.Author.Tests.{eqb-true}
 use Rattle.reads.proofs.Tabs.{length-tab}
 use denote.Ref.{RefT}
 use Rattle.outcome.specs.Outcome as outcomes
-use Rattle.outcome.specs.Outcome.{Outcome, refused, done, carriedOut}
+use Rattle.outcome.specs.Outcome.{Outcome, refused, panicked, done, carriedOut}
 use Rattle.outcome.specs.declared.Answer.{Answer}
 use Rattle.outcome.specs.declared.Answer.the-variants.{Done, Refused}
 use Rattle.word.specs.Value.{value, bigEndian}
 use Rattle.store.specs.Mem.{Mem, mem, slotCount, pageCount, journalRoom}
-use Rattle.formed.specs.Formed.{wellFormed}
+use Rattle.formed.specs.Formed.{wellFormed, zeros}
 use Rattle.formed.specs.WellFormed.{WellFormed}
 use Rattle.view.specs.View.{View, viewOf, Setting, settingOf}
-use Rattle.view.specs.Steps.{run, touchedCount, alignedCount}
+use Rattle.view.specs.Steps.{run, padded, touchedCount, alignedCount}
 use Rattle.view.specs.Checks.{onMemory, partialChecks, rangeChecks, lookupChecks, countsRight, lengthsRight, Check, wordWriteChecks, byteWriteChecks, allocateChecks}
-use Rattle.view.specs.Calls.{Call, Value, ReadWord, ReadPartial, ReadRange, ReadByte, DynamicLength, Lookup, LookupCheck, Snapshot, bytes, padded, shown, answerOf, Open, Rollback, DeleteHistory, nothing, told, CallDoes, OpenDoes, Allocate, WriteWord, WriteBytes, nextOf}
+use Rattle.view.specs.Calls.{Call, Value, ReadWord, ReadPartial, ReadRange, ReadByte, DynamicLength, Lookup, LookupCheck, Snapshot, bytes, shown, answerOf, Open, Rollback, DeleteHistory, nothing, told, CallDoes, OpenDoes, Allocate, WriteWord, WriteBytes, nextOf}
 use Rattle.reads.specs.declared.WordRead.{WordRead}
 use Rattle.reads.specs.declared.ByteRead.{ByteRead}
 use Rattle.reads.specs.declared.LengthRead.{LengthRead}
@@ -51,9 +51,10 @@ Answers c = (m : Mem) → Step m c (answerOf m c) m
 abbrev pub ref : List ℕ → RefT (List ℕ)
 ref l = record { ptr = (0, 0); name = 0; now = l }
 
--- ---- answers that tell an outcome whose refusals have a number of 01's table
+-- ---- answers that tell an outcome whose refusals have a number of 01's table; a read does not panic
 abbrev Right : {A : Type 0} → Outcome A → Type 0
 Right (refused n) = 0 < n
+Right (panicked a) = ⊥
 Right (done a) = Unit {0}
 
 module _ {A : Type 0} (m : Mem) (a : A) where
@@ -73,24 +74,27 @@ module _ {A : Type 0} (m : Mem) (a : A) where
       go false c = omega arith
 
 -- the number n, in the lowest limb
-abbrev limbs : ℕ → List ℕ
+abbrev pub limbs : ℕ → List ℕ
 limbs n = n ∷ 0 ∷ 0 ∷ 0 ∷ []
 
-value-is : (n : ℕ) → value (limbs n) ≡ n
+pub value-is : (n : ℕ) → value (limbs n) ≡ n
 unfolding value
 value-is n = omega arith
 
 abbrev numberOf : {A : Type 0} → Outcome A → ℕ
 numberOf (refused n) = n
+numberOf (panicked a) = 0
 numberOf (done a) = 0
 
 abbrev valueOf : {A : Type 0} → A → Outcome A → A
 valueOf z (refused n) = z
+valueOf z (panicked a) = z
 valueOf z (done a) = a
 
 read-does : {A : Type 0} (z : A) (o : Outcome A) → Right o → ReadDoes o (reads.answered (numberOf o) (valueOf z o)) (valueOf z o) z
 read-does z (refused zero) l = absurd (omega (arith, l))
 read-does z (refused (suc n)) l = record { answer = refl; zero = λ _. refl }
+read-does z (panicked a) l = absurd l
 read-does z (done a) l = record { answer = refl; zero = λ e. absurd (true≢false e) }
 
 word-does : (o : Outcome ℕ) → Right o → ReadDoes o (reads.answered (numberOf o) (value (limbs (valueOf 0 o)))) (value (limbs (valueOf 0 o))) 0
@@ -98,11 +102,13 @@ word-does o r = subst (λ (x : ℕ). ReadDoes o (reads.answered (numberOf o) x) 
 
 abbrev answerTo : {A : Type 0} → Outcome A → Answer
 answerTo (refused n) = Refused n
+answerTo (panicked a) = Done
 answerTo (done a) = Done
 
-told-to : (o : Outcome (Unit {0})) → outcomes.told (answerTo o) ≡ o
-told-to (refused n) = refl
-told-to (done tt) = refl
+told-to : (o : Outcome (Unit {0})) → Right o → outcomes.told (answerTo o) ≡ o
+told-to (refused n) r = refl
+told-to (panicked a) r = absurd r
+told-to (done tt) r = refl
 
 -- ---- the reads
 abbrev word : Outcome ℕ → WordRead
@@ -160,11 +166,13 @@ can-read-partial p x y m =
 -- an output that takes the bytes
 abbrev taken : Outcome (Unit {0}) → List ℕ → List ℕ → List ℕ
 taken (refused n) l bs = l
+taken (panicked u) l bs = l
 taken (done u) l bs = bs
 
-range-does : (o : Outcome (Unit {0})) (l bs : List ℕ) → RangeDoes o (outcomes.told (answerTo o)) bs l (taken o l bs)
-range-does (refused n) l bs = record { answer = refl; kept = λ _. refl; read = λ e. absurd (true≢false (sym e)) }
-range-does (done tt) l bs = record { answer = refl; kept = λ e. absurd (true≢false e); read = λ _. refl }
+range-does : (o : Outcome (Unit {0})) (l bs : List ℕ) → Right o → RangeDoes o (outcomes.told (answerTo o)) bs l (taken o l bs)
+range-does (panicked u) l bs r = absurd r
+range-does (refused n) l bs r = record { answer = refl; kept = λ _. refl; read = λ e. absurd (true≢false (sym e)) }
+range-does (done tt) l bs r = record { answer = refl; kept = λ e. absurd (true≢false e); read = λ _. refl }
 
 -- it is as long as before
 taken-long : (m : Mem) (p x y : ℕ) (l : List ℕ) → length (taken (onMemory m (rangeChecks x y (length l)) tt) l (run (viewOf m) p x (y - x))) ≡ length l
@@ -177,7 +185,7 @@ taken-long m p x y l = go (wellFormed m) (eqb (length l) (y - x)) refl
 
 pub can-read-range : (p x y : ℕ) (l : List ℕ) → Answers (ReadRange p x y (length l))
 can-read-range p x y l m =
-    subst (λ (o : Outcome Value). Step m (ReadRange p x y (length l)) o m) (range-call m p x y l (taken out l bs) (outcomes.told (answerTo out)) (range-does out l bs) .answer)
+    subst (λ (o : Outcome Value). Step m (ReadRange p x y (length l)) o m) (range-call m p x y l (taken out l bs) (outcomes.told (answerTo out)) (range-does out l bs right) .answer)
     (did-read-range
     (record {
       lifetimes = ([], ([], ([], ([], ([], tt)))));
@@ -186,7 +194,7 @@ can-read-range p x y l m =
       last = (tt, (tt, (tt, (tt, (tt, (tt, (tt, (taken out l bs, tt))))))));
       asked = tt;
       kept = (tt, (tt, (tt, (tt, (tt, (tt, (tt, (taken-long m p x y l, tt))))))));
-      ensures = range-does out l bs;
+      ensures = range-does out l bs right;
     }))
   where
     bs : List ℕ
@@ -194,6 +202,9 @@ can-read-range p x y l m =
 
     out : Outcome (Unit {0})
     out = onMemory m (rangeChecks x y (length l)) tt
+
+    right : Right out
+    right = right-check m tt (not (eqb (length l) (y - x)))
 
 pub can-read-byte : (p a : ℕ) → Answers (ReadByte p a)
 can-read-byte p a m =
@@ -270,7 +281,7 @@ can-look-up p k z m =
 
 pub can-check : (p k : ℕ) (z : List ℕ) → Answers (LookupCheck p k z)
 can-check p k z m =
-    subst (λ (o : Outcome Value). Step m (LookupCheck p k z) o m) (check-call m p k z (outcomes.told (answerTo out)) (told-to out) .answer)
+    subst (λ (o : Outcome Value). Step m (LookupCheck p k z) o m) (check-call m p k z (outcomes.told (answerTo out)) (told-to out right) .answer)
     (did-lookup-check
     (record {
       lifetimes = ([], ([], ([], ([], ([], tt)))));
@@ -279,11 +290,14 @@ can-check p k z m =
       last = (tt, (tt, (tt, (tt, (tt, (tt, (tt, tt)))))));
       asked = tt;
       kept = (tt, (tt, (tt, (tt, (tt, (tt, (tt, tt)))))));
-      ensures = told-to out;
+      ensures = told-to out right;
     }))
   where
     out : Outcome (Unit {0})
     out = onMemory m (lookupChecks z) tt
+
+    right : Right out
+    right = right-check m tt (not (eqb (length z) 256 && zeros z))
 
 -- ---- calls that change the memory
 -- a memory has a step of c, with this outcome
@@ -298,10 +312,10 @@ pub record Same (m m' : Mem) : Type 0 where
   pub order : length (m' .order) ≡ length (m .order)
   pub words : length (m' .words) ≡ length (m .words)
 
-same : (m : Mem) → Same m m
+pub same : (m : Mem) → Same m m
 same m = record { bytes = refl; keys = refl; order = refl; words = refl }
 
-setting-same : {m m' : Mem} {v : View} → WellFormed m → Shows (settingOf m) v m' → Same m m'
+pub setting-same : {m m' : Mem} {v : View} → WellFormed m → Shows (settingOf m) v m' → Same m m'
 setting-same {m} {m'} f h =
     let a = f .lengths in
     let b = h .formed .lengths in

@@ -12,4 +12,5 @@ pub mod Thins
 pub mod Inhabited
 pub mod Frees
 pub mod Comparing
+pub mod Instructions
 pub mod Next

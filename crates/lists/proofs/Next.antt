@@ -13,7 +13,8 @@ use Rattle.formed.proofs.Meaning.{well-formed-passes}
 use Rattle.view.specs.View.{View, Setting, settingOf, viewOf}
 use Rattle.view.specs.Checks.{openingChecks, lengthsRight}
 use Rattle.view.specs.Does.{Shows}
-use Rattle.view.specs.Calls.{Call, Value, Open, Allocate, ReadWord, ReadPartial, ReadRange, ReadByte, DynamicLength, WriteWord, WriteBytes, Lookup, LookupCheck, Free, Window, Truncate, CompareLeft, CompareRight, CompareBoth, Snapshot, Rollback, DeleteHistory, nothing, bytes, shown, sameLengths, outcomeOf, answerOf}
+use Rattle.view.specs.Calls.{Call, Value, Open, Allocate, ReadWord, ReadPartial, ReadRange, ReadByte, DynamicLength, WriteWord, WriteBytes, Lookup, LookupCheck, Free, Window, Truncate, CompareLeft, CompareRight, CompareBoth, Snapshot, Rollback, DeleteHistory, nothing, bytes, shown, sameLengths, outcomeOf, answerOf, Load, Store, LoadPointer, LoadStatic, StoreStatic}
+use Rattle.view.specs.Instructions.{heapOf}
 use Rattle.plain.specs.Plain.{Plain, seen}
 use Rattle.plain.specs.Claim.{Started, Run, Any}
 use Rattle.lists.specs.Steps.{Step}
@@ -21,8 +22,9 @@ use Rattle.lists.proofs.Theorem.{theorem}
 use Rattle.lists.proofs.Inhabited.{Answers, Goes, Narrow, can-open, can-allocate-with, can-read-word, can-read-partial, can-read-range, can-read-byte, can-tell-length, can-write-word, can-write-bytes, can-look-up, can-check, can-snapshot, can-roll-back, can-delete}
 use Rattle.lists.proofs.Frees.{can-free, can-window, can-truncate}
 use Rattle.lists.proofs.Comparing.{can-compare-left, can-compare-right, can-compare-both}
+use Rattle.lists.proofs.Instructions.{can-load, can-store, can-load-pointer, can-load-static, can-store-static}
 
--- what the types of the code's arguments ask of an opening, an allocation or a write: pages, addresses and a layout's numbers have 32 bits.
+-- what the types of the code's arguments ask of an opening, an allocation, a write or a store: pages, addresses and a layout's numbers have 32 bits.
 -- The other calls go on with any arguments
 abbrev pub Fits : Call → Type 0
 Fits (Open s calldata) = Narrow s
@@ -45,6 +47,11 @@ Fits CompareBoth = Unit {0}
 Fits Snapshot = Unit {0}
 Fits (Rollback heap aux) = Unit {0}
 Fits DeleteHistory = Unit {0}
+Fits (Load area f x) = Unit {0}
+Fits (Store area f x n h) = heapOf f area ≤ 4294967295
+Fits (LoadPointer f x) = Unit {0}
+Fits (LoadStatic f x) = Unit {0}
+Fits (StoreStatic f x n) = Unit {0}
 
 module _ {s : Setting} {v : View} {m : Mem} (h : Shows s v m) where
   formed : wellFormed m ≡ true
@@ -93,6 +100,11 @@ module _ {s : Setting} {v : View} {m : Mem} (h : Shows s v m) where
   goes-on Snapshot f = reads Snapshot can-snapshot
   goes-on (Rollback heap aux) f = changes (Rollback heap aux) (can-roll-back heap aux m)
   goes-on DeleteHistory f = changes DeleteHistory (can-delete m)
+  goes-on (Load area g x) f = reads (Load area g x) (can-load area g x)
+  goes-on (Store area g x n k) f = changes (Store area g x n k) (can-store area g x n k f m)
+  goes-on (LoadPointer g x) f = reads (LoadPointer g x) (can-load-pointer g x)
+  goes-on (LoadStatic g x) f = reads (LoadStatic g x) (can-load-static g x)
+  goes-on (StoreStatic g x n) f = changes (StoreStatic g x n) (can-store-static g x n m)
 
 pub next : {s : Setting} {start m : Mem} {p₀ p : Plain} → Started Step s start p₀ → Run Step Any s start p₀ m p → (c : Call) → Fits c → Goes m c (outcomeOf s c (seen s p))
 next b r c f = goes-on (theorem .lists b r .shows) c f

@@ -19,6 +19,11 @@ use Rattle.freeing.proofs.truncate_dynamic_to.Met as truncate-met
 use Rattle.compare.proofs.compare.Met as compare-met
 use Rattle.history.proofs.rollback.Met as rollback-met
 use Rattle.history.proofs.delete_history.Met as delete-met
+use Rattle.instructions.proofs.load.Met as load-met
+use Rattle.instructions.proofs.store.Met as store-met
+use Rattle.instructions.proofs.load_pointer.Met as pointer-met
+use Rattle.instructions.proofs.load_static.Met as load-static-met
+use Rattle.instructions.proofs.store_static.Met as store-static-met
 use Rattle.plain.specs.Claim.{Claim}
 use Rattle.plain.proofs.Theorem.{claim}
 use Rattle.lists.specs.Steps.{Step}
@@ -50,5 +55,10 @@ demand = record {
   compare = λ {M}. compare-met.met {M = M};
   rollback = λ {M}. rollback-met.met {M = M};
   «delete_history» = λ {M}. delete-met.met {M = M};
+  load = λ {M}. load-met.met {M = M};
+  store = λ {M}. store-met.met {M = M};
+  «load_pointer» = λ {M}. pointer-met.met {M = M};
+  «load_static» = λ {M}. load-static-met.met {M = M};
+  «store_static» = λ {M}. store-static-met.met {M = M};
   claim = theorem;
 }

@@ -20,6 +20,11 @@ use Rattle.freeing.proofs.truncate_dynamic_to.Statement as truncate-says
 use Rattle.compare.proofs.compare.Statement as compare-says
 use Rattle.history.proofs.rollback.Statement as rollback-says
 use Rattle.history.proofs.delete_history.Statement as delete-says
+use Rattle.instructions.proofs.load.Statement as load-says
+use Rattle.instructions.proofs.store.Statement as store-says
+use Rattle.instructions.proofs.load_pointer.Statement as pointer-says
+use Rattle.instructions.proofs.load_static.Statement as load-static-says
+use Rattle.instructions.proofs.store_static.Statement as store-static-says
 use Rattle.plain.specs.Claim.{Claim}
 use Rattle.lists.specs.Steps.{Step}
 
@@ -43,4 +48,9 @@ pub record Demand : Type 2 where
   pub compare : {M : Type 1} → compare-says.statement M
   pub rollback : {M : Type 1} → rollback-says.statement M
   pub «delete_history» : {M : Type 1} → delete-says.statement M
+  pub load : {M : Type 1} → load-says.statement M
+  pub store : {M : Type 1} → store-says.statement M
+  pub «load_pointer» : {M : Type 1} → pointer-says.statement M
+  pub «load_static» : {M : Type 1} → load-static-says.statement M
+  pub «store_static» : {M : Type 1} → store-static-says.statement M
   pub claim : Claim Step

@@ -15,7 +15,7 @@ use Rattle.outcome.specs.Outcome as outcomes
 use Rattle.outcome.specs.Outcome.{Outcome, done}
 use Rattle.store.specs.Mem.{Mem, mem}
 use Rattle.word.specs.Value.{value}
-use Rattle.view.specs.Calls.{Call, Value, Open, Allocate, WriteWord, WriteBytes, ReadWord, ReadPartial, ReadRange, ReadByte, DynamicLength, Lookup, LookupCheck, Free, Window, Truncate, CompareLeft, CompareRight, CompareBoth, Snapshot, Rollback, DeleteHistory, nothing, number, bytes, told}
+use Rattle.view.specs.Calls.{Call, Value, Open, Allocate, WriteWord, WriteBytes, ReadWord, ReadPartial, ReadRange, ReadByte, DynamicLength, Lookup, LookupCheck, Free, Window, Truncate, CompareLeft, CompareRight, CompareBoth, Snapshot, Rollback, DeleteHistory, nothing, number, bytes, told, Load, Store, LoadPointer, LoadStatic, StoreStatic}
 use Rattle.opening.specs.Opening.{setting}
 use Rattle.reads.specs.Calls.{toldByte, toldLength, toldMarks, valued, marked}
 use Rattle.reads.specs.Calls as reads
@@ -58,6 +58,18 @@ use Rattle.history.proofs.rollback.Kinds as rollback-kinds
 use Rattle.history.proofs.rollback.Reads as rollback-reads
 use Rattle.history.proofs.delete_history.Kinds as delete-kinds
 use Rattle.history.proofs.delete_history.Reads as delete-reads
+use Rattle.instructions.specs.Executions as executions
+use Rattle.instructions.specs.Executions.{operandOf, hookOf}
+use Rattle.instructions.proofs.load.Kinds as load-kinds
+use Rattle.instructions.proofs.load.Reads as load-reads
+use Rattle.instructions.proofs.store.Kinds as store-kinds
+use Rattle.instructions.proofs.store.Reads as store-reads
+use Rattle.instructions.proofs.load_pointer.Kinds as pointer-kinds
+use Rattle.instructions.proofs.load_pointer.Reads as pointer-reads
+use Rattle.instructions.proofs.load_static.Kinds as load-static-kinds
+use Rattle.instructions.proofs.load_static.Reads as load-static-reads
+use Rattle.instructions.proofs.store_static.Kinds as store-static-kinds
+use Rattle.instructions.proofs.store_static.Reads as store-static-reads
 
 -- a call of a function that takes ps and answers an r, asks P and tells Q: the logic's own record `borrow.Author.Called`, which a
 -- caller's proof is handed, without the caller's locals
@@ -237,4 +249,45 @@ pub data Step : Mem → Call → Outcome Value → Mem → Type 0 where
       (lent (w .args))
       DeleteHistory
       (told (w .result))
+      (lent (exits w))
+  -- the frame is an argument, and a part of the answer
+  did-load :
+      (w : Went load-kinds.ps load-kinds.r load-reads.Asked load-reads.Learnt) →
+      Step
+      (lent (w .args))
+      (Load (rest (w .args) .1 .0) (rest (w .args) .0) (operandOf (rest (w .args) .1 .1 .0)))
+      (executions.told (w .result))
+      (lent (exits w))
+  did-store :
+      (w : Went store-kinds.ps store-kinds.r store-reads.Asked store-reads.Learnt) →
+      Step
+      (lent (w .args))
+      (Store
+      (rest (w .args) .1 .0)
+      (rest (w .args) .0)
+      (operandOf (rest (w .args) .1 .1 .0))
+      (value (rest (w .args) .1 .1 .1 .0 .limbs))
+      (hookOf (rest (w .args) .1 .1 .1 .1 .0)))
+      (executions.told (w .result))
+      (lent (exits w))
+  did-load-pointer :
+      (w : Went pointer-kinds.ps pointer-kinds.r pointer-reads.Asked pointer-reads.Learnt) →
+      Step
+      (lent (w .args))
+      (LoadPointer (rest (w .args) .0) (operandOf (rest (w .args) .1 .0)))
+      (executions.told (w .result))
+      (lent (exits w))
+  did-load-static :
+      (w : Went load-static-kinds.ps load-static-kinds.r load-static-reads.Asked load-static-reads.Learnt) →
+      Step
+      (lent (w .args))
+      (LoadStatic (rest (w .args) .0) (operandOf (rest (w .args) .1 .0)))
+      (executions.told (w .result))
+      (lent (exits w))
+  did-store-static :
+      (w : Went store-static-kinds.ps store-static-kinds.r store-static-reads.Asked store-static-reads.Learnt) →
+      Step
+      (lent (w .args))
+      (StoreStatic (rest (w .args) .0) (operandOf (rest (w .args) .1 .0)) (value (rest (w .args) .1 .1 .0 .limbs)))
+      (executions.told (w .result))
       (lent (exits w))

@@ -6,13 +6,16 @@ use Prim.Native.Nat.{ℕ}
 use Rattle.outcome.specs.declared.Answer.{Answer}
 use Rattle.outcome.specs.declared.Answer.the-variants.{Done, Refused}
 
--- A call is refused with a number of 01's table, or carried out with an answer.
+-- A call is refused with a number of 01's table, or carried out with an answer. An EraVM panic is no refusal: it is an outcome of an instruction,
+-- which answers too (with its frame), and is not carried out.
 pub data Outcome (A : Type 0) : Type 0 where
   refused : ℕ → Outcome A
+  panicked : A → Outcome A
   done : A → Outcome A
 
 abbrev pub carriedOut : {A : Type 0} → Outcome A → Bool
 carriedOut (refused n) = false
+carriedOut (panicked a) = false
 carriedOut (done a) = true
 
 -- The value beside the first condition that holds, or `otherwise` where none does.

@@ -15,7 +15,7 @@ use Rattle.view.specs.View.{View, Setting, viewOf}
 use Rattle.view.specs.Steps.{touchedCount, count, pairs}
 use Rattle.view.specs.Checks.{openingChecks, lengthsRight}
 use Rattle.view.specs.Does.{Shows, Does}
-use Rattle.view.specs.Calls.{Call, Value, Open, Allocate, ReadWord, ReadPartial, ReadRange, ReadByte, DynamicLength, WriteWord, WriteBytes, Lookup, LookupCheck, Free, Window, Truncate, CompareLeft, CompareRight, CompareBoth, Snapshot, Rollback, DeleteHistory, nothing, sameLengths, outcomeOf, nextOf}
+use Rattle.view.specs.Calls.{Call, Value, Open, Allocate, ReadWord, ReadPartial, ReadRange, ReadByte, DynamicLength, WriteWord, WriteBytes, Lookup, LookupCheck, Free, Window, Truncate, CompareLeft, CompareRight, CompareBoth, Snapshot, Rollback, DeleteHistory, Load, Store, LoadPointer, LoadStatic, StoreStatic, nothing, sameLengths, outcomeOf, nextOf}
 use Rattle.view.proofs.Counts.{pool-pairs, entries-pages}
 use Rattle.plain.specs.Plain.{Plain, follow, feed, seen}
 use Rattle.plain.specs.Claim.{Steps, Contracts, Started, by-opening, Listed, Run, none, more, Kept}
@@ -92,6 +92,11 @@ module _ (S : Steps) (C : Contracts S) where
   does Snapshot x l g = C .calls (λ t d e. never (cc)) x (g .shows)
   does (Rollback heap aux) x l g = C .calls (λ t d e. never (cc)) x (g .shows)
   does DeleteHistory x l g = C .calls (λ t d e. never (cc)) x (g .shows)
+  does (Load area f i) x l g = C .calls (λ t d e. never (cc)) x (g .shows)
+  does (Store area f i n h) x l g = C .calls (λ t d e. never (cc)) x (g .shows)
+  does (LoadPointer f i) x l g = C .calls (λ t d e. never (cc)) x (g .shows)
+  does (LoadStatic f i) x l g = C .calls (λ t d e. never (cc)) x (g .shows)
+  does (StoreStatic f i n) x l g = C .calls (λ t d e. never (cc)) x (g .shows)
 
   -- ---- every call keeps the invariant
   pub keep : {s : Setting} {m m' : Mem} {p : Plain} {c : Call} {o : Outcome Value} → S m c o m' → Listed c o → Good s m p

@@ -2,28 +2,31 @@
 -- Assumes nothing.
 use mathlib.Core.Path.{_≡_, refl, sym, ap, _∙_}
 use mathlib.Core.Logic.{⊎-elim}
-use mathlib.Core.List.{List, []}
+use mathlib.Core.List.{List, [], _∷_, _++_}
 use mathlib.Core.Bool.{Bool, true, false, not, _&&_, _||_, and-false, or-true, or-false, true≢false, false≢true}
 use Prim.Native.Nat.{ℕ, zero, suc, _-_, _/_, _≤_, _<_, zero-le}
 use native.Mathlib.Omega.{arith}
-use lib.Dec.{eqb}
+use lib.Dec.{ltb, eqb}
 use lib.ListN.{length}
 use borrow.Author.Tests.{lt-ltb, le-ltb, le-leb, lt-leb, eq-eqb, ne-eqb, ltb-false, eqb-false}
 use Rattle.index.proofs.Logic.{same-or-not, lt-or-ge}
-use Rattle.outcome.specs.Outcome.{carriedOut}
+use Rattle.outcome.specs.Outcome.{refused, carriedOut}
 use Rattle.word.specs.Value.{wordBytes}
 use Rattle.word.proofs.Digits.{digits-long}
 use Rattle.page_ids.specs.declared.Layout.{Layout}
+use Rattle.state.specs.declared.Frame.{Frame}
+use Rattle.state.specs.declared.Area.{Area}
 use Rattle.page_ids.specs.Decode.{Page, none, page, decoded}
 use Rattle.formed.specs.Pages.{fixedId, isFixed, isDynamic, fixed, dynamic}
 use Rattle.formed.specs.Parts.{Note}
 use Rattle.view.specs.View.{View, Setting}
 use Rattle.view.specs.Steps.{touchedCount, needs, written, count, pairs, without, shortened, opened, fresh as blank}
-use Rattle.view.specs.Checks.{isNone, undecodable, wordWriteChecks, byteWriteChecks, allocateChecks, freeChecks}
-use Rattle.view.specs.Calls.{Call, Open, Allocate, ReadWord, ReadPartial, ReadRange, ReadByte, DynamicLength, WriteWord, WriteBytes, Lookup, LookupCheck, Free, Window, Truncate, CompareLeft, CompareRight, CompareBoth, Snapshot, Rollback, DeleteHistory, nothing, outcomeOf, nextOf}
+use Rattle.view.specs.Checks.{Check, isNone, undecodable, wordWriteChecks, byteWriteChecks, allocateChecks, freeChecks}
+use Rattle.view.specs.Instructions.{Operand, Hook, heapOf, staticOf, hooked, storeChecks, stored, staticStoreChecks, staticStored}
+use Rattle.view.specs.Calls.{Call, Open, Allocate, ReadWord, ReadPartial, ReadRange, ReadByte, DynamicLength, WriteWord, WriteBytes, Lookup, LookupCheck, Free, Window, Truncate, CompareLeft, CompareRight, CompareBoth, Snapshot, Rollback, DeleteHistory, Load, Store, LoadPointer, LoadStatic, StoreStatic, Value, nothing, given, outcomeOf, nextOf}
 use Rattle.view.proofs.Counts.{fixed-only}
-use Rattle.plain.specs.Plain.{Plain, has, member, put, dropping, fromUp, follow, fresh, seen}
-use Rattle.plain.proofs.Tests.{clear}
+use Rattle.plain.specs.Plain.{Plain, has, member, put, putWord, dropping, fromUp, follow, fresh, seen}
+use Rattle.plain.proofs.Tests.{Clear, clear}
 use Rattle.plain.proofs.Held.{has-hold, length-hold, missing-le, has-list, length-list, list-fits}
 use Rattle.plain.proofs.Others.{length-others, has-others, allocated-others, pairs-left, listedDynamic, pages-left}
 
@@ -154,6 +157,21 @@ module _ (s : Setting) (v : View) (p : ℕ) where
   pub free-loose : carriedOut (outcomeOf s (Free p) v) ≡ true → (q : ℕ) → fixed (s .layout) q ≡ true → eqb q p ≡ false
   free-loose e q f = ne-eqb q p (λ z. true≢false (sym f ∙ ap (fixed (s .layout)) z ∙ clear (freeChecks s v p) nothing e .1 .0))
 
+-- a store that is carried out has passed the checks of a word write
+module _ (s : Setting) (v : View) where
+  write-clear : (p a : ℕ) (rest : List (Check Value)) → Clear (wordWriteChecks s v p a ++ rest) → Written s v p a 32
+  write-clear p a rest c = record { known = c .0; room = ltb-false (v .pool) (needs v p a 32) (c .1 .1 .0); entry = entry-left (v .allocated p) (v .entries) (c .1 .0) }
+
+  store-passed : (area : Area) (f : Frame) (x : Operand) (n : ℕ) (h : Hook) → carriedOut (outcomeOf s (Store area f x n h) v) ≡ true → Written s v (heapOf f area) (x .word) 32
+  store-passed area f x n h e =
+      let c = clear (storeChecks given s v area f (x .word) n h) (given (stored area f x n h)) e in
+      write-clear (heapOf f area) (x .word) ((hooked h (x .word) && ltb 4294967295 n, refused 15) ∷ []) (c .1 .1)
+
+  static-passed : (f : Frame) (x : Operand) (n : ℕ) → carriedOut (outcomeOf s (StoreStatic f x n) v) ≡ true → Written s v (staticOf (s .layout)) (x .word) 32
+  static-passed f x n e =
+      let c = clear (staticStoreChecks given s v f (x .word)) (given (staticStored f x)) e in
+      write-clear (staticOf (s .layout)) (x .word) [] (c .1)
+
 -- a window and a truncation name dynamic pages alone
 pub window-loose : (l : Layout) (p q : ℕ) (b : Bool) → fixed l q ≡ true → ((eqb q p && dynamic l p) && b) ≡ false
 window-loose l p q b f =
@@ -188,6 +206,14 @@ module _ (s : Setting) (m : Plain) where
   seen-follow Snapshot e k = refl
   seen-follow (Rollback heap aux) e k = refl
   seen-follow DeleteHistory e k = refl
+  seen-follow (Load area f x) e k = refl
+  seen-follow (Store area f x n h) e k = seen-put s (heapOf f area) (x .word) (wordBytes n) _ m (store-passed s (seen s m) area f x n h e .known)
+  seen-follow (LoadPointer f x) e k = refl
+  seen-follow (LoadStatic f x) e k = refl
+  seen-follow (StoreStatic f x n) e k = seen-put s (staticOf (s .layout)) (x .word) (wordBytes n) _ m (static-passed s (seen s m) f x n e .known)
+
+  fits-word : (p a n : ℕ) → Written s (seen s m) p a 32 → Fits s m → Fits s (putWord (s .layout) p a n m)
+  fits-word p a n w f = fits-put s p a (wordBytes n) _ m f (w .known) (rw (digits-long 32 n) (w .room)) (w .entry)
 
   pub fits-follow : (c : Call) → carriedOut (outcomeOf s c (seen s m)) ≡ true → Fits s m → Fits s (follow (s .layout) c m)
   fits-follow (Open t calldata) e f = f
@@ -197,9 +223,7 @@ module _ (s : Setting) (m : Plain) where
   fits-follow (ReadRange p x y n) e f = f
   fits-follow (ReadByte p a) e f = f
   fits-follow DynamicLength e f = f
-  fits-follow (WriteWord p a n) e f =
-      let w = word-passed s (seen s m) p a n e in
-      fits-put s p a (wordBytes n) _ m f (w .known) (rw (digits-long 32 n) (w .room)) (w .entry)
+  fits-follow (WriteWord p a n) e f = fits-word p a n (word-passed s (seen s m) p a n e) f
   fits-follow (WriteBytes p a bs) e f = let w = bytes-passed s (seen s m) p a bs e in fits-put s p a bs _ m f (w .known) (w .room) (w .entry)
   fits-follow (Lookup p k z) e f = f
   fits-follow (LookupCheck p k z) e f = f
@@ -212,6 +236,11 @@ module _ (s : Setting) (m : Plain) where
   fits-follow Snapshot e f = f
   fits-follow (Rollback heap aux) e f = record { chunks = f .chunks; pages = f .pages }
   fits-follow DeleteHistory e f = record { chunks = f .chunks; pages = f .pages }
+  fits-follow (Load area g x) e f = f
+  fits-follow (Store area g x n h) e f = fits-word (heapOf g area) (x .word) n (store-passed s (seen s m) area g x n h e) f
+  fits-follow (LoadPointer g x) e f = f
+  fits-follow (LoadStatic g x) e f = f
+  fits-follow (StoreStatic g x n) e f = fits-word (staticOf (s .layout)) (x .word) n (static-passed s (seen s m) g x n e) f
 
 -- ---- an opening: it puts calldata on an empty map
 abbrev empty : Plain

@@ -20,8 +20,9 @@ use Rattle.formed.specs.Pages.{LayoutRule, fixed, journalCount, journalPlace, j
 use Rattle.formed.specs.Parts.{Note, tab}
 use Rattle.view.specs.View.{Setting}
 use Rattle.view.specs.Steps.{over, touches, undone, rolledBytes, marks, alignedCount}
-use Rattle.view.specs.Calls.{Call, Value, Open, Allocate, ReadWord, ReadPartial, ReadRange, ReadByte, DynamicLength, WriteWord, WriteBytes, Lookup, LookupCheck, Free, Window, Truncate, CompareLeft, CompareRight, CompareBoth, Snapshot, Rollback, DeleteHistory, outcomeOf}
-use Rattle.plain.specs.Plain.{Plain, put, dropping, follow, seen}
+use Rattle.view.specs.Instructions.{heapOf, staticOf}
+use Rattle.view.specs.Calls.{Call, Value, Open, Allocate, ReadWord, ReadPartial, ReadRange, ReadByte, DynamicLength, WriteWord, WriteBytes, Lookup, LookupCheck, Free, Window, Truncate, CompareLeft, CompareRight, CompareBoth, Snapshot, Rollback, DeleteHistory, Load, Store, LoadPointer, LoadStatic, StoreStatic, outcomeOf}
+use Rattle.plain.specs.Plain.{Plain, put, putWord, dropping, follow, seen}
 use Rattle.plain.specs.Claim.{Keeps}
 use Rattle.plain.proofs.Undone.{over-page, undone-at, undone-append, undone-write, word-covered, aligned-covered, rolled-own, drop-cut}
 use Rattle.plain.proofs.Seen.{fixed-id, allocate-dynamic, free-loose, window-loose, truncate-loose}
@@ -139,6 +140,11 @@ marks-le x y x' y' h k (suc j) l = k
 
 -- ---- each call that is carried out
 module _ (s : Setting) (r : LayoutRule (s .layout)) (heap aux : ℕ) (f : ℕ → ℕ → ℕ) (p : Plain) (o : Outcome Value) (t : carriedOut o ≡ true) where
+  since-word : (q a n : ℕ) → Since (s .layout) (marks heap aux) f p → Since (s .layout) (marks heap aux) f (putWord (s .layout) q a n p)
+  since-word q a n h =
+      since-put (s .layout) r (marks heap aux) f q a (wordBytes n) _ p h
+      (λ j w. unfold tab in undone-write q (p .bytes) a (wordBytes n) 1 (λ i. a) (word-covered a (length (wordBytes n)) (digits-long 32 n)))
+
   pub since-follow : (c : Call) → carriedOut (outcomeOf s c (seen s p)) ≡ true → Keeps heap aux c o → Since (s .layout) (marks heap aux) f p
       → Since (s .layout) (marks heap aux) f (follow (s .layout) c p)
   since-follow (Open u calldata) e k h = h
@@ -151,9 +157,7 @@ module _ (s : Setting) (r : LayoutRule (s .layout)) (heap aux : ℕ) (f : ℕ �
   since-follow (ReadRange q x y n) e k h = h
   since-follow (ReadByte q a) e k h = h
   since-follow DynamicLength e k h = h
-  since-follow (WriteWord q a n) e k h =
-      since-put (s .layout) r (marks heap aux) f q a (wordBytes n) _ p h
-      (λ j w. unfold tab in undone-write q (p .bytes) a (wordBytes n) 1 (λ i. a) (word-covered a (length (wordBytes n)) (digits-long 32 n)))
+  since-follow (WriteWord q a n) e k h = since-word q a n h
   since-follow (WriteBytes q a bs) e k h =
       since-put (s .layout) r (marks heap aux) f q a bs _ p h
       (λ j w. undone-write q (p .bytes) a bs (alignedCount a (length bs)) (λ i. 32 * (a / 32 + i)) (aligned-covered a (length bs)))
@@ -171,3 +175,8 @@ module _ (s : Setting) (r : LayoutRule (s .layout)) (heap aux : ℕ) (f : ℕ �
       let u = k .1 x y refl t in
       since-back (s .layout) r (marks heap aux) f x y p h (marks-le heap aux x y (u .0) (u .1))
   since-follow DeleteHistory e k h = absurd (true≢false (sym t ∙ k .0 refl))
+  since-follow (Load area g x) e k h = h
+  since-follow (Store area g x n z) e k h = since-word (heapOf g area) (x .word) n h
+  since-follow (LoadPointer g x) e k h = h
+  since-follow (LoadStatic g x) e k h = h
+  since-follow (StoreStatic g x n) e k h = since-word (staticOf (s .layout)) (x .word) n h

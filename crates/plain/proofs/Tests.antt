@@ -9,7 +9,7 @@ use native.Mathlib.Omega.{arith}
 use lib.Dec.{leb, ltb, eqb}
 use borrow.Author.Tests.{lt-ltb, le-ltb, le-leb, lt-leb, eq-eqb, ne-eqb}
 use Rattle.index.proofs.Logic.{same-or-not, lt-or-ge}
-use Rattle.outcome.specs.Outcome.{Outcome, refused, done, carriedOut, firstOf}
+use Rattle.outcome.specs.Outcome.{Outcome, refused, panicked, done, carriedOut, firstOf}
 
 -- a test that follows adds nothing
 pub or-absorb : (x h : Bool) → (x ≡ true → h ≡ true) → h ≡ x || h
@@ -45,10 +45,13 @@ range-more t k n j = ap (λ (b : Bool). t && b) last ∙ and-or-distrib-left t (
 abbrev pub Clear : {A : Type 0} → List (Bool × Outcome A) → Type 0
 Clear [] = Unit {0}
 Clear ((b, refused n) ∷ rest) = (b ≡ false) × Clear rest
+Clear ((b, panicked a) ∷ rest) = (b ≡ false) × Clear rest
 Clear ((b, done a) ∷ rest) = Unit {0}
 
 pub clear : {A : Type 0} (checks : List (Bool × Outcome A)) (a : A) → carriedOut (firstOf checks (done a)) ≡ true → Clear checks
 clear [] a e = tt
 clear ((true, refused n) ∷ rest) a e = absurd (false≢true e)
 clear ((false, refused n) ∷ rest) a e = (refl, clear rest a e)
+clear ((true, panicked x) ∷ rest) a e = absurd (false≢true e)
+clear ((false, panicked x) ∷ rest) a e = (refl, clear rest a e)
 clear ((b, done x) ∷ rest) a e = tt

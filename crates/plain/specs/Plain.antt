@@ -12,7 +12,8 @@ use Rattle.formed.specs.Parts.{Note, tab}
 use Rattle.page_ids.specs.declared.Layout.{Layout}
 use Rattle.view.specs.View.{View, Setting}
 use Rattle.view.specs.Steps.{max, over, touchedCount, touches, alignedCount, journalled, rolledBytes, marks}
-use Rattle.view.specs.Calls.{Call, Value, Open, Allocate, ReadWord, ReadPartial, ReadRange, ReadByte, DynamicLength, WriteWord, WriteBytes, Lookup, LookupCheck, Free, Window, Truncate, CompareLeft, CompareRight, CompareBoth, Snapshot, Rollback, DeleteHistory}
+use Rattle.view.specs.Instructions.{heapOf, staticOf}
+use Rattle.view.specs.Calls.{Call, Value, Open, Allocate, ReadWord, ReadPartial, ReadRange, ReadByte, DynamicLength, WriteWord, WriteBytes, Lookup, LookupCheck, Free, Window, Truncate, CompareLeft, CompareRight, CompareBoth, Snapshot, Rollback, DeleteHistory, Load, Store, LoadPointer, LoadStatic, StoreStatic}
 
 -- it keeps a byte for each page and address, the held pairs of page and chunk number, the two journals with old words from its own bytes,
 -- and, by the rules of Pages, the allocated dynamic pages and the dynamic length
@@ -61,6 +62,10 @@ put l p a bs notes m = record {
 abbrev pub noteOf : Plain → ℕ → ℕ → Note
 noteOf m p a = record { address = a; old = tab 32 (λ i. m .bytes p (a + i)) }
 
+-- a word write journals it
+abbrev pub putWord : Layout → ℕ → ℕ → ℕ → Plain → Plain
+putWord l p a n m = put l p a (wordBytes n) (noteOf m p a ∷ []) m
+
 -- a chunk that `dropped` names is zero and no longer held, a page that `free` names no longer allocated; the dynamic length becomes n
 abbrev pub dropping : (ℕ → ℕ → Bool) → (ℕ → Bool) → ℕ → Plain → Plain
 dropping dropped free n m = record {
@@ -83,7 +88,7 @@ follow l (ReadPartial p x y) m = m
 follow l (ReadRange p x y n) m = m
 follow l (ReadByte p a) m = m
 follow l DynamicLength m = m
-follow l (WriteWord p a n) m = put l p a (wordBytes n) (noteOf m p a ∷ []) m
+follow l (WriteWord p a n) m = putWord l p a n m
 follow l (WriteBytes p a bs) m = put l p a bs (tab (alignedCount a (length bs)) (λ i. noteOf m p (32 * (a / 32 + i)))) m
 follow l (Lookup p k z) m = m
 follow l (LookupCheck p k z) m = m
@@ -103,8 +108,14 @@ follow l (Rollback heap aux) m = record {
   journal = λ j. take (marks heap aux j) (m .journal j);
 }
 follow l DeleteHistory m = record { bytes = m .bytes; held = m .held; pages = m .pages; dynamicLength = m .dynamicLength; journal = λ j. [] }
+follow l (Load area f x) m = m
+-- stores are word writes
+follow l (Store area f x n h) m = putWord l (heapOf f area) (x .word) n m
+follow l (LoadPointer f x) m = m
+follow l (LoadStatic f x) m = m
+follow l (StoreStatic f x n) m = putWord l (staticOf l) (x .word) n m
 
--- a refused call is no step
+-- a refused or panicking call is no step
 abbrev pub feed : Layout → Call → Outcome Value → Plain → Plain
 feed l c o m = cond (carriedOut o) (follow l c m) m
 

@@ -19,9 +19,9 @@ use Rattle.formed.specs.Pages.{journalCount}
 use Rattle.formed.specs.Parts.{journal}
 use Rattle.formed.proofs.Meaning.{well-formed-means}
 use Rattle.view.specs.View.{View, viewOf}
-use Rattle.view.specs.Steps.{run}
+use Rattle.view.specs.Steps.{run, padded}
 use Rattle.view.specs.Checks.{Check, onMemory, partialChecks, rangeChecks, lookupChecks}
-use Rattle.view.specs.Calls.{padded, shown}
+use Rattle.view.specs.Calls.{shown}
 use Rattle.reads.specs.Calls.{ReadDoes, RangeDoes}
 use Rattle.reads.proofs.Tabs.{length-tab}
 

@@ -12,9 +12,9 @@ use Rattle.store.specs.Mem.{Mem}
 use Rattle.formed.specs.Formed.{zeros, wellFormed}
 use Rattle.formed.proofs.Meaning.{well-formed-means}
 use Rattle.view.specs.View.{settingOf, viewOf}
-use Rattle.view.specs.Steps.{run}
+use Rattle.view.specs.Steps.{run, padded}
 use Rattle.view.specs.Checks.{onMemory, partialChecks, rangeChecks, lookupChecks}
-use Rattle.view.specs.Calls.{Call, Value, ReadWord, ReadPartial, ReadRange, ReadByte, DynamicLength, Lookup, LookupCheck, Snapshot, nothing, number, bytes, padded, shown, outcomeOf, nextOf, answerOf, CallDoes}
+use Rattle.view.specs.Calls.{Call, Value, ReadWord, ReadPartial, ReadRange, ReadByte, DynamicLength, Lookup, LookupCheck, Snapshot, nothing, number, bytes, shown, outcomeOf, nextOf, answerOf, CallDoes}
 use Rattle.reads.specs.Calls.{valued, marked, RangeDoes}
 
 module _ {A : Type 0} (f : A → Value) (m : Mem) (a : A) where
@@ -64,13 +64,13 @@ module _ (m : Mem) where
           → CallDoes m (ReadRange p x y (length l)) (valued (λ _. bytes d) t) m
       range-call l d t r =
           only-reads m (ReadRange p x y (length l)) (valued (λ _. bytes d) t) refl
-          (ap (valued (λ _. bytes d)) (r .answer)
-          ∙ go (onMemory m (rangeChecks x y (length l)) tt) (r .read)
-          ∙ valued-check (λ _. bytes (run (viewOf m) p x (y - x))) m tt (not (eqb (length l) (y - x))) 8)
+          (ap (valued (λ _. bytes d)) (r .answer) ∙ go (wellFormed m) (not (eqb (length l) (y - x))) (r .read))
         where
-          go : (o : Outcome (Unit {0})) → (carriedOut o ≡ true → d ≡ run (viewOf m) p x (y - x)) → valued (λ _. bytes d) o ≡ valued (λ _. bytes (run (viewOf m) p x (y - x))) o
-          go (refused n) h = refl
-          go (done u) h = ap (λ (b : List ℕ). done (bytes b)) (h refl)
+          go : (b c : Bool) → (carriedOut {A = Unit {0}} (cond (not b) (refused 3) (cond c (refused 8) (done tt))) ≡ true → d ≡ run (viewOf m) p x (y - x))
+              → valued (λ _. bytes d) (cond {A = Outcome (Unit {0})} (not b) (refused 3) (cond c (refused 8) (done tt))) ≡ cond (not b) (refused 3) (cond c (refused 8) (done (bytes (run (viewOf m) p x (y - x)))))
+          go true true h = refl
+          go true false h = ap (λ (b : List ℕ). done (bytes b)) (h refl)
+          go false c h = refl
 
     -- on a well-formed memory the part shown is the value
     module _ (k : ℕ) (z : List ℕ) where

@@ -4,7 +4,7 @@ use mathlib.Core.Path.{_≡_}
 use mathlib.Core.Bool.{true, false}
 use mathlib.Core.List.{List}
 use Prim.Native.Nat.{ℕ, zero, suc}
-use Rattle.outcome.specs.Outcome.{Outcome, refused, done, carriedOut}
+use Rattle.outcome.specs.Outcome.{Outcome, refused, panicked, done, carriedOut}
 use Rattle.word.specs.Value.{value}
 use Rattle.view.specs.Calls.{Value, lengths}
 use Rattle.reads.specs.declared.WordRead.{WordRead}
@@ -45,6 +45,7 @@ pub record RangeDoes {A : Type 0} (outcome told : Outcome A) (bytes o d : List �
 -- ---- the same outcomes among those of all calls, where a value is one of `Value`
 abbrev pub valued : {A : Type 0} → (A → Value) → Outcome A → Outcome Value
 valued f (refused n) = refused n
+valued f (panicked a) = panicked (f a)
 valued f (done a) = done (f a)
 
 abbrev pub marked : ℕ × ℕ → Value

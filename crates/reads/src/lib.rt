@@ -17,9 +17,9 @@ ghost use Rattle.store.specs.Hold.{Indexed};
 ghost use Rattle.formed.specs.Formed.{zeros, wellFormed};
 ghost use Rattle.formed.specs.WellFormed.{WellFormed};
 ghost use Rattle.view.specs.View.{viewOf};
-ghost use Rattle.view.specs.Steps.{run};
+ghost use Rattle.view.specs.Steps.{run, padded};
 ghost use Rattle.view.specs.Checks.{onMemory, partialChecks, rangeChecks, lookupChecks};
-ghost use Rattle.view.specs.Calls.{padded, shown};
+ghost use Rattle.view.specs.Calls.{shown};
 ghost use Rattle.reads.specs.Calls.{answered, told, toldByte, toldLength, toldMarks, ReadDoes, RangeDoes};
 ghost use Rattle.reads.specs.Reading.{slotOf, byteOf, Put};
 
@@ -182,7 +182,7 @@ pub fn chunk_of<'a>(
 }
 
 // The n bytes from `start` on, and zeros after them.
-fn read_padded(
+pub fn read_padded(
     bytes: &[u8],
     keys: &[u64],
     order: &[u32],

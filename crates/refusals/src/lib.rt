@@ -19,7 +19,7 @@ pub fn decode(bytes: &[u8], keys: &[u64], order: &[u32], words: &[u64], page: u3
 }
 
 // A word write to a well-formed memory.
-fn word_room(
+pub fn word_room(
     bytes: &[u8],
     keys: &[u64],
     order: &[u32],

@@ -6,7 +6,7 @@ use mathlib.Core.List.{List, [], _∷_}
 use Prim.Native.Nat.{ℕ, suc}
 use native.Mathlib.Omega.{arith}
 use lib.Dec.{ltb, eqb}
-use Rattle.outcome.specs.Outcome.{Outcome, refused, done}
+use Rattle.outcome.specs.Outcome.{Outcome, refused, panicked, done}
 use Rattle.formed.specs.Pages.{journalCount}
 use Rattle.view.specs.View.{View, Setting}
 use Rattle.view.specs.Steps.{missing}
@@ -26,9 +26,10 @@ pub none-first : (b : Bool) (n : ℕ) (rest : List (Check Value)) → number ((b
 none-first true n rest e = absurd (omega arith)
 none-first false n rest e = (refl, e)
 
--- an outcome that is not carried out is told by its number
+-- a refusal is told by its number
 pub told-number : (o : Outcome Value) (n : ℕ) → n ≡ numberOf o → (n ≡ 0 → ⊥) → refused n ≡ o
 told-number (refused m) n e z = ap refused e
+told-number (panicked v) n e z = absurd (z e)
 told-number (done v) n e z = absurd (z e)
 
 -- ---- 9, 10, 11

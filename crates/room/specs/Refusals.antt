@@ -7,7 +7,7 @@ use lib.Dec.{eqb, ltb, leb}
 use lib.ListN.{take}
 use Rattle.index.specs.Index.{seek}
 use Rattle.store.specs.Mem.{slotCount}
-use Rattle.outcome.specs.Outcome.{Outcome, refused, done, firstOf}
+use Rattle.outcome.specs.Outcome.{Outcome, refused, panicked, done, firstOf}
 use Rattle.formed.specs.Pages.{journalCount}
 use Rattle.formed.specs.Parts.{keyOf}
 use Rattle.view.specs.View.{View, Setting}
@@ -15,9 +15,10 @@ use Rattle.view.specs.Steps.{missing}
 use Rattle.view.specs.Checks.{Check, overfull}
 use Rattle.view.specs.Calls.{Value, nothing}
 
--- a refusal's number, 0 where the call is carried out
+-- a refusal's number, 0 where the call is not refused
 abbrev pub numberOf : Outcome Value → ℕ
 numberOf (refused n) = n
+numberOf (panicked value) = 0
 numberOf (done value) = 0
 
 abbrev pub number : List (Check Value) → ℕ

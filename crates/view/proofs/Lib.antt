@@ -5,3 +5,4 @@ pub mod Counting
 pub mod Counts
 pub mod Dropping
 pub mod Reading
+pub mod Order

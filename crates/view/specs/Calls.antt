@@ -1,20 +1,23 @@
 -- The calls, with their arguments and without the lent memory; what each answers, what it does to the view, and the contract that all of them share.
 -- Assumes nothing.
 use mathlib.Core.Bool.{Bool, cond, not, _&&_}
-use mathlib.Core.List.{List, [], _∷_, _++_}
+use mathlib.Core.List.{List, [], _∷_}
 use Prim.Native.Nat.{ℕ, _*_, _-_}
 use lib.Dec.{eqb}
-use lib.ListN.{length, replicate}
+use lib.ListN.{length}
 use Rattle.outcome.specs.Outcome.{Outcome, refused, done, firstOf}
 use Rattle.word.specs.Value.{bigEndian, wordBytes}
 use Rattle.outcome.specs.declared.Answer.{Answer}
 use Rattle.outcome.specs.declared.Answer.the-variants.{Done, Refused}
+use Rattle.state.specs.declared.Frame.{Frame}
+use Rattle.state.specs.declared.Area.{Area}
 use Rattle.store.specs.Mem.{Mem, layoutOf}
 use Rattle.formed.specs.Formed.{zeros, wellFormed}
 use Rattle.view.specs.View.{View, Setting, settingOf, viewOf}
-use Rattle.view.specs.Steps.{run, wordWritten, bytesWritten, contentsAllocated, freed, windowed, truncated, alike, marks, rolledBack, forgotten, opened}
+use Rattle.view.specs.Steps.{run, padded, wordWritten, bytesWritten, contentsAllocated, freed, windowed, truncated, alike, marks, rolledBack, forgotten, opened}
 use Rattle.view.specs.Does.{Does}
 use Rattle.view.specs.Checks.{wordWriteChecks, byteWriteChecks, allocateChecks, partialChecks, rangeChecks, lookupChecks, freeChecks, truncateChecks, compareChecks, rollbackChecks, openingChecks, lengthsRight, bytesLength, keysLength, orderLength, wordsLength}
+use Rattle.view.specs.Instructions.{Operand, Hook, Given, heapOf, staticOf, accessChecks, loaded, storeChecks, stored, pointerChecks, pointed, staticChecks, staticLoaded, staticStoreChecks, staticStored}
 
 pub data Call : Type 0 where
   -- an opening with this setting and calldata
@@ -48,9 +51,17 @@ pub data Call : Type 0 where
   Snapshot : Call
   Rollback : ℕ → ℕ → Call
   DeleteHistory : Call
+  -- the instructions: of an area, a frame and an operand; a store also of a word's number, and of the hook
+  Load : Area → Frame → Operand → Call
+  Store : Area → Frame → Operand → ℕ → Hook → Call
+  LoadPointer : Frame → Operand → Call
+  LoadStatic : Frame → Operand → Call
+  StoreStatic : Frame → Operand → ℕ → Call
 
 pub data Value : Type 0 where
   nothing : Value
+  -- by an instruction
+  given : Given → Value
   number : ℕ → Value
   lengths : ℕ → ℕ → Value
   bytes : List ℕ → Value
@@ -60,10 +71,6 @@ pub data Value : Type 0 where
 abbrev pub sameLengths : Setting → Setting → Bool
 sameLengths s t =
     eqb (bytesLength t) (bytesLength s) && (eqb (keysLength t) (keysLength s) && (eqb (orderLength t) (orderLength s) && eqb (wordsLength t) (wordsLength s)))
-
--- bytes lead the word; zeros follow
-abbrev pub padded : List ℕ → List ℕ
-padded bs = bs ++ replicate (32 - length bs) 0
 
 -- a refused lookup shows an empty part
 abbrev pub shown : View → ℕ → ℕ → List ℕ → List ℕ
@@ -91,6 +98,11 @@ outcomeOf s CompareBoth v = done (verdict (alike v v))
 outcomeOf s Snapshot v = done (lengths (length (v .journal 0)) (length (v .journal 1)))
 outcomeOf s (Rollback heap aux) v = firstOf (rollbackChecks v heap aux) (done nothing)
 outcomeOf s DeleteHistory v = done nothing
+outcomeOf s (Load area f x) v = firstOf (accessChecks given area f (x .word)) (done (given (loaded v area f x)))
+outcomeOf s (Store area f x n h) v = firstOf (storeChecks given s v area f (x .word) n h) (done (given (stored area f x n h)))
+outcomeOf s (LoadPointer f x) v = firstOf (pointerChecks given f x) (done (given (pointed v f x)))
+outcomeOf s (LoadStatic f x) v = firstOf (staticChecks given f (x .word)) (done (given (staticLoaded s v f x)))
+outcomeOf s (StoreStatic f x n) v = firstOf (staticStoreChecks given s v f (x .word)) (done (given (staticStored f x)))
 
 -- WHAT IT DOES to the view where it is carried out (an accepted opening starts a list and stands in none)
 abbrev pub nextOf : Setting → Call → View → View
@@ -114,6 +126,11 @@ nextOf s CompareBoth v = v
 nextOf s Snapshot v = v
 nextOf s (Rollback heap aux) v = rolledBack (s .layout) (marks heap aux) v
 nextOf s DeleteHistory v = forgotten v
+nextOf s (Load area f x) v = v
+nextOf s (Store area f x n h) v = wordWritten (s .layout) (heapOf f area) (x .word) (wordBytes n) v
+nextOf s (LoadPointer f x) v = v
+nextOf s (LoadStatic f x) v = v
+nextOf s (StoreStatic f x n) v = wordWritten (s .layout) (staticOf (s .layout)) (x .word) (wordBytes n) v
 
 -- ---- THE CONTRACT
 -- 3 is tested first by every call that is lent a memory

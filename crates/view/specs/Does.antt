@@ -15,7 +15,7 @@ pub record Shows (s : Setting) (v : View) (m : Mem) : Type 0 where
   pub view : viewOf m ≡ v
 
 -- a call on the buffers m has the outcome `told`, which is that of the definition, and leaves the buffers m': all of them as they were
--- where it is refused, and a well-formed memory of the setting s and the view v where it is carried out
+-- where it is refused or panics, and a well-formed memory of the setting s and the view v where it is carried out
 pub record Does {A : Type 0} (m : Mem) (outcome : Outcome A) (s : Setting) (v : View) (told : Outcome A) (m' : Mem) : Type 0 where
   pub answer : told ≡ outcome
   pub kept : carriedOut outcome ≡ false → m' ≡ m

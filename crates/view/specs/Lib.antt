@@ -4,5 +4,6 @@ pub mod View
 pub mod Steps
 pub mod Checks
 pub mod Does
+pub mod Instructions
 pub mod Calls
 pub mod Inner

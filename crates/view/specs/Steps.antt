@@ -4,7 +4,7 @@ use mathlib.Core.Bool.{Bool, false, cond, not, _&&_, _||_}
 use mathlib.Core.List.{List, [], _∷_, _++_}
 use Prim.Native.Nat.{ℕ, zero, suc, _+_, _*_, _-_, _/_, _%_}
 use lib.Dec.{ltb, leb, eqb}
-use lib.ListN.{length, getD, take, drop}
+use lib.ListN.{length, getD, take, drop, replicate}
 use Rattle.index.specs.Index.{all}
 use Rattle.formed.specs.Pages.{fixed, dynamic, group, journalCount, journalPage}
 use Rattle.formed.specs.Parts.{Note, tab}
@@ -14,10 +14,17 @@ use Rattle.view.specs.View.{View, Setting}
 abbrev pub max : ℕ → ℕ → ℕ
 max a b = cond (leb a b) b a
 
+abbrev pub min : ℕ → ℕ → ℕ
+min a b = cond (leb a b) a b
+
 -- ---- reading
 -- the n bytes from address a of a page on
 abbrev pub run : View → ℕ → ℕ → ℕ → List ℕ
 run v p a n = tab n (λ i. v .bytes p (a + i))
+
+-- bytes lead the word; zeros follow
+abbrev pub padded : List ℕ → List ℕ
+padded bs = bs ++ replicate (32 - length bs) 0
 
 -- ---- ranges: n bytes from address a on touch the chunks from a / 256 to (a + n - 1) / 256, none where n is 0
 abbrev pub touchedCount : ℕ → ℕ → ℕ

@@ -8,7 +8,7 @@ use page_ids::Address;
 use page_ids::PageId;
 use word::Word;
 
-mod steps;
+pub mod steps;
 
 // Writes a word at any address; a bootloader page journals the old word first.
 pub fn write_u256(

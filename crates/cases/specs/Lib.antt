@@ -1,0 +1,2 @@
+-- The table of 01's worked cases.
+pub mod Cases

@@ -1,0 +1,21 @@
+use mathlib.Core.Path.{refl}
+use Rattle.instructions.proofs.Pieces.{carried-alone}
+use borrow.Author.Needs.{needs}
+use Rattle.instructions.proofs.parts.alone.Statement.{statement}
+use Rattle.instructions.proofs.parts.alone.Tie as tie
+
+no-word-requires : tie.Need-no-word-requires
+no-word-requires c κs = search needs
+
+no-word-requires-2 : tie.Need-no-word-requires-2
+no-word-requires-2 c κs = search needs
+
+returns : tie.Need-returns
+returns c =
+    let at-no-word2 = c in
+    let at-no-word = at-no-word2 .before in
+    let start = at-no-word .before in
+    (refl, carried-alone (start .args .status) (start .args .frame) _ _ (at-no-word2 .no-word2 .ensures) (at-no-word .no-word .ensures))
+
+pub alone-spec : {M : Type 1} → statement M
+alone-spec = tie.close (tie.spec no-word-requires no-word-requires-2 returns)

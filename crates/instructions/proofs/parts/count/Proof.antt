@@ -1,0 +1,27 @@
+use Prim.Native.Nat.{_-_}
+use native.Mathlib.Omega.{arith}
+use Rattle.instructions.proofs.Pieces.{min-left, min-right}
+use borrow.Author.Needs.{needs}
+use Rattle.instructions.proofs.parts.count.Statement.{statement}
+use Rattle.instructions.proofs.parts.count.Tie as tie
+
+sub-left : tie.Need-sub-left
+sub-left c = search needs
+
+cast-result : tie.Need-cast-result
+cast-result c = search needs
+
+returns : tie.Need-returns
+returns c =
+    let at-if1 = c in
+    let start = at-if1 .before in
+    min-right 32 (start .args .end - start .args .start) (omega (arith, at-if1 .if1 .taken))
+
+returns-2 : tie.Need-returns-2
+returns-2 c =
+    let at-if1 = c in
+    let start = at-if1 .before in
+    min-left 32 (start .args .end - start .args .start) (omega (arith, at-if1 .if1 .left))
+
+pub count-spec : {M : Type 1} → statement M
+count-spec = tie.close (tie.spec sub-left cast-result returns returns-2)

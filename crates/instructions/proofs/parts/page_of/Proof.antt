@@ -1,0 +1,27 @@
+use mathlib.Core.Path.{sym, ap}
+use Rattle.state.specs.declared.Area.{Area}
+use Rattle.view.specs.Instructions.{heapOf}
+use borrow.Author.Needs.{needs}
+use Rattle.instructions.proofs.parts.page_of.Statement.{statement}
+use Rattle.instructions.proofs.parts.page_of.Tie as tie
+
+enum-told : tie.Need-enum-told
+enum-told c = search needs
+
+enum-told-2 : tie.Need-enum-told-2
+enum-told-2 c = search needs
+
+returns : tie.Need-returns
+returns c =
+    let at-enum-told = c in
+    let start = at-enum-told .before .before in
+    sym (ap (λ (area : Area). heapOf (start .args .frame) area) (at-enum-told .enum-told .given .1))
+
+returns-2 : tie.Need-returns-2
+returns-2 c =
+    let at-enum-told2 = c in
+    let start = at-enum-told2 .before .before in
+    sym (ap (λ (area : Area). heapOf (start .args .frame) area) (at-enum-told2 .enum-told2 .given .1))
+
+pub page-of-spec : {M : Type 1} → statement M
+page-of-spec = tie.close (tie.spec enum-told enum-told-2 returns returns-2)

@@ -1,0 +1,32 @@
+use mathlib.Core.Path.{sym, _∙_}
+use Rattle.word.specs.Value.{value}
+use Rattle.view.specs.Instructions.{hooked}
+use Rattle.instructions.specs.Executions.{hookOf}
+use Rattle.instructions.proofs.Pieces.{stop-hit, stop-missed}
+use borrow.Author.Needs.{needs}
+use Rattle.instructions.proofs.parts.stop_of.Statement.{statement}
+use Rattle.instructions.proofs.parts.stop_of.Tie as tie
+
+hits-requires : tie.Need-hits-requires
+hits-requires c κs = search needs
+
+low-u32-requires : tie.Need-low-u32-requires
+low-u32-requires c κs = search needs
+
+returns : tie.Need-returns
+returns c =
+    let at-low-u32 = c in
+    let at-if1 = at-low-u32 .before in
+    let at-hits = at-if1 .before in
+    let start = at-hits .before in
+    stop-hit (hooked (hookOf (start .args .hook)) (start .args .address)) (value (start .args .word .limbs)) (sym (at-hits .hits .ensures) ∙ at-if1 .if1 .taken) (at-low-u32 .low-u32 .result) (at-low-u32 .low-u32 .ensures)
+
+returns-2 : tie.Need-returns-2
+returns-2 c =
+    let at-if1 = c in
+    let at-hits = at-if1 .before in
+    let start = at-hits .before in
+    stop-missed (hooked (hookOf (start .args .hook)) (start .args .address)) (value (start .args .word .limbs)) (sym (at-hits .hits .ensures) ∙ at-if1 .if1 .left)
+
+pub stop-of-spec : {M : Type 1} → statement M
+stop-of-spec = tie.close (tie.spec hits-requires low-u32-requires returns returns-2)

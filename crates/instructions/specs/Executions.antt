@@ -1,0 +1,63 @@
+-- What the operands and answers of the instructions mean, and their contract.
+-- Assumes nothing.
+use mathlib.Core.Path.{_≡_}
+use mathlib.Core.Bool.{Bool, false, cond}
+use Prim.Native.Nat.{ℕ}
+use lib.Dec.{ltb}
+use Rattle.outcome.specs.Outcome.{Outcome, refused, panicked, done}
+use Rattle.word.specs.Value.{value, lastAddress}
+use Rattle.state.specs.declared.Frame.{Frame}
+use Rattle.state.specs.declared.Area.{Area}
+use Rattle.state.specs.declared.Step.{Step}
+use Rattle.state.specs.Access.{newBound, accessed}
+use Rattle.store.specs.Mem.{Mem}
+use Rattle.view.specs.Instructions as view
+use Rattle.view.specs.Instructions.{Given, Stop, running, onHook, emptied, frameAlone}
+use Rattle.view.specs.Calls.{Call, Value, given, CallDoes}
+use Rattle.instructions.specs.declared.Operand.{Operand}
+use Rattle.instructions.specs.declared.Hook.{Hook}
+use Rattle.instructions.specs.declared.Execution.{Execution}
+use Rattle.instructions.specs.declared.ExecutionStatus.{ExecutionStatus}
+use Rattle.instructions.specs.declared.ExecutionStatus.the-variants.{Running, SuspendedOnHook, Panicked, Refused}
+
+-- the number of an operand's word, and its tag
+abbrev pub operandOf : Operand → view.Operand
+operandOf x = record { word = value (x .word .limbs); tag = x .tagged }
+
+abbrev pub hookOf : Hook → view.Hook
+hookOf h = record { on = h .on; address = h .address .0 }
+
+-- ---- answers
+abbrev pub stopOf : ExecutionStatus → Stop
+stopOf Running = running
+stopOf (SuspendedOnHook n) = onHook n
+stopOf Panicked = running
+stopOf (Refused n) = running
+
+abbrev pub givenBy : Execution → Given
+givenBy r = record { word = value (r .word .limbs); operand = operandOf (r .operand); frame = r .frame; stop = stopOf (r .status) }
+
+abbrev pub toldBy : ExecutionStatus → Given → Outcome Value
+toldBy Running g = done (given g)
+toldBy (SuspendedOnHook n) g = done (given g)
+toldBy Panicked g = panicked (given g)
+toldBy (Refused n) g = refused n
+
+-- 01's number of a refusal, or what a panic or an instruction that was carried out gives
+abbrev pub told : Execution → Outcome Value
+told r = toldBy (r .status) (givenBy r)
+
+-- THE CONTRACT of an instruction c on the buffers m and the frame f, which answers r and leaves the buffers m'
+pub record Runs (m : Mem) (c : Call) (f : Frame) (r : Execution) (m' : Mem) : Type 0 where
+  -- that of every call: the outcome is the definition's; the buffers are as they were where it is refused or panics, and show the view that it leaves where not
+  pub does : CallDoes m c (told r) m'
+  -- a refused instruction gives no word and no operand, and the frame as it was
+  pub refusal : (n : ℕ) → told r ≡ refused n → givenBy r ≡ frameAlone f
+
+-- ---- what the parts do
+-- the step of a load or a store at the operand x: paid, or the frame of the panic without its mark
+abbrev pub reached : Frame → Area → ℕ → Step
+reached f area x = cond (ltb lastAddress x) (record { frame = emptied f; paid = false }) (accessed f area (newBound x))
+
+abbrev pub carried : ExecutionStatus → (word operand : ℕ) → Bool → Frame → Given
+carried s w x t f = record { word = w; operand = record { word = x; tag = t }; frame = f; stop = stopOf s }

@@ -1,0 +1,205 @@
+// The five heap instructions, each one step: it tests the memory, panics or is refused, or does its work. vm2: heap_access.rs.
+// Which register an operand comes from, and goes to, is the caller's.
+ghost use Rattle.word.specs.Value.{value};
+ghost use Rattle.store.specs.Mem.{mem};
+ghost use Rattle.view.specs.Calls.{Call};
+ghost use Rattle.instructions.specs.Executions.{operandOf, hookOf, Runs};
+use page_ids::Address;
+use state::Area;
+use state::Frame;
+use word::Word;
+
+mod parts;
+
+// A word, and whether it is tagged as a pointer.
+pub struct Operand {
+    pub word: Word,
+    pub tagged: bool,
+}
+
+// Whether hooking is on, and the hook address.
+pub struct Hook {
+    pub on: bool,
+    pub address: Address,
+}
+
+// How an instruction ended. The run goes on, or stops on the hook with a value: vm2's `ExecutionStatus`, with the stop reason that a store has.
+pub enum ExecutionStatus {
+    Running,
+    SuspendedOnHook(u32),
+    Panicked,
+    Refused(u32),
+}
+
+// What an instruction gives: the word that it read, the operand plus 32, and the frame. A panic gives the frame alone, and a refusal the frame as it was.
+pub struct Execution {
+    pub status: ExecutionStatus,
+    pub word: Word,
+    pub operand: Operand,
+    pub frame: Frame,
+}
+
+// Reads the word at the operand, in the page of an area, and pays for the area's growth.
+pub fn load(
+    bytes: &[u8],
+    keys: &[u64],
+    order: &[u32],
+    words: &[u64],
+    frame: Frame,
+    area: Area,
+    operand: Operand,
+) -> Execution
+    ensures { λ r. ⌜ Runs (mem (now (bytes .entry)) (now (keys .entry)) (now (order .entry)) (now (words .entry))) (Call.Load area frame (operandOf operand)) frame r (mem (now (bytes .entry)) (now (keys .entry)) (now (order .entry)) (now (words .entry))) ⌝ }
+{
+    if !formed::well_formed(bytes, keys, order, words) {
+        return parts::refused(3, frame);
+    }
+    let step = parts::reach(frame, area, operand.word);
+    let after = step.frame;
+    if !step.paid {
+        return parts::panicked(after);
+    }
+    let page = parts::page_of(frame, area);
+    let address = word::low_u32(operand.word);
+    let read = reads::read_word(bytes, keys, order, words, page, address);
+    let word = word::from_big_endian(read);
+    parts::carried_out(
+        ExecutionStatus::Running,
+        word,
+        operand,
+        operand.tagged,
+        after,
+    )
+}
+
+// Writes a word at the operand, in the page of an area, and pays for the area's growth; stops on the hook.
+pub fn store(
+    bytes: &mut [u8],
+    keys: &mut [u64],
+    order: &mut [u32],
+    words: &mut [u64],
+    frame: Frame,
+    area: Area,
+    operand: Operand,
+    word: Word,
+    hook: Hook,
+) -> Execution
+    ensures { λ r. ⌜ Runs (mem (now (bytes .entry)) (now (keys .entry)) (now (order .entry)) (now (words .entry))) (Call.Store area frame (operandOf operand) (value (word .limbs)) (hookOf hook)) frame r (mem (now (bytes .exit)) (now (keys .exit)) (now (order .exit)) (now (words .exit))) ⌝ }
+{
+    if !formed::well_formed(bytes, keys, order, words) {
+        return parts::refused(3, frame);
+    }
+    let step = parts::reach(frame, area, operand.word);
+    let after = step.frame;
+    if !step.paid {
+        return parts::panicked(after);
+    }
+    let page = parts::page_of(frame, area);
+    let address = word::low_u32(operand.word);
+    let number = parts::store_refusal(bytes, keys, order, words, page, address, word, hook);
+    if number != 0 {
+        return parts::refused(number, frame);
+    }
+    let value = word::to_big_endian(word);
+    writes::steps::write_word(bytes, keys, order, words, page, address, value);
+    let status = parts::stop_of(hook, address, word);
+    parts::carried_out(status, parts::no_word(), operand, false, after)
+}
+
+// Reads the bytes that a pointer shows from its offset on, at most 32; they lead the word, and zeros follow.
+pub fn load_pointer(
+    bytes: &[u8],
+    keys: &[u64],
+    order: &[u32],
+    words: &[u64],
+    frame: Frame,
+    operand: Operand,
+) -> Execution
+    ensures { λ r. ⌜ Runs (mem (now (bytes .entry)) (now (keys .entry)) (now (order .entry)) (now (words .entry))) (Call.LoadPointer frame (operandOf operand)) frame r (mem (now (bytes .entry)) (now (keys .entry)) (now (order .entry)) (now (words .entry))) ⌝ }
+{
+    if !formed::well_formed(bytes, keys, order, words) {
+        return parts::refused(3, frame);
+    }
+    if !operand.tagged {
+        return parts::panicked(frame);
+    }
+    let pointer = fat_pointer::from_u256(operand.word);
+    if pointer.offset > 4294967263 {
+        return parts::panicked(frame);
+    }
+    if pointer.length > 4294967295 - pointer.start {
+        return parts::refused(14, frame);
+    }
+    let end = pointer.start + pointer.length;
+    let start = pointer.start + parts::lesser(pointer.offset, pointer.length);
+    let n = parts::count(start, end);
+    let page = pointer.memory_page.0;
+    let read = reads::read_padded(bytes, keys, order, words, page, start, n);
+    let word = word::from_big_endian(read);
+    parts::carried_out(ExecutionStatus::Running, word, operand, true, frame)
+}
+
+// Reads the word at the operand in the static page.
+pub fn load_static(
+    bytes: &[u8],
+    keys: &[u64],
+    order: &[u32],
+    words: &[u64],
+    frame: Frame,
+    operand: Operand,
+) -> Execution
+    ensures { λ r. ⌜ Runs (mem (now (bytes .entry)) (now (keys .entry)) (now (order .entry)) (now (words .entry))) (Call.LoadStatic frame (operandOf operand)) frame r (mem (now (bytes .entry)) (now (keys .entry)) (now (order .entry)) (now (words .entry))) ⌝ }
+{
+    if !formed::well_formed(bytes, keys, order, words) {
+        return parts::refused(3, frame);
+    }
+    if word::bigger_than_last_address(operand.word) {
+        return parts::panicked(frame);
+    }
+    let page = parts::static_page(bytes, keys, order, words);
+    let address = word::low_u32(operand.word);
+    let read = reads::read_word(bytes, keys, order, words, page, address);
+    let word = word::from_big_endian(read);
+    parts::carried_out(
+        ExecutionStatus::Running,
+        word,
+        operand,
+        operand.tagged,
+        frame,
+    )
+}
+
+// Writes a word at the operand in the static page.
+pub fn store_static(
+    bytes: &mut [u8],
+    keys: &mut [u64],
+    order: &mut [u32],
+    words: &mut [u64],
+    frame: Frame,
+    operand: Operand,
+    word: Word,
+) -> Execution
+    ensures { λ r. ⌜ Runs (mem (now (bytes .entry)) (now (keys .entry)) (now (order .entry)) (now (words .entry))) (Call.StoreStatic frame (operandOf operand) (value (word .limbs))) frame r (mem (now (bytes .exit)) (now (keys .exit)) (now (order .exit)) (now (words .exit))) ⌝ }
+{
+    if !formed::well_formed(bytes, keys, order, words) {
+        return parts::refused(3, frame);
+    }
+    if word::bigger_than_last_address(operand.word) {
+        return parts::panicked(frame);
+    }
+    let page = parts::static_page(bytes, keys, order, words);
+    let address = word::low_u32(operand.word);
+    let refusal = refusals::word_room(bytes, keys, order, words, page, address);
+    if refusal != 0 {
+        return parts::refused(refusal, frame);
+    }
+    let value = word::to_big_endian(word);
+    writes::steps::write_word(bytes, keys, order, words, page, address, value);
+    parts::carried_out(
+        ExecutionStatus::Running,
+        parts::no_word(),
+        operand,
+        false,
+        frame,
+    )
+}

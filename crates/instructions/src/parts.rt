@@ -1,0 +1,192 @@
+// What the instructions are made of: the pages and the growth, the hook, and the answers.
+ghost use mathlib.Core.Path.{_≡_};
+ghost use mathlib.Core.Bool.{false, cond, _&&_};
+ghost use mathlib.Core.List.{[], _∷_, _++_};
+ghost use Prim.Native.Nat.{_-_, _%_, _^_, _≤_};
+ghost use lib.Dec.{ltb};
+ghost use Rattle.outcome.specs.Outcome.{refused};
+ghost use Rattle.word.specs.Value.{value};
+ghost use Rattle.store.specs.Mem.{mem, layoutOf};
+ghost use Rattle.formed.specs.WellFormed.{WellFormed};
+ghost use Rattle.view.specs.View.{settingOf, viewOf};
+ghost use Rattle.view.specs.Steps.{min};
+ghost use Rattle.view.specs.Checks.{wordWriteChecks};
+ghost use Rattle.view.specs.Instructions.{heapOf, staticOf, frameAlone, panic, hooked, incremented};
+ghost use Rattle.room.specs.Refusals.{number};
+ghost use Rattle.instructions.specs.Executions.{hookOf, givenBy, reached, carried};
+use crate::Execution;
+use crate::ExecutionStatus;
+use crate::Hook;
+use crate::Operand;
+use page_ids::Address;
+use state::Area;
+use state::Frame;
+use state::Step;
+use word::Word;
+
+// ---- pages and growth
+
+pub fn page_of(frame: Frame, area: Area) -> u32
+    ensures { λ r. ⌜ r ≡ heapOf frame area ⌝ }
+{
+    match area {
+        Area::Heap => frame.heap.0,
+        Area::Aux => frame.aux.0,
+    }
+}
+
+pub fn static_page(bytes: &[u8], keys: &[u64], order: &[u32], words: &[u64]) -> u32
+    requires { ⌜ WellFormed (mem (now bytes) (now keys) (now order) (now words)) ⌝ }
+    ensures { λ r. ⌜ r ≡ staticOf (layoutOf (now (words .entry))) ⌝ }
+{
+    let layout = formed::head::layout_of(words);
+    layout.static_memory.0
+}
+
+// The access of a load or a store: paid, or not, and then the frame is that of the panic, without its mark.
+pub fn reach(frame: Frame, area: Area, operand: Word) -> Step
+    ensures { λ r. ⌜ r ≡ reached frame area (value (operand .limbs)) ⌝ }
+{
+    if word::bigger_than_last_address(operand) {
+        let mut after = frame;
+        after.gas = 0;
+        return Step {
+            frame: after,
+            paid: false,
+        };
+    }
+    let address = Address(word::low_u32(operand));
+    state::access(frame, area, state::new_bound(address))
+}
+
+// ---- the hook
+
+pub fn hits(hook: Hook, address: u32) -> bool
+    ensures { λ r. ⌜ r ≡ hooked (hookOf hook) address ⌝ }
+{
+    if !hook.on {
+        return false;
+    }
+    address == hook.address.0
+}
+
+// Which refusal a store to a well-formed memory gets, or 0.
+pub fn store_refusal(
+    bytes: &[u8],
+    keys: &[u64],
+    order: &[u32],
+    words: &[u64],
+    page: u32,
+    address: u32,
+    word: Word,
+    hook: Hook,
+) -> u32
+    requires { ⌜ WellFormed (mem (now bytes) (now keys) (now order) (now words)) ⌝ }
+    ensures { λ r. ⌜ r ≡ number (wordWriteChecks (settingOf (mem (now (bytes .entry)) (now (keys .entry)) (now (order .entry)) (now (words .entry)))) (viewOf (mem (now (bytes .entry)) (now (keys .entry)) (now (order .entry)) (now (words .entry)))) page address ++ ((hooked (hookOf hook) address && ltb 4294967295 (value (word .limbs)), refused 15) ∷ [])) ⌝ }
+{
+    let refusal = refusals::word_room(bytes, keys, order, words, page, address);
+    if refusal != 0 {
+        return refusal;
+    }
+    if !hits(hook, address) {
+        return 0;
+    }
+    if word::fits_u32(word) {
+        return 0;
+    }
+    15
+}
+
+pub fn stop_of(hook: Hook, address: u32, word: Word) -> ExecutionStatus
+    ensures { λ r. ⌜ r ≡ cond (hooked (hookOf hook) address) (ExecutionStatus.SuspendedOnHook (value (word .limbs) % 2 ^ 32)) ExecutionStatus.Running ⌝ }
+{
+    if hits(hook, address) {
+        return ExecutionStatus::SuspendedOnHook(word::low_u32(word));
+    }
+    ExecutionStatus::Running
+}
+
+// ---- the answers
+
+pub fn no_word() -> Word
+    ensures { λ r. ⌜ value (r .limbs) ≡ 0 ⌝ }
+{
+    let limbs = [0u64; 4];
+    Word { limbs: limbs }
+}
+
+// Nothing but a frame.
+fn alone(status: ExecutionStatus, frame: Frame) -> Execution
+    ensures { λ r. ⌜ (r .status ≡ status) × (givenBy r ≡ carried status 0 0 false frame) ⌝ }
+{
+    let none = Operand {
+        word: no_word(),
+        tagged: false,
+    };
+    Execution {
+        status: status,
+        word: no_word(),
+        operand: none,
+        frame: frame,
+    }
+}
+
+pub fn refused(number: u32, frame: Frame) -> Execution
+    ensures { λ r. ⌜ (r .status ≡ ExecutionStatus.Refused number) × (givenBy r ≡ frameAlone frame) ⌝ }
+{
+    alone(ExecutionStatus::Refused(number), frame)
+}
+
+// A panic sets the mark.
+pub fn panicked(frame: Frame) -> Execution
+    ensures { λ r. ⌜ (r .status ≡ ExecutionStatus.Panicked) × (givenBy r ≡ panic frame) ⌝ }
+{
+    let mut after = frame;
+    after.panicked = true;
+    alone(ExecutionStatus::Panicked, after)
+}
+
+// The operand is incremented, and gets this tag.
+pub fn carried_out(
+    status: ExecutionStatus,
+    word: Word,
+    operand: Operand,
+    tagged: bool,
+    frame: Frame,
+) -> Execution
+    ensures { λ r. ⌜ (r .status ≡ status) × (givenBy r ≡ carried status (value (word .limbs)) (incremented (value (operand .word .limbs))) tagged frame) ⌝ }
+{
+    let next = Operand {
+        word: word::plus_32(operand.word),
+        tagged: tagged,
+    };
+    Execution {
+        status: status,
+        word: word,
+        operand: next,
+        frame: frame,
+    }
+}
+
+// ---- the bytes of a pointer
+
+pub fn lesser(a: u32, b: u32) -> u32
+    ensures { λ r. ⌜ r ≡ min a b ⌝ }
+{
+    if a <= b {
+        return a;
+    }
+    b
+}
+
+// How many bytes are read from `start` on: at most 32, and none past `end`.
+pub fn count(start: u32, end: u32) -> usize
+    requires { ⌜ start ≤ end ⌝ }
+    ensures { λ r. ⌜ r ≡ min 32 (end - start) ⌝ }
+{
+    let left = end - start;
+    if left < 32 {
+        return left as usize;
+    }
+    32
+}

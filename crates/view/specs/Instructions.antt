@@ -1,0 +1,149 @@
+-- The five instructions: their operands, when they panic or are refused, and what they give. What a store does to the memory is a word write (Steps).
+-- Assumes nothing.
+use mathlib.Core.Bool.{Bool, true, false, cond, not, _&&_}
+use mathlib.Core.List.{List, [], _∷_, _++_}
+use Prim.Native.Nat.{ℕ, _+_, _-_, _%_, _^_}
+use lib.Dec.{ltb, eqb}
+use Rattle.outcome.specs.Outcome.{refused, panicked}
+use Rattle.word.specs.Value.{bigEndian, lastAddress}
+use Rattle.page_ids.specs.declared.Layout.{Layout}
+use Rattle.fat_pointer.specs.declared.FatPointer.{FatPointer}
+use Rattle.fat_pointer.specs.Pointer.{pointerOf}
+use Rattle.state.specs.declared.Frame.{Frame}
+use Rattle.state.specs.declared.Area.{Area}
+use Rattle.state.specs.declared.Area.the-variants.{Heap, Aux}
+use Rattle.state.specs.Access.{newBound, accessed}
+use Rattle.view.specs.View.{View, Setting}
+use Rattle.view.specs.Steps.{min, run, padded}
+use Rattle.view.specs.Checks.{Check, wordWriteChecks}
+
+-- an operand: the number of its word, and whether it is tagged as a pointer
+pub record Operand : Type 0 where
+  pub word : ℕ
+  pub tag : Bool
+
+-- whether hooking is on, and the hook address
+pub record Hook : Type 0 where
+  pub on : Bool
+  pub address : ℕ
+
+-- the run goes on, or stops on the hook with a value
+pub data Stop : Type 0 where
+  running : Stop
+  onHook : ℕ → Stop
+
+-- what an instruction gives: the word that it read (0 where it reads none), the incremented operand with its tag, the frame, and the stop
+pub record Given : Type 0 where
+  pub word : ℕ
+  pub operand : Operand
+  pub frame : Frame
+  pub stop : Stop
+
+-- ---- frames
+-- the page of an area
+abbrev pub heapOf : Frame → Area → ℕ
+heapOf f Heap = f .heap .0
+heapOf f Aux = f .aux .0
+
+-- the static page
+abbrev pub staticOf : Layout → ℕ
+staticOf l = l .«static_memory» .0
+
+abbrev pub emptied : Frame → Frame
+emptied f = record { gas = 0; heap = f .heap; aux = f .aux; «heap_bound» = f .«heap_bound»; «aux_bound» = f .«aux_bound»; panicked = f .panicked }
+
+abbrev pub marked : Frame → Frame
+marked f = record { gas = f .gas; heap = f .heap; aux = f .aux; «heap_bound» = f .«heap_bound»; «aux_bound» = f .«aux_bound»; panicked = true }
+
+-- no word and no operand are given, and the frame is f: what a refused instruction leaves, its frame being as it was
+abbrev pub frameAlone : Frame → Given
+frameAlone f = record { word = 0; operand = record { word = 0; tag = false }; frame = f; stop = running }
+
+-- a panic sets the mark, which no definition here reads and none clears; f has the gas that it leaves
+abbrev pub panic : Frame → Given
+panic f = frameAlone (marked f)
+
+-- the whole word plus 32, in 256 bits. The operand limits keep it from leaving them: instructions/proofs/Laws.antt
+abbrev pub incremented : ℕ → ℕ
+incremented x = (x + 32) % 2 ^ 256
+
+-- ---- load and store, of the word at an operand's number
+-- an operand above 4,294,967,263 empties the gas and panics; so does a growth that the gas does not pay, and the bound is kept
+abbrev pub accessChecks : {A : Type 0} → (Given → A) → Area → Frame → ℕ → List (Check A)
+accessChecks give area f x =
+    (ltb lastAddress x, panicked (give (panic (emptied f))))
+    ∷ (not (accessed f area (newBound x) .paid), panicked (give (panic (accessed f area (newBound x) .frame))))
+    ∷ []
+
+-- a load keeps the operand's tag; of an undecodable page it reads zeros, and pays all the same
+abbrev pub loaded : View → Area → Frame → Operand → Given
+loaded v area f x = record {
+  word = bigEndian (run v (heapOf f area) (x .word) 32);
+  operand = record { word = incremented (x .word); tag = x .tag };
+  frame = accessed f area (newBound (x .word)) .frame;
+  stop = running;
+}
+
+-- hooking is on and the address is the hook address
+abbrev pub hooked : Hook → ℕ → Bool
+hooked h x = h .on && eqb x (h .address)
+
+-- the panics, then the refusals of a word write, then 15: the hook address is hit by a value above 4,294,967,295
+abbrev pub storeChecks : {A : Type 0} → (Given → A) → Setting → View → Area → Frame → ℕ → ℕ → Hook → List (Check A)
+storeChecks give s v area f x n h = accessChecks give area f x ++ (wordWriteChecks s v (heapOf f area) x ++ ((hooked h x && ltb 4294967295 n, refused 15) ∷ []))
+
+-- a store clears the tag, and stops with the value n where it is hooked
+abbrev pub stored : Area → Frame → Operand → ℕ → Hook → Given
+stored area f x n h = record {
+  word = 0;
+  operand = record { word = incremented (x .word); tag = false };
+  frame = accessed f area (newBound (x .word)) .frame;
+  stop = cond (hooked h (x .word)) (onHook n) running;
+}
+
+-- ---- static load and store: the same operand limit; panic without charge; no growth
+abbrev pub staticChecks : {A : Type 0} → (Given → A) → Frame → ℕ → List (Check A)
+staticChecks give f x = (ltb lastAddress x, panicked (give (panic f))) ∷ []
+
+abbrev pub staticLoaded : Setting → View → Frame → Operand → Given
+staticLoaded s v f x = record {
+  word = bigEndian (run v (staticOf (s .layout)) (x .word) 32);
+  operand = record { word = incremented (x .word); tag = x .tag };
+  frame = f;
+  stop = running;
+}
+
+abbrev pub staticStoreChecks : {A : Type 0} → (Given → A) → Setting → View → Frame → ℕ → List (Check A)
+staticStoreChecks give s v f x = staticChecks give f x ++ wordWriteChecks s v (staticOf (s .layout)) x
+
+abbrev pub staticStored : Frame → Operand → Given
+staticStored f x = record { word = 0; operand = record { word = incremented (x .word); tag = false }; frame = f; stop = running }
+
+-- ---- pointer read: panics without charge
+-- an untagged operand panics; so does an offset above 4,294,967,263; 14: start + length above 4,294,967,295
+abbrev pub pointerChecks : {A : Type 0} → (Given → A) → Frame → Operand → List (Check A)
+pointerChecks give f x =
+    let p = pointerOf (x .word) in
+    (not (x .tag), panicked (give (panic f)))
+    ∷ (ltb lastAddress (p .offset), panicked (give (panic f)))
+    ∷ (ltb 4294967295 (p .start + p .length), refused 14)
+    ∷ []
+
+-- the first byte that is read
+abbrev pub readFrom : FatPointer → ℕ
+readFrom p = p .start + min (p .offset) (p .length)
+
+-- how many are read: at most 32, and none past start + length
+abbrev pub readCount : FatPointer → ℕ
+readCount p = min 32 (p .start + p .length - readFrom p)
+
+-- they lead the word, and zeros follow; the incremented operand is tagged
+abbrev pub pointed : View → Frame → Operand → Given
+pointed v f x =
+    let p = pointerOf (x .word) in
+    record {
+      word = bigEndian (padded (run v (p .«memory_page» .0) (readFrom p) (readCount p)));
+      operand = record { word = incremented (x .word); tag = true };
+      frame = f;
+      stop = running;
+    }

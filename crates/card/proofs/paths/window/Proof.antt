@@ -1,0 +1,80 @@
+use mathlib.Core.Path.{refl, _∙_}
+use Rattle.card.proofs.paths.window.Statement.{statement}
+use Rattle.card.proofs.paths.window.Tie as tie
+
+open-requires : tie.Need-open-requires
+open-requires c κs = tt
+
+counting-requires : tie.Need-counting-requires
+counting-requires c κs = tt
+
+write-requires : tie.Need-write-requires
+write-requires c κs = tt
+
+write-requires-2 : tie.Need-write-requires-2
+write-requires-2 c κs = tt
+
+compact-to-window-requires : tie.Need-compact-to-window-requires
+compact-to-window-requires c κs = tt
+
+slice-aggregate-done : tie.Need-slice-aggregate-done
+slice-aggregate-done c = refl
+
+done-requires : tie.Need-done-requires
+done-requires c κs = tt
+
+shown-requires : tie.Need-shown-requires
+shown-requires c κs = tt
+
+same-length : tie.Need-same-length
+same-length c =
+    let at-bytes4 = c .before .before .before .before .before .before .before .before .before .before .before .before .before .before in
+    let at-bytes3 = at-bytes4 .before .before .before .before .before .before .before .before .before .before .before .before .before in
+    let at-bytes2 = at-bytes3 .before .before .before .before .before .before .before .before .before .before .before .before .before in
+    let at-bytes = at-bytes2 .before .before .before .before .before .before .before .before .before .before .before .before .before .before in
+    at-bytes4 .bytes4 .given ∙ at-bytes3 .bytes3 .given ∙ at-bytes2 .bytes2 .given ∙ at-bytes .bytes .given
+
+same-length-2 : tie.Need-same-length-2
+same-length-2 c =
+    let at-keys4 = c .before .before .before .before .before .before .before .before .before .before .before .before in
+    let at-keys3 = at-keys4 .before .before .before .before .before .before .before .before .before .before .before .before .before in
+    let at-keys2 = at-keys3 .before .before .before .before .before .before .before .before .before .before .before .before .before in
+    let at-keys = at-keys2 .before .before .before .before .before .before .before .before .before .before .before .before .before .before in
+    at-keys4 .keys4 .given ∙ at-keys3 .keys3 .given ∙ at-keys2 .keys2 .given ∙ at-keys .keys .given
+
+same-length-3 : tie.Need-same-length-3
+same-length-3 c =
+    let at-order4 = c .before .before .before .before .before .before .before .before .before .before in
+    let at-order3 = at-order4 .before .before .before .before .before .before .before .before .before .before .before .before .before in
+    let at-order2 = at-order3 .before .before .before .before .before .before .before .before .before .before .before .before .before in
+    let at-order = at-order2 .before .before .before .before .before .before .before .before .before .before .before .before .before .before in
+    at-order4 .order4 .given ∙ at-order3 .order3 .given ∙ at-order2 .order2 .given ∙ at-order .order .given
+
+same-length-4 : tie.Need-same-length-4
+same-length-4 c =
+    let at-words4 = c .before .before .before .before .before .before .before .before in
+    let at-words3 = at-words4 .before .before .before .before .before .before .before .before .before .before .before .before .before in
+    let at-words2 = at-words3 .before .before .before .before .before .before .before .before .before .before .before .before .before in
+    let at-words = at-words2 .before .before .before .before .before .before .before .before .before .before .before .before .before .before in
+    at-words4 .words4 .given ∙ at-words3 .words3 .given ∙ at-words2 .words2 .given ∙ at-words .words .given
+
+returns : tie.Need-returns
+returns c = tt
+
+pub window-spec : {M : Type 1} → statement M
+window-spec =
+    tie.close
+    (tie.spec
+    open-requires
+    counting-requires
+    write-requires
+    write-requires-2
+    compact-to-window-requires
+    slice-aggregate-done
+    done-requires
+    shown-requires
+    same-length
+    same-length-2
+    same-length-3
+    same-length-4
+    returns)

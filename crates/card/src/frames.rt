@@ -1,0 +1,148 @@
+// Instructions on a frame, and what they leave.
+use crate::report;
+use crate::samples;
+use fat_pointer::FatPointer;
+use instructions::Execution;
+use instructions::ExecutionStatus;
+use instructions::Hook;
+use instructions::Operand;
+use page_ids::Address;
+use page_ids::PageId;
+use state::Area;
+use state::Frame;
+use word::Word;
+
+// A frame after an instruction, and whether the path is right so far.
+pub struct Touched {
+    pub right: bool,
+    pub frame: Frame,
+}
+
+// The frame of the first far call, with 1,000 gas; nothing of its pages is paid.
+fn frame() -> Frame {
+    Frame {
+        gas: 1000,
+        heap: PageId(66),
+        aux: PageId(67),
+        heap_bound: 0,
+        aux_bound: 0,
+        panicked: false,
+    }
+}
+
+pub fn untouched(right: bool) -> Touched {
+    Touched {
+        right: right,
+        frame: frame(),
+    }
+}
+
+// An address as an operand, which is no pointer.
+fn at(address: u64) -> Operand {
+    Operand {
+        word: samples::small(address),
+        tagged: false,
+    }
+}
+
+// 0 for an instruction that ran, or the number of its refusal; numbers that no refusal has stand for a panic and a stop.
+fn number(status: ExecutionStatus) -> u32 {
+    match status {
+        ExecutionStatus::Running => 0,
+        ExecutionStatus::SuspendedOnHook(_) => 1000,
+        ExecutionStatus::Panicked => 2000,
+        ExecutionStatus::Refused(n) => n,
+    }
+}
+
+// The frame that an instruction left, which must have run, and left this gas, and this bound of the heap.
+fn left(right: bool, touch: &[u8], e: Execution, gas: u64, bound: u64) -> Touched {
+    let status = e.status;
+    let frame = e.frame;
+    let ended = number(status);
+    let gas_left = frame.gas;
+    let bound_left = frame.heap_bound;
+    let ran = report::same(right, b"refusal of a touch", 0, ended as u64);
+    let charged = report::same(ran, touch, gas, gas_left as u64);
+    let right = report::same(charged, b"bound of the heap", bound, bound_left as u64);
+    Touched {
+        right: right,
+        frame: frame,
+    }
+}
+
+// Stores the bytes 1 to 32 to the heap of a frame, with no hook.
+pub fn store(
+    last: Touched,
+    bytes: &mut [u8],
+    keys: &mut [u64],
+    order: &mut [u32],
+    words: &mut [u64],
+    address: u64,
+    touch: &[u8],
+    gas: u64,
+    bound: u64,
+) -> Touched {
+    let right = last.right;
+    let frame = last.frame;
+    let hook = Hook {
+        on: false,
+        address: Address(0),
+    };
+    let word = samples::counting();
+    let e = instructions::store(
+        bytes,
+        keys,
+        order,
+        words,
+        frame,
+        Area::Heap,
+        at(address),
+        word,
+        hook,
+    );
+    left(right, touch, e, gas, bound)
+}
+
+// Loads from the heap of a frame.
+pub fn load(
+    last: Touched,
+    bytes: &[u8],
+    keys: &[u64],
+    order: &[u32],
+    words: &[u64],
+    address: u64,
+    touch: &[u8],
+    gas: u64,
+    bound: u64,
+) -> Touched {
+    let right = last.right;
+    let frame = last.frame;
+    let operand = at(address);
+    let e = instructions::load(bytes, keys, order, words, frame, Area::Heap, operand);
+    left(right, touch, e, gas, bound)
+}
+
+// Loads what a pointer shows from its offset on, and compares it.
+pub fn show(
+    right: bool,
+    bytes: &[u8],
+    keys: &[u64],
+    order: &[u32],
+    words: &[u64],
+    pointer: FatPointer,
+    expected: Word,
+) -> bool {
+    let offset = pointer.offset;
+    let at = offset as u64;
+    let operand = Operand {
+        word: fat_pointer::into_u256(pointer),
+        tagged: true,
+    };
+    let e = instructions::load_pointer(bytes, keys, order, words, frame(), operand);
+    let status = e.status;
+    let came = e.word;
+    let ended = number(status);
+    let ran = report::same(right, b"refusal of the pointer", 0, ended as u64);
+    report::same_word(ran, b"word of the pointer at ", at, expected, came)
+}

@@ -1,36 +1,18 @@
 -- A table of keys where a key was given a free place.
 -- Assumes nothing.
-use mathlib.Core.Path.{_≡_, refl, sym, ap, _∙_}
+use mathlib.Core.Path.{_≡_, refl, ap, _∙_}
 use mathlib.Core.Logic.{_⊎_, inl, inr, ⊎-elim}
-use mathlib.Core.List.{List, [], _∷_}
-use Prim.Native.Nat.{ℕ, zero, suc, _+_, _≤_, _<_}
+use mathlib.Core.List.{List}
+use Prim.Native.Nat.{ℕ, _+_, _≤_, _<_}
 use native.Mathlib.Omega.{arith}
 use lib.ListN.{length, getD, set, length-set}
 use lib.Seq.{getD-set-same, getD-set-other}
-use borrow.Author.Tests.{eq-eqb, ne-eqb}
+use Rattle.index.proofs.Places.{seek-other}
 use Rattle.index.specs.Index.{seek, freeCount}
 use Rattle.index.proofs.Logic.{same-or-not}
 use Rattle.index.proofs.Counts.{count-fill, used-free}
 use Rattle.store.specs.Hold.{lacks}
 use Rattle.store.proofs.Holds.{lacks-one, lacks-none}
-
-seek-here : (x : ℕ) (ks : List ℕ) (k : ℕ) → x ≡ k → seek (x ∷ ks) k ≡ 0
-unfolding seek
-seek-here x ks k e = rw (eq-eqb x k e)
-
-seek-there : (x : ℕ) (ks : List ℕ) (k : ℕ) → (x ≡ k → ⊥) → seek (x ∷ ks) k ≡ suc (seek ks k)
-unfolding seek
-seek-there x ks k n = rw (ne-eqb x k n)
-
--- the other keys stand where they stood
-pub seek-other : (ks : List ℕ) (s k j : ℕ) → getD ks s 0 ≡ 0 → 0 < j → (j ≡ k → ⊥) → seek (set ks s k) j ≡ seek ks j
-seek-other [] s k j z p n = refl
-seek-other (x ∷ ks) zero k j z p n = seek-there k ks j (λ e. n (sym e)) ∙ sym (seek-there x ks j (λ e. omega arith))
-seek-other (x ∷ ks) (suc s) k j z p n =
-    ⊎-elim
-    (λ (e : x ≡ j). seek-here x (set ks s k) j e ∙ sym (seek-here x ks j e))
-    (λ (e : x ≡ j → ⊥). seek-there x (set ks s k) j e ∙ ap suc (seek-other ks s k j z p n) ∙ sym (seek-there x ks j e))
-    (same-or-not x j)
 
 -- ks' is ks after the key k was given a place if it had none
 pub record Grown (k : ℕ) (ks ks' : List ℕ) : Type 0 where

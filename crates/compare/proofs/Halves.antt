@@ -7,7 +7,7 @@ use Prim.Native.Nat.{ℕ, _/_, _<_}
 use lib.Dec.{eqb}
 use borrow.Author.Tests.{eq-eqb, ne-eqb, eqb-true}
 use Rattle.index.specs.Index.{all}
-use Rattle.index.proofs.Logic.{and-left, and-right, and-both, and-false-right}
+use Rattle.index.proofs.Logic.{and-left, and-right, and-both, and-false-right, both-ways}
 use Rattle.index.proofs.All.{all-at, all-intro, all-fails}
 use Rattle.store.specs.Mem.{Mem}
 use Rattle.formed.specs.Parts.{allocated, holds, byteAt}
@@ -22,12 +22,6 @@ use Rattle.compare.specs.Covers.{coversPage, covers}
 true-or-false : (a : Bool) → (a ≡ true) ⊎ (a ≡ false)
 true-or-false true = inl refl
 true-or-false false = inr refl
-
--- two tests that hold together are one
-both-ways : (a b : Bool) → (a ≡ true → b ≡ true) → (b ≡ true → a ≡ true) → a ≡ b
-both-ways true b f g = sym (f refl)
-both-ways false true f g = g refl
-both-ways false false f g = refl
 
 -- `not a || b` says that b follows from a
 implies : (a b : Bool) → not a || b ≡ true → a ≡ true → b ≡ true

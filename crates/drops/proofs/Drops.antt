@@ -11,7 +11,7 @@ use lib.ListN.{length, getD, set, take, drop, length-set, length-append, length-
 use lib.Seq.{getD-take, getD-set-same, getD-set-other, length-take-le}
 use borrow.Author.Tests.{leb-true, ltb-true, eq-eqb, ne-eqb, eqb-true}
 use Rattle.index.specs.Index.{indexed, seek, keyAt, LowerBound, Removed}
-use Rattle.index.proofs.Logic.{same-or-not, lt-or-ge, and-left, and-right, le-of-not-lt}
+use Rattle.index.proofs.Logic.{same-or-not, lt-or-ge, and-left, and-right, le-of-not-lt, both-ways}
 use Rattle.index.proofs.Orders.{index-fits}
 use Rattle.index.proofs.Places.{seek-hit, find-past, find-gap}
 use Rattle.index.proofs.Meaning.{once}
@@ -54,13 +54,6 @@ module _ (m : Mem) (p : ℕ) (a : PageAsks m p) where
   -- what lists p is its entry
   only-entry : (e : ℕ) → getD (entries m) e 0 ≡ p + 1 → e ≡ entryOf m p
   only-entry e q = sym (seek-is (entries m) (p + 1) e (page-once m (a .formed)) (omega arith) q)
-
--- two tests that hold together are the same
-together : (a b : Bool) → (a ≡ true → b ≡ true) → (b ≡ true → a ≡ true) → a ≡ b
-together true true f g = refl
-together true false f g = sym (f refl)
-together false true f g = g refl
-together false false f g = refl
 
 -- nothing is nothing either way
 nothing : (b : Bool) → _≡_ {A = ℕ} 0 (cond b 0 0)
@@ -146,7 +139,7 @@ module _ (bytes keys order words bytes' keys' order' words' : List ℕ) (p lo hi
   drops s q k h =
       let x = key-again (holder m s) (h .held) in
       let c = h .chunk in
-      together (eqb q p && within lo hi k) (within from to (holder m s))
+      both-ways (eqb q p && within lo hi k) (within from to (holder m s))
       (λ e.
       let b = eqb-true q p (and-left (eqb q p) (within lo hi k) e) in
       let w = and-right (eqb q p) (within lo hi k) e in
@@ -302,7 +295,7 @@ module _ (bytes keys order words : List ℕ) (p : ℕ) (a : UnlistAsks (mem byte
         where
           same-page : (q : ℕ) → eqb (q + 1) (p + 1) ≡ eqb q p
           same-page q =
-              together (eqb (q + 1) (p + 1)) (eqb q p) (λ e. let h = eqb-true (q + 1) (p + 1) e in eq-eqb q p (omega arith)) (λ e. let h = eqb-true q p e in eq-eqb (q + 1) (p + 1) (omega arith))
+              both-ways (eqb (q + 1) (p + 1)) (eqb q p) (λ e. let h = eqb-true (q + 1) (p + 1) e in eq-eqb q p (omega arith)) (λ e. let h = eqb-true q p e in eq-eqb (q + 1) (p + 1) (omega arith))
 
 -- ---- `free_page`
 module _ (m : Mem) (p : ℕ) (a : PageAsks m p) where

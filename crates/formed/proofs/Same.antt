@@ -1,10 +1,11 @@
 -- The same numbers make the same layout, and the same elements the same list.
 -- Assumes nothing.
 use mathlib.Core.Path.{_≡_, refl, ap, fun-ext}
-use mathlib.Core.List.{List, _∷_}
+use mathlib.Core.List.{List, [], _∷_}
 use Prim.Native.Nat.{ℕ, zero, suc, _<_, zero-le, suc-le-suc}
+use native.Mathlib.Nat.{not-suc-le-zero, le-of-suc-le-suc}
 use native.Mathlib.Omega.{arith}
-use lib.ListN.{getD}
+use lib.ListN.{length, getD}
 use Rattle.store.specs.Mem.{layoutOf}
 use Rattle.formed.specs.Parts.{tab}
 
@@ -21,4 +22,26 @@ unfolding tab
 tab-upto zero f g h = refl
 tab-upto (suc n) f g h =
     let t : tab n (λ i. f (suc i)) ≡ tab n (λ i. g (suc i)) = tab-upto n (λ i. f (suc i)) (λ i. g (suc i)) (λ i l. h (suc i) (suc-le-suc l)) in
+    λ k. h 0 (suc-le-suc zero-le) k ∷ t k
+
+-- a list told by its elements
+pub tab-long : {A : Type 0} (n : ℕ) (f : ℕ → A) → length (tab n f) ≡ n
+unfolding tab
+tab-long zero f = refl
+tab-long (suc n) f = ap suc (tab-long n (λ i. f (suc i)))
+
+pub tab-at : (n : ℕ) (f : ℕ → ℕ) (i : ℕ) → i < n → getD (tab n f) i 0 ≡ f i
+unfolding tab
+tab-at zero f i l = absurd (not-suc-le-zero l)
+tab-at (suc n) f zero l = refl
+tab-at (suc n) f (suc i) l = tab-at n (λ x. f (suc x)) i (le-of-suc-le-suc l)
+
+pub tab-is : (n : ℕ) (f : ℕ → ℕ) (xs : List ℕ) → length xs ≡ n → ((i : ℕ) → i < n → getD xs i 0 ≡ f i) → xs ≡ tab n f
+unfolding tab
+tab-is zero f [] e h = refl
+tab-is zero f (x ∷ xs) e h = absurd (omega arith)
+tab-is (suc n) f [] e h = absurd (omega arith)
+tab-is (suc n) f (x ∷ xs) e h =
+    let q : length xs ≡ n = omega arith in
+    let t : xs ≡ tab n (λ i. f (suc i)) = tab-is n (λ i. f (suc i)) xs q (λ i l. h (suc i) (suc-le-suc l)) in
     λ k. h 0 (suc-le-suc zero-le) k ∷ t k

@@ -35,9 +35,6 @@ use Rattle.formed.proofs.Above.{dynamic-above}
 use Rattle.freeing.specs.Freeing.{emptied, told, VisitAsks, Visited, ShortenAsks}
 
 -- ---- one entry's number
-told-none : (l : Layout) (n : ℕ) → told l n 0 ≡ false
-told-none l n = refl
-
 pub not-told : (l : Layout) (n x : ℕ) → x ≡ 0 → false ≡ told l n x
 not-told l n x e = rw e
 

@@ -37,10 +37,6 @@ module _ (start n : ℕ) where
   pub end-within : start / 256 + touchedCount start n < 16777217 → start / 256 + touchedCount start n ≡ windowEnd start n
   end-within l = rw (lt-leb 16777217 (start / 256 + touchedCount start n) l)
 
-  -- it is the smaller of the two
-  end-either : (start / 256 + touchedCount start n < 16777217) → windowEnd start n ≡ start / 256 + touchedCount start n
-  end-either l = sym (end-within l)
-
   pub end-top : windowEnd start n ≤ 16777217
   end-top =
       ⊎-elim (λ (l : start / 256 + touchedCount start n < 16777217). let e = end-within l in omega arith)

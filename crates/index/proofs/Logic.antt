@@ -1,6 +1,6 @@
 -- Facts on tests and numbers that the laws share.
 -- Assumes nothing.
-use mathlib.Core.Path.{_≡_, refl}
+use mathlib.Core.Path.{_≡_, refl, sym}
 use mathlib.Core.Logic.{_⊎_, inl, inr}
 use mathlib.Core.Bool.{Bool, true, false, _&&_, false≢true, and-false}
 use Prim.Native.Nat.{ℕ, _≤_, _<_}
@@ -41,3 +41,9 @@ and-both a b p q = rw (p, q)
 
 pub lt-by : {a b x y : ℕ} → a ≡ x → b ≡ y → x < y → a < b
 lt-by p q h = omega arith
+
+-- two tests that hold together are the same
+pub both-ways : (a b : Bool) → (a ≡ true → b ≡ true) → (b ≡ true → a ≡ true) → a ≡ b
+both-ways true b f g = sym (f refl)
+both-ways false true f g = g refl
+both-ways false false f g = refl

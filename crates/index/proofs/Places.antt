@@ -1,13 +1,14 @@
 -- Where a key stands.
 -- Assumes nothing.
-use mathlib.Core.Path.{_≡_, sym, ap, _∙_}
+use mathlib.Core.Path.{_≡_, refl, sym, ap, _∙_}
 use mathlib.Core.Logic.{⊎-elim}
-use mathlib.Core.Bool.{true}
+use mathlib.Core.Bool.{true, cond}
 use mathlib.Core.List.{List, [], _∷_}
 use Prim.Native.Nat.{ℕ, zero, suc, _≤_, _<_, zero-le, suc-le-suc}
 use native.Mathlib.Nat.{le-refl, le-of-suc-le-suc, not-suc-le-zero, eq-or-lt-of-le, le-antisymm}
 use native.Mathlib.Omega.{arith}
-use lib.ListN.{length, getD}
+use lib.Dec.{eqb}
+use lib.ListN.{length, getD, set}
 use borrow.Author.Tests.{eq-eqb, ne-eqb}
 use Rattle.index.specs.Index.{all, keyAt, rises, usedCount, indexed, seek, LowerBound}
 use Rattle.index.proofs.Logic.{same-or-not, lt-or-ge, le-of-not-lt}
@@ -20,6 +21,13 @@ seek-here h ks k e = rw (eq-eqb h k e)
 seek-there : (h : ℕ) (ks : List ℕ) (k : ℕ) → (h ≡ k → ⊥) → seek (h ∷ ks) k ≡ suc (seek ks k)
 unfolding seek
 seek-there h ks k n = rw (ne-eqb h k n)
+
+-- a place that was free is given the key k: the others stand where they stood
+pub seek-other : (ks : List ℕ) (s k j : ℕ) → getD ks s 0 ≡ 0 → 0 < j → (j ≡ k → ⊥) → seek (set ks s k) j ≡ seek ks j
+unfolding seek
+seek-other [] s k j z p n = refl
+seek-other (x ∷ ks) zero k j z p n = rw (ne-eqb k j (λ e. n (sym e)), ne-eqb x j (λ e. omega arith))
+seek-other (x ∷ ks) (suc s) k j z p n = ap (λ (r : ℕ). cond (eqb x j) 0 (suc r)) (seek-other ks s k j z p n)
 
 pub seek-hit : (ks : List ℕ) (k : ℕ) → seek ks k < length ks → getD ks (seek ks k) 0 ≡ k
 seek-hit [] k l = absurd (not-suc-le-zero l)

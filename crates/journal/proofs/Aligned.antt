@@ -9,6 +9,7 @@ use native.Mathlib.Omega.{arith}
 use lib.Dec.{eqb}
 use lib.ListN.{length, length-append}
 use borrow.Author.Tests.{eq-eqb}
+use Rattle.formed.proofs.Same.{tab-long}
 use Rattle.page_ids.specs.declared.Layout.{Layout}
 use Rattle.store.specs.Mem.{Mem, layoutOf, journalRoom}
 use Rattle.formed.specs.Pages.{journalPage}
@@ -18,7 +19,7 @@ use Rattle.view.specs.Does.{Shows}
 use Rattle.view.specs.Inner.{noting, NoteAsks}
 use Rattle.view.proofs.Equal.{view-by}
 use Rattle.journal.specs.Steps.{noteOf, alignedFrom, AlignedAsks}
-use Rattle.journal.proofs.Lists.{tab-snoc, tab-long}
+use Rattle.journal.proofs.Lists.{tab-snoc}
 use Rattle.journal.proofs.Shown.{shows-then, shows-same}
 
 module _ (m₀ : Mem) (j first n : ℕ) (asks : AlignedAsks m₀ j first n) where

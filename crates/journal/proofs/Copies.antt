@@ -9,10 +9,10 @@ use native.Mathlib.Omega.{arith}
 use lib.ListN.{length, getD, set}
 use lib.Seq.{getD-set-same, getD-set-other}
 use borrow.Author.Tests.{lt-ltb, le-ltb}
+use Rattle.formed.proofs.Same.{tab-is}
 use Rattle.index.proofs.Logic.{same-or-not, lt-or-ge}
 use Rattle.formed.specs.Parts.{tab}
 use Rattle.journal.specs.Words.{placeIn, Spread}
-use Rattle.journal.proofs.Lists.{tab-is}
 
 -- ---- the loop of a copy
 pub copy-none : (f g : ℕ → ℕ) (ds : List ℕ) → Spread f g 0 ds ds

@@ -30,8 +30,7 @@ use Rattle.view.specs.Does.{Shows}
 use Rattle.view.specs.Inner.{putting}
 use Rattle.view.proofs.Equal.{view-by}
 use Rattle.journal.specs.Words.{placeIn, Spread, oldPlace}
-use Rattle.formed.proofs.Same.{tab-upto}
-use Rattle.journal.proofs.Lists.{tab-long, tab-at}
+use Rattle.formed.proofs.Same.{tab-upto, tab-at, tab-long}
 use Rattle.journal.proofs.Kept.{noteIn, note-same}
 use Rattle.journal.proofs.Places.{page-entry}
 use Rattle.journal.proofs.Copies as copies

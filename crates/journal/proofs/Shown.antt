@@ -5,12 +5,12 @@ use mathlib.Core.List.{[]}
 use Prim.Native.Nat.{ℕ, _+_, _≤_, _<_}
 use lib.ListN.{length, getD}
 use borrow.Author.Tests.{lt-ltb, le-ltb}
+use Rattle.formed.proofs.Same.{tab-long}
 use Rattle.store.specs.Mem.{Mem, journalLength}
 use Rattle.formed.specs.Pages.{journalCount}
 use Rattle.formed.specs.Parts.{journal, noteAddress, oldAt, tab}
 use Rattle.view.specs.View.{View, Setting, settingOf, viewOf}
 use Rattle.view.specs.Does.{Shows}
-use Rattle.journal.proofs.Lists.{tab-long}
 
 -- a step after another
 pub shows-then : (s : Setting) (v : View) (m₁ m₂ : Mem) (step : View → View) → Shows s v m₁ → Shows (settingOf m₁) (step (viewOf m₁)) m₂ → Shows s (step v) m₂

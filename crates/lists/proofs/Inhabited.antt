@@ -9,8 +9,8 @@ use native.Mathlib.Omega.{arith}
 use lib.Dec.{ltb, eqb}
 use lib.ListN.{length, set}
 use borrow.Author.Tests.{eqb-true}
-use Rattle.reads.proofs.Tabs.{length-tab}
 use denote.Ref.{RefT}
+use Rattle.formed.proofs.Same.{tab-long}
 use Rattle.outcome.specs.Outcome as outcomes
 use Rattle.outcome.specs.Outcome.{Outcome, refused, panicked, done, carriedOut}
 use Rattle.outcome.specs.declared.Answer.{Answer}
@@ -181,7 +181,7 @@ taken-long m p x y l = go (wellFormed m) (eqb (length l) (y - x)) refl
     go : (b c : Bool) → eqb (length l) (y - x) ≡ c → length (taken (cond (not b) (refused 3) (cond (not c) (refused 8) (done tt))) l (run (viewOf m) p x (y - x))) ≡ length l
     go false c e = refl
     go true false e = refl
-    go true true e = length-tab (y - x) (λ i. viewOf m .bytes p (x + i)) ∙ sym (eqb-true (length l) (y - x) e)
+    go true true e = tab-long (y - x) (λ i. viewOf m .bytes p (x + i)) ∙ sym (eqb-true (length l) (y - x) e)
 
 pub can-read-range : (p x y : ℕ) (l : List ℕ) → Answers (ReadRange p x y (length l))
 can-read-range p x y l m =

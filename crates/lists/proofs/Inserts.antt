@@ -9,12 +9,12 @@ use native.Mathlib.Omega.{arith}
 use lib.Dec.{leb}
 use lib.ListN.{length, getD, set, length-set}
 use borrow.Author.Tests.{le-leb, lt-leb}
+use Rattle.formed.proofs.Same.{tab-at, tab-long}
 use Rattle.index.specs.Index.{all, usedCount, keyAt, rises, indexed, LowerBound, MovedUp, Insertable}
 use Rattle.index.proofs.Logic.{lt-or-ge}
 use Rattle.index.proofs.Orders.{sorted, index-rises}
 use Rattle.index.proofs.Inserts.{inserted}
 use Rattle.formed.specs.Parts.{tab}
-use Rattle.journal.proofs.Lists.{tab-long, tab-at}
 
 -- ---- a free place
 pub record Free (ks : List ℕ) : Type 0 where

@@ -8,6 +8,7 @@ use native.Mathlib.Numerals.{add-one}
 use native.Mathlib.Omega.{arith}
 use lib.ListN.{length, getD, set, take, drop, length-set, length-drop, length-append, replicate}
 use lib.Seq.{length-take-le}
+use Rattle.formed.proofs.Same.{tab-at}
 use Rattle.formed.proofs.Asks.{slots-asked}
 use Rattle.index.specs.Index.{seek}
 use Rattle.index.proofs.Logic.{lt-or-ge}
@@ -28,7 +29,6 @@ use Rattle.pages.proofs.Taking as taking
 use Rattle.pages.proofs.Listing.{listed-already, entry-asks, listed-now}
 use Rattle.journal.specs.Words.{placeIn, Spread, InSlots, numberOf, oldPlace, noteSet}
 use Rattle.journal.specs.Steps.{alignedFrom, AlignedAsks, restoring, undoing, UndoAsks, RollBackAsks}
-use Rattle.journal.proofs.Lists.{tab-at}
 use Rattle.journal.proofs.Copies.{copy-none, copy-more, spread-same, put-one, put-two}
 use Rattle.journal.proofs.Numbers.{number-lt}
 use Rattle.journal.proofs.Notes.{note-room, note-shows}

@@ -10,6 +10,7 @@ use lib.Dec.{leb}
 use lib.ListN.{length, getD, set, take, drop, length-set, length-append, length-map, length-drop, List·getD-eq-default}
 use lib.Seq.{getD-take, getD-set-same, getD-set-other, length-take-le}
 use borrow.Author.Tests.{le-leb, leb-true}
+use Rattle.formed.proofs.Same.{tab-at, tab-long}
 use Rattle.index.proofs.Logic.{lt-or-ge, and-left, le-of-not-lt}
 use Rattle.store.specs.Mem.{Mem, mem, layoutOf, slotCount, heldNow, inUse, holders, entries, slotOrder, pageOrder}
 use Rattle.store.proofs.Parts.{take-front, drop-front}
@@ -24,7 +25,6 @@ use Rattle.view.specs.View.{settingOf, viewOf}
 use Rattle.view.specs.Steps.{without}
 use Rattle.view.proofs.Counts.{fixed-only}
 use Rattle.drops.proofs.Thinned.{Thinned, thinned-shows}
-use Rattle.journal.proofs.Lists.{tab-long, tab-at}
 use Rattle.lists.proofs.Picks.{thin, thin-at, Picked, picked}
 use Rattle.lists.proofs.Reach.{Reached}
 

@@ -1,17 +1,17 @@
 -- Calldata is put on its page.
 -- Assumes nothing.
 use mathlib.Core.Path.{_≡_, refl, sym, ap, _∙_, subst}
-use mathlib.Core.Bool.{Bool, true, false, cond, _&&_, _||_, false≢true}
+use mathlib.Core.Bool.{Bool, true, false, cond, _&&_, _||_}
 use mathlib.Core.List.{List, [], _++_}
 use Prim.Native.Nat.{ℕ, zero, suc, _+_, _-_, _/_, _≤_, _<_, zero-le}
 use native.Mathlib.Omega.{arith}
 use lib.Dec.{leb, ltb, eqb}
 use lib.ListN.{length}
-use borrow.Author.Tests.{lt-ltb, le-ltb, le-leb, eq-eqb, eqb-true, leb-true}
-use Rattle.page_ids.specs.Decode.{Page, none, page, decoded}
+use borrow.Author.Tests.{lt-ltb, le-ltb, le-leb, eq-eqb, eqb-true}
+use Rattle.page_ids.specs.Decode.{page}
 use Rattle.page_ids.specs.declared.Layout.{Layout}
 use Rattle.store.specs.Mem.{Mem, layoutOf, slotCount}
-use Rattle.formed.specs.Pages.{LayoutRule, fixed, dynamic, isFixed, isDynamic, group, journalCount, journalPage}
+use Rattle.formed.specs.Pages.{LayoutRule, fixed, group, journalCount, journalPage}
 use Rattle.formed.specs.Parts.{Note}
 use Rattle.formed.proofs.Pages.{is-fixed}
 use Rattle.view.specs.View.{View, Setting, viewOf, settingOf}
@@ -20,6 +20,7 @@ use Rattle.view.specs.Inner.{holding, putting, HoldAsks, PutAsks}
 use Rattle.view.specs.Does.{Shows}
 use Rattle.view.proofs.Equal.{view-by}
 use Rattle.view.proofs.Compose.{plain-write}
+use Rattle.view.proofs.Counts.{fixed-only}
 use Rattle.opening.specs.Opening.{CalldataAsks}
 use Rattle.opening.proofs.Refusals.{touched-is}
 
@@ -35,15 +36,6 @@ missing-le f k (suc n) = let h = missing-le f k n in go (f (k + n)) h
 either : {A : Type 0} (b : Bool) (x : A) → cond b x x ≡ x
 either true x = refl
 either false x = refl
-
--- a fixed page is not dynamic
-unfixed : (y : Page) → isFixed y ≡ true → isDynamic y ≡ false
-unfixed none e = absurd (false≢true e)
-unfixed (page kind g) e = le-ltb kind 3 (leb-true 3 kind e)
-
-fixed-still : (l : Layout) (p : ℕ) → fixed l p ≡ true → dynamic l p ≡ false
-unfolding fixed dynamic
-fixed-still l p e = unfixed (decoded l p) e
 
 -- in a new memory a write of no bytes to a fixed page changes nothing
 module _ (s : Setting) (p : ℕ) (f : fixed (s .layout) p ≡ true) where
@@ -79,7 +71,7 @@ module _ (s : Setting) (p : ℕ) (f : fixed (s .layout) p ≡ true) where
   fresh-listed =
       view-by (written (s .layout) p 0 [] [] (fresh s)) (fresh s) no-bytes none-held pool-kept fixed-kept
       (ap (λ (b : Bool). cond b (s .pages) (s .pages - 1)) f)
-      (ap (λ (b : Bool). cond b (max 0 (group (s .layout) p + 1)) 0) (fixed-still (s .layout) p f))
+      (ap (λ (b : Bool). cond b (max 0 (group (s .layout) p + 1)) 0) (fixed-only (s .layout) p f))
       no-notes
 
 -- the calldata page has no journal

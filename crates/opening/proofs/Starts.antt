@@ -11,6 +11,7 @@ use lib.Dec.{ltb}
 use lib.ListN.{length, getD, set, take, drop, replicate, length-append, length-drop, length-replicate, drop-of-length-le}
 use lib.Seq.{length-take-le, getD-drop}
 use borrow.Author.Tests.{le-ltb}
+use Rattle.index.proofs.Logic.{both-ways}
 use Rattle.store.specs.Mem.{Mem, mem, chunks}
 use Rattle.store.proofs.Parts.{sub-zero, take-front, drop-front, put-long, rest-part}
 use Rattle.formed.specs.Pages.{LayoutRule, fixed, journalCount}
@@ -48,11 +49,6 @@ head-stores a b c d e f g h i (_ ∷ _ ∷ _ ∷ _ ∷ _ ∷ _ ∷ _ ∷ _ ∷ _
 head-stores a b c d e f g h i (_ ∷ _ ∷ _ ∷ _ ∷ _ ∷ _ ∷ _ ∷ _ ∷ _ ∷ _ ∷ _ ∷ _ ∷ _ ∷ _ ∷ w) l = refl
 
 -- ---- tests
-both-ways : (a b : Bool) → (a ≡ true → b ≡ true) → (b ≡ true → a ≡ true) → a ≡ b
-both-ways true b f g = sym (f refl)
-both-ways false true f g = g refl
-both-ways false false f g = refl
-
 never : (a : Bool) → (a ≡ true → ⊥) → a ≡ false
 never true h = absurd (h refl)
 never false h = refl

@@ -3,8 +3,8 @@
 use mathlib.Core.Path.{_≡_, refl, sym, ap, _∙_, subst, fun-ext}
 use mathlib.Core.Logic.{⊎-elim}
 use mathlib.Core.Bool.{true, false, cond, _||_, false≢true}
-use mathlib.Core.List.{List, [], _∷_}
-use Prim.Native.Nat.{ℕ, zero, suc, _+_, _*_, _-_, _/_, _%_, _≤_, _<_}
+use mathlib.Core.List.{List, []}
+use Prim.Native.Nat.{ℕ, _+_, _*_, _-_, _/_, _%_, _≤_, _<_}
 use native.Mathlib.Nat.{div-le-of-le-mul}
 use native.Mathlib.Omega.{arith}
 use lib.Dec.{ltb, eqb}
@@ -16,7 +16,7 @@ use Rattle.page_ids.specs.declared.Layout.{Layout}
 use Rattle.index.specs.Index.{indexed, seek, freeCount}
 use Rattle.index.proofs.Logic.{same-or-not, lt-or-ge}
 use Rattle.index.proofs.Counts.{used-free, count-fill}
-use Rattle.index.proofs.Places.{seek-hit, seek-le}
+use Rattle.index.proofs.Places.{seek-hit, seek-le, seek-other}
 use Rattle.index.proofs.Meaning.{once}
 use Rattle.store.specs.Mem.{Mem, mem, layoutOf, slotCount, pageCount, journalRoom, journalLength, inUse, dynamicLength, holders, entries, slotOrder, pageOrder, chunks}
 use Rattle.formed.specs.Pages.{LayoutRule, fixed, dynamic, group, journalPlace}
@@ -51,13 +51,6 @@ max-upto d g n a b = ⊎-elim (λ (l : d ≤ g). rw (le-leb d g l) b) (λ (l : g
 
 max-same : (d g : ℕ) → g ≤ d → d ≡ max d g
 max-same d g l = let a = max-low d g in let b = max-upto d g d (omega arith) l in omega arith
-
--- a place that was free is given the key k: the others stand where they stood
-seek-other : (ks : List ℕ) (s k j : ℕ) → getD ks s 0 ≡ 0 → 0 < j → (j ≡ k → ⊥) → seek (set ks s k) j ≡ seek ks j
-unfolding seek
-seek-other [] s k j z p n = refl
-seek-other (x ∷ ks) zero k j z p n = rw (ne-eqb k j (λ e. n (sym e)), ne-eqb x j (λ e. omega arith))
-seek-other (x ∷ ks) (suc s) k j z p n = ap (λ (r : ℕ). cond (eqb x j) 0 (suc r)) (seek-other ks s k j z p n)
 
 -- word i of journal j
 abbrev noteOf : Mem → ℕ → ℕ → Note

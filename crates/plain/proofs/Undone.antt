@@ -10,6 +10,7 @@ use native.Mathlib.Nat.{le-of-suc-le-suc, not-suc-le-zero, eq-or-lt-of-le, lt-tr
 use lib.Dec.{leb, eqb}
 use lib.ListN.{length, getD, take, drop, take-append-drop}
 use borrow.Author.Tests.{lt-ltb, le-ltb, le-leb, lt-leb, eq-eqb, ne-eqb}
+use Rattle.formed.proofs.Same.{tab-at, tab-long}
 use Rattle.index.proofs.Logic.{lt-or-ge, and-false-right}
 use Rattle.page_ids.specs.declared.Layout.{Layout}
 use Rattle.formed.specs.Pages.{journalPage}
@@ -17,17 +18,6 @@ use Rattle.formed.specs.Parts.{Note, tab}
 use Rattle.view.specs.Steps.{over, undone, rolledBytes, alignedCount}
 
 -- ---- runs of bytes
-length-tab : {A : Type 0} (n : ℕ) (f : ℕ → A) → length (tab n f) ≡ n
-unfolding tab
-length-tab zero f = refl
-length-tab (suc n) f = ap suc (length-tab n (λ i. f (suc i)))
-
-getD-tab : {A : Type 0} (n : ℕ) (f : ℕ → A) (i : ℕ) (d : A) → i < n → getD (tab n f) i d ≡ f i
-unfolding tab
-getD-tab zero f i d l = absurd (not-suc-le-zero l)
-getD-tab (suc n) f zero d l = refl
-getD-tab (suc n) f (suc i) d l = getD-tab n (λ j. f (suc j)) i d (le-of-suc-le-suc l)
-
 -- ---- bytes written over others
 module _ (p a : ℕ) (bs : List ℕ) (f : ℕ → ℕ → ℕ) where
   pub over-page : (q b : ℕ) → (q ≡ p → ⊥) → over p a bs f q b ≡ f q b
@@ -94,17 +84,17 @@ module _ (p : ℕ) (f : ℕ → ℕ → ℕ) where
   -- a word put back gives its own bytes
   word-in : (a : ℕ) (g : ℕ → ℕ → ℕ) (b : ℕ) → a ≤ b → b < a + 32 → over p a (tab 32 (λ i. f p (a + i))) g p b ≡ f p b
   word-in a g b l h =
-      let n : length (tab 32 (λ i. f p (a + i))) ≡ 32 = length-tab 32 (λ i. f p (a + i)) in
+      let n : length (tab 32 (λ i. f p (a + i))) ≡ 32 = tab-long 32 (λ i. f p (a + i)) in
       let e : a + (b - a) ≡ b = omega arith in
       over-in p a (tab 32 (λ i. f p (a + i))) g b l (omega arith)
-      ∙ getD-tab 32 (λ i. f p (a + i)) (b - a) 0 (omega arith)
+      ∙ tab-at 32 (λ i. f p (a + i)) (b - a) (omega arith)
       ∙ ap (f p) e
 
   -- and no others
   word-out : (a : ℕ) (g : ℕ → ℕ → ℕ) (b : ℕ) → (b < a) ⊎ (a + 32 ≤ b) → over p a (tab 32 (λ i. f p (a + i))) g p b ≡ g p b
   word-out a g b =
       ⊎-elim (λ l. over-below p a (tab 32 (λ i. f p (a + i))) g p b l)
-      (λ h. let n : length (tab 32 (λ i. f p (a + i))) ≡ 32 = length-tab 32 (λ i. f p (a + i)) in
+      (λ h. let n : length (tab 32 (λ i. f p (a + i))) ≡ 32 = tab-long 32 (λ i. f p (a + i)) in
       over-past p a (tab 32 (λ i. f p (a + i))) g p b (omega arith))
 
   -- words of f put back over g give f where g has f's byte, and where one of them has it

@@ -9,6 +9,7 @@ use lib.Dec.{eqb}
 use lib.ListN.{length, getD, take, drop, replicate}
 use lib.Seq.{length-take-le}
 use borrow.Author.Tests.{lt-ltb, le-ltb, eq-eqb, ne-eqb, eqb-true, not-true, not-false}
+use Rattle.formed.proofs.Same.{tab-long}
 use Rattle.store.proofs.Parts.{sub-zero}
 use Rattle.index.proofs.Logic.{and-left, and-right}
 use Rattle.outcome.specs.Outcome.{Outcome, refused, done, carriedOut, firstOf}
@@ -23,7 +24,6 @@ use Rattle.view.specs.Steps.{run, padded}
 use Rattle.view.specs.Checks.{Check, onMemory, partialChecks, rangeChecks, lookupChecks}
 use Rattle.view.specs.Calls.{shown}
 use Rattle.reads.specs.Calls.{ReadDoes, RangeDoes}
-use Rattle.reads.proofs.Tabs.{length-tab}
 
 -- a test by a call: `if !call() {..}`
 pub passed : {b x : Bool} → b ≡ x → not b ≡ false → x ≡ true
@@ -99,7 +99,7 @@ pub padded-is : (v : View) (p a n : ℕ) (e : List ℕ) → n ≤ 32 → e ≡ r
 padded-is v p a n e h r =
     let q : length (take (n - 0) (nulls 32)) ≡ n = ap (λ (x : ℕ). length (take x (nulls 32))) (sub-zero n) ∙ length-take-le n (nulls 32) h in
     let s : e ≡ run v p a n = r ∙ ap (run v p a) q in
-    let l : n ≡ length (run v p a n) = sym (length-tab n (λ i. v .bytes p (a + i))) in
+    let l : n ≡ length (run v p a n) = sym (tab-long n (λ i. v .bytes p (a + i))) in
     let d : drop (n - 0) (nulls 32) ≡ nulls (32 - length (run v p a n)) = ap (λ (x : ℕ). drop x (nulls 32)) (sub-zero n) ∙ drop-nulls n 32 ∙ ap (λ (x : ℕ). nulls (32 - x)) l in
     ap (λ (x : List ℕ). e ++ x) d ∙ ap (λ (x : List ℕ). x ++ nulls (32 - length (run v p a n))) s
 
@@ -137,6 +137,6 @@ module _ (m : Mem) (f : wellFormed m ≡ true) where
 pub marks-are : (m : Mem) → _≡_ {A = ℕ × ℕ} (getD (m .words) 12 0, getD (m .words) 13 0) (length (viewOf m .journal 0), length (viewOf m .journal 1))
 unfolding journal
 marks-are m =
-    let heap : getD (m .words) 12 0 ≡ length (viewOf m .journal 0) = sym (length-tab (journalLength (m .words) 0) _) in
-    let aux : getD (m .words) 13 0 ≡ length (viewOf m .journal 1) = sym (length-tab (journalLength (m .words) 1) _) in
+    let heap : getD (m .words) 12 0 ≡ length (viewOf m .journal 0) = sym (tab-long (journalLength (m .words) 0) _) in
+    let aux : getD (m .words) 13 0 ≡ length (viewOf m .journal 1) = sym (tab-long (journalLength (m .words) 1) _) in
     λ i. (heap i, aux i)

@@ -9,6 +9,7 @@ use lib.Dec.{eqb}
 use lib.ListN.{length, getD, take, drop, length-drop, List·getD-eq-default}
 use lib.Seq.{getD-take, getD-drop, length-take-le}
 use borrow.Author.Tests.{le-leb, lt-leb, eqb-true}
+use Rattle.formed.proofs.Same.{tab-is}
 use Rattle.index.specs.Index.{seek}
 use Rattle.index.proofs.Logic.{and-left, and-right}
 use Rattle.store.specs.Mem.{Mem, slotCount, chunks}
@@ -17,7 +18,6 @@ use Rattle.formed.specs.Formed.{zeros}
 use Rattle.formed.specs.WellFormed.{WellFormed}
 use Rattle.formed.proofs.Sizes.{chunks-long}
 use Rattle.reads.specs.Reading.{slotOf, byteOf, Put}
-use Rattle.reads.proofs.Tabs.{tab-is}
 use Rattle.reads.proofs.Puts.{put-by, put-on}
 
 -- the view's byte is that of the page's entry

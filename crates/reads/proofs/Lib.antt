@@ -1,6 +1,5 @@
 -- The laws that the proofs of this crate and of those above it share.
 
-pub mod Tabs
 pub mod Puts
 pub mod Bytes
 pub mod Answers

@@ -1,23 +1,19 @@
 -- Whether the journal of a page has room.
 -- Assumes nothing.
-use mathlib.Core.Path.{_≡_, refl, sym, ap, _∙_}
+use mathlib.Core.Path.{_≡_, refl, sym, _∙_}
 use mathlib.Core.Bool.{Bool, true, false, _||_}
-use Prim.Native.Nat.{ℕ, zero, suc, _+_, _<_}
+use Prim.Native.Nat.{ℕ, _+_, _<_}
 use native.Mathlib.Omega.{arith}
 use lib.Dec.{ltb}
 use lib.ListN.{length, getD}
 use borrow.Author.Tests.{lt-ltb, eq-eqb, ne-eqb}
+use Rattle.formed.proofs.Same.{tab-long}
 use Rattle.store.specs.Mem.{Mem, journalRoom, journalLength}
 use Rattle.formed.specs.Pages.{journalCount}
-use Rattle.formed.specs.Parts.{tab, journal}
+use Rattle.formed.specs.Parts.{journal}
 use Rattle.formed.specs.WellFormed.{WellFormed}
 use Rattle.view.specs.View.{settingOf, viewOf}
 use Rattle.view.specs.Checks.{overfull}
-
-tab-long : {A : Type 0} (n : ℕ) (f : ℕ → A) → length (tab n f) ≡ n
-unfolding tab
-tab-long zero f = refl
-tab-long (suc n) f = ap suc (tab-long n (λ i. f (suc i)))
 
 pub journal-long : (m : Mem) (j : ℕ) → j < journalCount → length (viewOf m .journal j) ≡ journalLength (m .words) j
 unfolding journal

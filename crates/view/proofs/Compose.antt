@@ -1,7 +1,7 @@
 -- A write is made of the inner steps: the page is allocated, its chunks held, the words journalled, the bytes put.
 -- Assumes nothing.
 use mathlib.Core.Path.{_≡_, refl, sym, ap, _∙_}
-use mathlib.Core.Bool.{Bool, true, false, cond, _&&_, _||_}
+use mathlib.Core.Bool.{Bool, true, false, cond, _&&_}
 use mathlib.Core.List.{List, [], _++_, append-nil}
 use mathlib.Core.Logic.{⊎-elim}
 use Prim.Native.Nat.{ℕ, zero, suc, _+_, _-_, _/_, _<_, _≤_, zero-le}
@@ -17,9 +17,6 @@ use Rattle.view.specs.View.{View}
 use Rattle.view.specs.Steps.{over, touches, touchedCount, missing, journalled, written}
 use Rattle.view.specs.Inner.{holding, noting, journalling, putting}
 use Rattle.view.proofs.Equal.{view-by}
-
-or-none : (b : Bool) → (false || b) ≡ b
-or-none b = refl
 
 and-none : (b : Bool) → (b && false) ≡ false
 and-none true = refl

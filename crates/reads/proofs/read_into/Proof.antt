@@ -4,10 +4,10 @@ use native.Mathlib.Nat.{not-suc-le-zero}
 use native.Mathlib.Omega.{arith}
 use lib.ListN.{length, getD}
 use borrow.Author.Needs.{needs}
+use Rattle.formed.proofs.Same.{tab-is}
 use Rattle.formed.proofs.Asks.{entry-few, pages-asked}
 use Rattle.store.specs.Mem.{mem}
 use Rattle.formed.specs.Parts.{byteAt}
-use Rattle.reads.proofs.Tabs.{tab-is}
 use Rattle.reads.proofs.Bytes.{part-on}
 use Rattle.reads.proofs.read_into.Statement.{statement}
 use Rattle.reads.proofs.read_into.Tie as tie

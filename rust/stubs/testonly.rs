@@ -18,6 +18,7 @@ use crate::{
 mod framed;
 mod limits;
 mod plain;
+pub mod speed;
 
 const LAYOUT: Layout = Layout {
     static_memory: STATIC_MEMORY_PAGE,

@@ -4,3 +4,4 @@ pub mod Overs
 pub mod Kept
 pub mod Pieces
 pub mod Puts
+pub mod Words

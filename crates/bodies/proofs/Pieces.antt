@@ -18,8 +18,7 @@ use Rattle.view.specs.View.{settingOf, viewOf}
 use Rattle.view.specs.Steps.{over}
 use Rattle.view.specs.Does.{Shows}
 use Rattle.view.specs.Inner.{putting}
-use Rattle.bodies.specs.Copied.{Copied}
-use Rattle.bodies.proofs.Copies.{copied-off}
+use Rattle.bodies.specs.Words.{Spread}
 use Rattle.bodies.proofs.Overs.{over-by}
 use Rattle.bodies.proofs.Kept.{Bodies, withBytes, cut-same, slot-same, body-kept, body-shows}
 
@@ -38,18 +37,22 @@ slot-holds : (m : Mem) (q k : ℕ) → slotOfChunk m q k < slotCount (m .words) 
 unfolding holds
 slot-holds m q k l = lt-ltb (slotOfChunk m q k) (slotCount (m .words)) l
 
+-- .. and so do the searches
+pub held-here : (m : Mem) → WellFormed m → (s p k : ℕ) → slotOfChunk m p k ≡ s → s < slotCount (m .words) → HeldAt m s p k
+held-here m f s p k e l = subst (λ (x : ℕ). HeldAt m x p k) e (holds-held m f p k (slot-holds m p k (omega arith)))
+
 -- n bytes of src are put at byte r of slot s, which holds chunk k of page p
-module _ (m : Mem) (f : WellFormed m) (s p k r : ℕ) (there : HeldAt m s p k) (src : List ℕ) (from n : ℕ) (bytes' : List ℕ) (copied : Copied (m .bytes) (256 * s + r) src from n bytes')
-    (fits : from + n ≤ length src) (within : r + n ≤ 256) (top : 256 * k + r + n ≤ 4294967327) where
+module _ (m : Mem) (f : WellFormed m) (s p k r : ℕ) (there : HeldAt m s p k) (src : List ℕ) (from n : ℕ) (bytes' : List ℕ) (long : length bytes' ≡ length (m .bytes))
+    (copied : Spread (λ i. 256 * s + r + i) (λ i. getD src (from + i) 0) n (m .bytes) bytes') (fits : from + n ≤ length src) (within : r + n ≤ 256) (top : 256 * k + r + n ≤ 4294967327) where
   piece-long : length (take n (drop from src)) ≡ n
   piece-long = length-take-le n (drop from src) (let l = length-drop from src in omega arith)
 
   outside : (b : ℕ) → (256 * s + r ≤ b → b < 256 * s + r + n → ⊥) → getD bytes' b 0 ≡ getD (m .bytes) b 0
-  outside b off = copied-off (m .bytes) (256 * s + r) src from n bytes' copied b off
+  outside b off = copied .off b (λ i l e. off (omega arith) (omega arith))
 
   pub piece-bodies : Bodies m bytes'
   piece-bodies = record {
-    long = copied .long;
+    long = long;
     pooled = λ t x l z lx.
         outside (256 * t + x) (λ lo hi.
         let e : s ≡ t = omega arith in
@@ -74,7 +77,7 @@ module _ (m : Mem) (f : WellFormed m) (s p k r : ℕ) (there : HeldAt m s p k) (
       ∙ held-byte (withBytes m bytes') (body-kept m f bytes' piece-bodies) s p k (b - 256 * k) (moved m bytes' s p k there) (omega arith)
       ∙ getD-take (256 * slotCount (m .words)) bytes' (256 * s + (b - 256 * k)) 0 (omega arith)
       ∙ ap (λ (y : ℕ). getD bytes' y 0) e₂
-      ∙ copied .inside (b - (256 * k + r)) (omega arith)
+      ∙ copied .on (b - (256 * k + r)) (omega arith)
       ∙ sym (getD-drop from src (b - (256 * k + r)) 0)
       ∙ sym (getD-take n (drop from src) (b - (256 * k + r)) 0 (omega arith))
 
@@ -85,8 +88,7 @@ module _ (m : Mem) (f : WellFormed m) (s p k r : ℕ) (there : HeldAt m s p k) (
       ap (λ (t : ℕ). getD (chunks (withBytes m bytes')) (256 * t + b % 256) 0) (slot-same m bytes' q (b / 256))
       ∙ cut-same (256 * slotCount (m .words)) bytes' (m .bytes) (256 * slotOfChunk m q (b / 256) + b % 256)
       (outside (256 * slotOfChunk m q (b / 256) + b % 256) (λ lo hi.
-      let e : slotOfChunk m q (b / 256) ≡ s = omega arith in
-      let h : HeldAt m s q (b / 256) = subst (λ (t : ℕ). HeldAt m t q (b / 256)) e (holds-held m f q (b / 256) (slot-holds m q (b / 256) (omega arith))) in
+      let h = held-here m f s q (b / 256) (omega arith) i in
       let c : b / 256 ≡ k = sym (h .chunk) ∙ there .chunk in
       let g : q + 1 ≡ p + 1 = sym (h .page) ∙ there .page in
       off (omega arith) (omega arith) (omega arith)))

@@ -1,22 +1,54 @@
 // Bytes put into chunks that are held.
+ghost use mathlib.Core.Path.{_≡_};
 ghost use Prim.Native.Nat.{_+_, _%_, _<_, _≤_};
-ghost use lib.ListN.{length};
+ghost use lib.ListN.{length, getD};
 ghost use Rattle.store.specs.Mem.{mem};
+ghost use Rattle.formed.specs.Parts.{tab};
 ghost use Rattle.view.specs.View.{settingOf, viewOf};
 ghost use Rattle.view.specs.Does.{Shows};
 ghost use Rattle.view.specs.Inner.{putting, PutAsks};
-ghost use Rattle.bodies.specs.Copied.{Copied};
+ghost use Rattle.bodies.specs.Words.{placeIn, Spread, InSlots};
 
-// Copies n bytes of src, from place `from` on, to the places of bytes from `at` on.
-pub fn copy_in(bytes: &mut [u8], at: usize, src: &[u8], from: usize, n: usize)
-    requires { ⌜ (at + n ≤ length (now bytes)) × (from + n ≤ length (now src)) ⌝ }
-    ensures { λ _. ⌜ Copied (now (bytes .entry)) at (now (src .entry)) from n (now (bytes .exit)) ⌝ }
+// Copies n bytes. Between two parts of one buffer they go through a local array.
+pub fn copy(src: &[u8], from: usize, dst: &mut [u8], to: usize, n: usize)
+    requires { ⌜ (from + n ≤ length (now src)) × (to + n ≤ length (now dst)) ⌝ }
+    ensures { λ _. ⌜ Spread (λ i. to + i) (λ i. getD (now (src .entry)) (from + i) 0) n (now (dst .entry)) (now (dst .exit)) ⌝ }
 {
     let mut i = 0;
     while i < n {
-        bytes[at + i] = src[from + i];
+        dst[to + i] = src[from + i];
         i += 1;
     }
+}
+
+// The word that begins at offset r of slot s and goes on in slot t.
+pub fn word_in(bytes: &[u8], s: usize, t: usize, r: usize) -> [u8; 32]
+    requires { ⌜ InSlots (now bytes) s t r ⌝ }
+    ensures { λ v. ⌜ v ≡ tab 32 (λ i. getD (now (bytes .entry)) (placeIn s t r i) 0) ⌝ }
+{
+    let mut word = [0u8; 32];
+    if r <= 224 {
+        copy(bytes, 256 * s + r, &mut word, 0, 32);
+        return word;
+    }
+    let n = 256 - r;
+    copy(bytes, 256 * s + r, &mut word, 0, n);
+    copy(bytes, 256 * t, &mut word, n, 32 - n);
+    word
+}
+
+// Puts a word that begins at offset r of slot s and goes on in slot t.
+pub fn put_word(bytes: &mut [u8], s: usize, t: usize, r: usize, word: [u8; 32])
+    requires { ⌜ InSlots (now bytes) s t r ⌝ }
+    ensures { λ _. ⌜ Spread (placeIn s t r) (λ i. getD word i 0) 32 (now (bytes .entry)) (now (bytes .exit)) ⌝ }
+{
+    if r <= 224 {
+        copy(&word, 0, bytes, 256 * s + r, 32);
+        return;
+    }
+    let n = 256 - r;
+    copy(&word, 0, bytes, 256 * s + r, n);
+    copy(&word, n, bytes, 256 * t, 32 - n);
 }
 
 // How many of `left` bytes at an address are put into its chunk.
@@ -44,13 +76,12 @@ pub fn write_from(
     requires { ⌜ PutAsks (mem (now bytes) (now keys) (now order) (now words)) page address (length (now src)) ⌝ }
     ensures { λ _. ⌜ Shows (settingOf (mem (now (bytes .entry)) (now (keys .entry)) (now (order .entry)) (now (words .entry)))) (putting page address (now (src .entry)) (viewOf (mem (now (bytes .entry)) (now (keys .entry)) (now (order .entry)) (now (words .entry))))) (mem (now (bytes .exit)) (now (keys .entry)) (now (order .entry)) (now (words .entry))) ⌝ }
 {
-    let e = store::entry_of(keys, order, words, page) as u64;
     let mut pos = 0;
     while pos < src.len() {
         let abs = address as u64 + pos as u64;
-        let s = store::slot_of(keys, order, words, e * 33554432 + abs / 256 + 1);
+        let s = store::place_of(keys, order, words, page, (abs / 256) as u32);
         let n = piece(abs, src.len() - pos);
-        copy_in(bytes, 256 * s + (abs % 256) as usize, src, pos, n);
+        copy(src, pos, bytes, 256 * s + (abs % 256) as usize, n);
         pos += n;
     }
 }

@@ -13,6 +13,8 @@ use Rattle.index.specs.Index.{seek}
 use Rattle.index.proofs.Places.{seek-hit}
 use Rattle.store.specs.Mem.{Mem, mem, slotCount, heldNow, holders, entries}
 use Rattle.store.specs.Hold.{lacks, Held}
+use Rattle.store.specs.Find.{slotFor, Learnt}
+use Rattle.store.proofs.Holds.{held-was}
 use Rattle.formed.specs.Parts.{keyOf, entryOf, allocated, holds}
 use Rattle.formed.specs.WellFormed.{WellFormed, keyEntry, keyChunk}
 use Rattle.formed.proofs.Keys.{key-entry, key-chunk}
@@ -21,8 +23,9 @@ use Rattle.view.specs.View.{View, viewOf, settingOf}
 use Rattle.view.specs.Steps.{missing}
 use Rattle.view.specs.Does.{Shows}
 use Rattle.view.specs.Inner.{holding, HoldAsks}
+use Rattle.view.proofs.Hints.{learnt-shows}
 use Rattle.chunks.proofs.Asks.{lacks-is}
-use Rattle.chunks.proofs.Ranges.{missing-more, missing-le, next-held, holding-none, holding-more}
+use Rattle.chunks.proofs.Ranges.{missing-more, missing-one, missing-le, next-held, holding-none, holding-more}
 use Rattle.chunks.proofs.Taking.{Took, took, took-shows}
 
 -- one chunk: what `hold` leaves of a well-formed memory, given the key of chunk n of the allocated page p
@@ -100,10 +103,60 @@ module _ (m₀ : Mem) (p k count : ℕ) (asks : HoldAsks m₀ p k count) (i : �
         pages = w .pages ∙ a .pages;
       }
 
+-- ---- one after the other: a chunk by itself, and then the next one
+-- with other hints
+pub after-learnt : (m₀ : Mem) (p k n : ℕ) (m : Mem) → After m₀ p k n m → (order' : List ℕ) → Learnt (m .order) (m .words) order' → After m₀ p k n (mem (m .bytes) (m .keys) order' (m .words))
+after-learnt m₀ p k n m a order' h = record { shows = learnt-shows (settingOf m₀) (holding p k n (viewOf m₀)) m order' (a .shows) h; pages = a .pages }
+
+-- chunk n of page p by itself
+module _ (bytes keys order words : List ℕ) (p n : ℕ) (asks : HoldAsks (mem bytes keys order words) p n 1) (key : ℕ) (is : key ≡ keyOf (entryOf (mem bytes keys order words) p) n) where
+  abbrev m₂ : Mem
+  m₂ = mem bytes keys order words
+
+  pub one-room : lacks (take (slotCount words) keys) key + heldNow words ≤ slotCount words
+  one-room = turn-room m₂ p n 1 asks 0 (omega arith) bytes keys order words (after-none m₂ p n (asks .formed)) (entryOf m₂ p) key refl (omega arith)
+
+  pub one-held : (s : ℕ) (keys' order' words' : List ℕ) → Held key keys order words s keys' order' words' → After m₂ p n 1 (mem bytes keys' order' words')
+  one-held = turn-after m₂ p n 1 asks 0 (omega arith) bytes keys order words (after-none m₂ p n (asks .formed)) (entryOf m₂ p) key refl (omega arith)
+
+  -- a hint knows its slot
+  pub one-known : (s : ℕ) → s < slotCount words → (s < slotCount words → s ≡ slotFor keys words p n) → After m₂ p n 1 m₂
+  one-known s l at = one-held s keys order words (held-was keys order words (slots-asked m₂ (asks .formed)) key (omega arith) s (at l ∙ ap (seek (take (slotCount words) keys)) (sym is)) l)
+
+-- .. and the next one
+module _ (m₀ : Mem) (p k count : ℕ) (asks : HoldAsks m₀ p k count) (i : ℕ) (more : i < count) (m : Mem) (a : After m₀ p k i m) where
+  pub next-key : (e key : ℕ) → e ≡ entryOf m₀ p → key ≡ keyOf e (k + i) → key ≡ keyOf (entryOf m p) (k + i)
+  next-key e key at is = let q : entryOf m p ≡ entryOf m₀ p = ap (λ (x : List ℕ). seek x (p + 1)) (a .pages) in omega arith
+
+  pub next-asks : HoldAsks m p (k + i) 1
+  next-asks = record {
+    formed = a .shows .formed;
+    listed = ap (λ (v : View). v .allocated p) (a .shows .view) ∙ asks .listed;
+    top = let t = asks .top in omega arith;
+    room =
+        let l : missing (viewOf m .held p) (k + i) 1 ≡ cond (viewOf m₀ .held p (k + i)) 0 1 =
+        missing-one (viewOf m .held p) (k + i) ∙ ap (λ (v : View). cond (v .held p (k + i)) 0 1) (a .shows .view) ∙ ap (λ (b : Bool). cond b 0 1) (next-held p k (viewOf m₀) i) in
+        let g = ap (λ (v : View). v .pool) (a .shows .view) in
+        let s = missing-more (viewOf m₀ .held p) k i in
+        let t = missing-le (viewOf m₀ .held p) k count (i + 1) (omega arith) in
+        let r = asks .room in
+        omega arith;
+  }
+
+  pub next-after : (m' : Mem) → Shows (settingOf m) (holding p (k + i) 1 (viewOf m)) m' → entries m' ≡ entries m → After m₀ p k (i + 1) m'
+  next-after m' d w = record {
+    shows = record {
+      formed = d .formed;
+      setting = d .setting ∙ a .shows .setting;
+      view = d .view ∙ ap (holding p (k + i) 1) (a .shows .view) ∙ holding-more p k (viewOf m₀) i;
+    };
+    pages = w ∙ a .pages;
+  }
+
 -- ---- counting those that are missing
-module _ (m : Mem) (f : WellFormed m) (p k i : ℕ) (near : k + i ≤ 16777216) (key s : ℕ) (is : key ≡ keyOf (entryOf m p) (k + i)) (at : s ≡ seek (holders m) key) where
+module _ (m : Mem) (p k i : ℕ) (near : k + i ≤ 16777216) (s : ℕ) (at : s ≡ slotFor (m .keys) (m .words) p (k + i)) where
   holds-now : holds m p (k + i) ≡ ltb s (slotCount (m .words))
-  holds-now = holds-near m p (k + i) near ∙ ap (λ (x : ℕ). ltb x (slotCount (m .words))) (ap (seek (holders m)) (sym is) ∙ sym at)
+  holds-now = holds-near m p (k + i) near ∙ ap (λ (x : ℕ). ltb x (slotCount (m .words))) (sym at)
 
   pub count-lack : slotCount (m .words) ≤ s → missing (holds m p) k (i + 1) ≡ missing (holds m p) k i + 1
   count-lack l = missing-more (holds m p) k i ∙ ap (λ (b : Bool). missing (holds m p) k i + cond b 0 1) (holds-now ∙ le-ltb s (slotCount (m .words)) l)

@@ -1,7 +1,8 @@
 // Chunks: which of a range are missing, and the missing ones taken from the pool.
 ghost use mathlib.Core.Path.{_≡_};
 ghost use Prim.Native.Nat.{_+_, _≤_};
-ghost use Rattle.store.specs.Mem.{mem};
+ghost use Rattle.store.specs.Mem.{mem, entries};
+ghost use Rattle.formed.specs.Parts.{keyOf, entryOf};
 ghost use Rattle.formed.specs.WellFormed.{WellFormed};
 ghost use Rattle.view.specs.View.{settingOf, viewOf};
 ghost use Rattle.view.specs.Steps.{missing};
@@ -21,20 +22,40 @@ pub fn lacking(
     requires { ⌜ (WellFormed (mem (now bytes) (now keys) (now order) (now words))) × (first + count ≤ 16777217) ⌝ }
     ensures { λ r. ⌜ r ≡ missing (viewOf (mem (now (bytes .entry)) (now (keys .entry)) (now (order .entry)) (now (words .entry))) .held page) first count ⌝ }
 {
-    let e = store::entry_of(keys, order, words, page);
-    // The key of the first chunk; the next ones follow it.
-    let k = e as u64 * 33554432 + 1 + first as u64;
     let c = words[6] as usize;
     let mut n = 0;
     let mut i = 0;
     while i < count {
-        let s = store::slot_of(keys, order, words, k + i as u64);
+        let s = store::place_of(keys, order, words, page, first + i);
         if s >= c {
             n += 1;
         }
         i += 1;
     }
     n
+}
+
+// The page, which is allocated, holds the chunk, whose key is k. Where a hint knows its slot, nothing is left to do. The pages keep their entries.
+fn hold_chunk(
+    bytes: &[u8],
+    keys: &mut [u64],
+    order: &mut [u32],
+    words: &mut [u64],
+    page: u32,
+    chunk: u32,
+    k: u64,
+)
+    requires { ⌜ HoldAsks (mem (now bytes) (now keys) (now order) (now words)) page chunk 1 ⌝ }
+    requires { ⌜ k ≡ keyOf (entryOf (mem (now bytes) (now keys) (now order) (now words)) page) chunk ⌝ }
+    ensures { λ _. ⌜ Shows (settingOf (mem (now (bytes .entry)) (now (keys .entry)) (now (order .entry)) (now (words .entry)))) (holding page chunk 1 (viewOf (mem (now (bytes .entry)) (now (keys .entry)) (now (order .entry)) (now (words .entry))))) (mem (now (bytes .entry)) (now (keys .exit)) (now (order .exit)) (now (words .exit))) ⌝ }
+    ensures { λ _. ⌜ entries (mem (now (bytes .entry)) (now (keys .exit)) (now (order .exit)) (now (words .exit))) ≡ entries (mem (now (bytes .entry)) (now (keys .entry)) (now (order .entry)) (now (words .entry))) ⌝ }
+{
+    let known = store::hinted(keys, order, words, page, chunk);
+    if known < words[6] as usize {
+        return;
+    }
+    let s = store::hold(keys, order, words, k);
+    store::learn(order, words, page, chunk, s);
 }
 
 // The page, which is allocated, holds them all.
@@ -55,7 +76,7 @@ pub fn hold_chunks(
     let k = e as u64 * 33554432 + 1 + first as u64;
     let mut i = 0;
     while i < count {
-        store::hold(keys, order, words, k + i as u64);
+        hold_chunk(bytes, keys, order, words, page, first + i, k + i as u64);
         i += 1;
     }
 }

@@ -14,3 +14,4 @@ pub mod Examples
 pub mod Same
 pub mod Above
 pub mod Asks
+pub mod Hints

@@ -73,12 +73,26 @@ pub fn rank_below(keys: &[u64], order: &[u32], n: usize, k: u64) -> usize
     base
 }
 
+// The same, the end first: a page that grows asks for keys past all others.
+fn rank(keys: &[u64], order: &[u32], n: usize, k: u64) -> usize
+    requires { ⌜ (n ≤ length (now order)) × (all (rises (now keys) (now order)) n ≡ true) ⌝ }
+    ensures { λ r. ⌜ LowerBound (now (keys .entry)) (now (order .entry)) n k r ⌝ }
+{
+    if 0 < n {
+        let s = order[n - 1] as usize;
+        if keys[s] < k {
+            return n;
+        }
+    }
+    rank_below(keys, order, n, k)
+}
+
 // The place of the key k, or the number of places where none has it.
 pub fn find(keys: &[u64], order: &[u32], n: usize, k: u64) -> usize
     requires { ⌜ (indexed (now keys) (now order) n ≡ true) × (0 < k) ⌝ }
     ensures { λ r. ⌜ r ≡ seek (now (keys .entry)) k ⌝ }
 {
-    let i = rank_below(keys, order, n, k);
+    let i = rank(keys, order, n, k);
     if n <= i {
         return keys.len();
     }
@@ -106,7 +120,7 @@ pub fn insert(keys: &mut [u64], order: &mut [u32], n: usize, s: u32, k: u64)
     requires { ⌜ Insertable (now keys) (now order) n s k ⌝ }
     ensures { λ _. ⌜ (now (keys .exit) ≡ set (now (keys .entry)) s k) × (indexed (now (keys .exit)) (now (order .exit)) (n + 1) ≡ true) ⌝ }
 {
-    let at = rank_below(keys, order, n, k);
+    let at = rank(keys, order, n, k);
     move_up(order, at, n);
     order[at] = s;
     keys[s as usize] = k;

@@ -1,6 +1,5 @@
 -- The laws that the proofs of this crate share.
 pub mod Lists
-pub mod Copies
 pub mod Numbers
 pub mod NoteSets
 pub mod Kept
@@ -8,6 +7,5 @@ pub mod Shown
 pub mod Cuts
 pub mod Places
 pub mod Notes
-pub mod Puts
 pub mod Undos
 pub mod Aligned

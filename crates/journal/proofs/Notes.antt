@@ -20,7 +20,8 @@ use Rattle.formed.proofs.Meaning.{facts-of, formed-by}
 use Rattle.view.specs.View.{settingOf, viewOf}
 use Rattle.view.specs.Does.{Shows}
 use Rattle.view.specs.Inner.{noting, NoteAsks}
-use Rattle.journal.specs.Words.{placeIn, Spread, numberOf, oldPlace, noteSet, NoteRoom, NotedAt}
+use Rattle.bodies.specs.Words.{placeIn, Spread}
+use Rattle.journal.specs.Words.{numberOf, oldPlace, noteSet, NoteRoom, NotedAt}
 use Rattle.journal.specs.Steps.{noteOf}
 use Rattle.formed.proofs.Same.{tab-upto}
 use Rattle.journal.proofs.Lists.{tab-snoc}

@@ -16,14 +16,14 @@ use Rattle.store.specs.Mem.{Mem, mem, layoutOf, slotCount, holders, entries, ch
 use Rattle.store.specs.Hold.{Indexed}
 use Rattle.formed.specs.Pages.{journalCount, journalPlace, journalPage}
 use Rattle.formed.specs.Parts.{keyOf, entryOf, slotOfChunk, holds, byteAt}
-use Rattle.formed.specs.WellFormed.{WellFormed, holder}
+use Rattle.formed.specs.WellFormed.{WellFormed, HeldAt, holder, keyEntry, keyChunk}
 use Rattle.formed.proofs.Sizes.{holders-long}
 use Rattle.formed.proofs.Pages.{place-lt}
-use Rattle.formed.proofs.Keys.{seek-is}
+use Rattle.formed.proofs.Keys.{seek-is, key-entry, key-chunk}
 use Rattle.formed.proofs.Meaning.{slots-index, page-once}
 use Rattle.formed.proofs.Sense.{slot-near}
-use Rattle.journal.specs.Words.{placeIn}
-use Rattle.journal.proofs.Copies as copies
+use Rattle.bodies.specs.Words.{placeIn}
+use Rattle.bodies.proofs.Copies as copies
 
 pub slots-indexed : (bytes keys order words : List ℕ) → WellFormed (mem bytes keys order words) → Indexed keys order words
 slots-indexed bytes keys order words w = record {
@@ -40,6 +40,14 @@ module _ (m : Mem) (w : WellFormed m) (j : ℕ) (which : j < journalCount) where
 
   pub page-entry : entryOf m page ≡ journalPlace j
   page-entry = seek-is (entries m) (page + 1) (journalPlace j) (page-once m w) (omega arith) (w .encoded .fixed-four (journalPlace j) (place-lt j which))
+
+  -- a slot with a key of the page holds that chunk
+  pub held-by : (s k : ℕ) → k ≤ 16777216 → holder m s ≡ keyOf (journalPlace j) k → HeldAt m s page k
+  held-by s k near e = record {
+    held = omega arith;
+    page = ap (λ (x : ℕ). getD (entries m) (keyEntry x) 0) e ∙ ap (λ (x : ℕ). getD (entries m) x 0) (key-entry (journalPlace j) k (omega arith)) ∙ w .encoded .fixed-four (journalPlace j) (place-lt j which);
+    chunk = ap keyChunk e ∙ key-chunk (journalPlace j) k (omega arith);
+  }
 
   -- the slot of a key of the page
   module _ (k : ℕ) (near : k ≤ 16777216) where

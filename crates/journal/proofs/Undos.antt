@@ -21,14 +21,16 @@ use Rattle.view.specs.Steps.{undone, rolledBytes, marks, rolledBack}
 use Rattle.view.specs.Does.{Shows}
 use Rattle.view.specs.Inner.{putting}
 use Rattle.view.proofs.Equal.{view-by}
-use Rattle.journal.specs.Words.{placeIn, Spread, InSlots, numberOf, notePlace, oldPlace, BackAsks, PutBack}
+use Rattle.bodies.specs.Words.{placeIn, Spread, InSlots}
+use Rattle.journal.specs.Words.{numberOf, notePlace, oldPlace, BackAsks, PutBack}
 use Rattle.journal.specs.Steps.{cutting, restoring, undoing, UndoAsks, RollBackAsks}
 use Rattle.journal.proofs.Lists.{tab-drop, tab-end}
-use Rattle.journal.proofs.Copies.{spread-same}
+use Rattle.bodies.proofs.Copies.{spread-same}
+use Rattle.bodies.proofs.Words.{put-shows}
 use Rattle.journal.proofs.Kept.{noteIn}
 use Rattle.journal.proofs.Shown.{shows-then, shows-same, journal-at, journal-none, journal-long}
 use Rattle.journal.proofs.Cuts.{cut-shows}
-use Rattle.journal.proofs.Puts.{put-shows}
+use Rattle.journal.proofs.Places.{held-by}
 
 -- what `put_back` asks of its slots; n is the number that it computed
 pub back-slots : (bytes words : List ℕ) (j i n : ℕ) → BackAsks bytes words j i → n ≡ numberOf words j i
@@ -84,7 +86,8 @@ module _ (bytes keys order words : List ℕ) (w : WellFormed (mem bytes keys ord
     back-shows : Shows (settingOf m) (putting page (note .address) (note .old) (viewOf m)) m'
     back-shows =
         let r = w .encoded .notes j i which inside in
-        put-shows bytes keys order words w j which (noteAddress m j i) (noteFirst m j i) (noteLast m j i) (r .address) (r .first) (r .last) (λ k. getD bytes (oldPlace words j i + k) 0) bytes' lb p
+        let l = r .address in
+        put-shows m w page (noteAddress m j i) (noteFirst m j i) (noteLast m j i) l (held-by m w j which _ _ (omega arith) (r .first)) (held-by m w j which _ _ (omega arith) (r .last)) (λ k. getD bytes (oldPlace words j i + k) 0) bytes' lb p
 
     newest : drop i (viewOf m .journal j) ≡ note ∷ drop (suc i) (viewOf m .journal j)
     unfolding journal

@@ -1,59 +1,15 @@
 // The journals of the bootloader pages: words as they were before they were written. vm2: the rollback part of `Heaps`.
 ghost use mathlib.Core.Path.{_≡_};
 ghost use Prim.Native.Nat.{_+_, _*_, _<_, _≤_};
-ghost use lib.ListN.{length, getD};
 ghost use Rattle.store.specs.Mem.{mem, layoutOf, journalRoom};
 ghost use Rattle.formed.specs.Pages.{journalCount, journalPlace, journalPage};
-ghost use Rattle.formed.specs.Parts.{tab};
 ghost use Rattle.formed.specs.WellFormed.{WellFormed};
 ghost use Rattle.view.specs.View.{settingOf, viewOf};
 ghost use Rattle.view.specs.Steps.{wordNotes, marks, rolledBack, forgotten};
 ghost use Rattle.view.specs.Does.{Shows};
 ghost use Rattle.view.specs.Inner.{noting, NoteAsks};
-ghost use Rattle.journal.specs.Words.{placeIn, Spread, InSlots, numberOf, Numbered, NoteRoom, NotedAt, BackAsks, PutBack};
+ghost use Rattle.journal.specs.Words.{numberOf, Numbered, NoteRoom, NotedAt, BackAsks, PutBack};
 ghost use Rattle.journal.specs.Steps.{alignedFrom, AlignedAsks, undoing, UndoAsks, RollBackAsks};
-
-// Copies n bytes. Between two parts of one buffer they go through a local array.
-fn copy(src: &[u8], from: usize, dst: &mut [u8], to: usize, n: usize)
-    requires { ⌜ (from + n ≤ length (now src)) × (to + n ≤ length (now dst)) ⌝ }
-    ensures { λ _. ⌜ Spread (λ i. to + i) (λ i. getD (now (src .entry)) (from + i) 0) n (now (dst .entry)) (now (dst .exit)) ⌝ }
-{
-    let mut i = 0;
-    while i < n {
-        dst[to + i] = src[from + i];
-        i += 1;
-    }
-}
-
-// The word that begins at offset r of slot s and goes on in slot t.
-fn word_in(bytes: &[u8], s: usize, t: usize, r: usize) -> [u8; 32]
-    requires { ⌜ InSlots (now bytes) s t r ⌝ }
-    ensures { λ v. ⌜ v ≡ tab 32 (λ i. getD (now (bytes .entry)) (placeIn s t r i) 0) ⌝ }
-{
-    let mut word = [0u8; 32];
-    if r <= 224 {
-        copy(bytes, 256 * s + r, &mut word, 0, 32);
-        return word;
-    }
-    let n = 256 - r;
-    copy(bytes, 256 * s + r, &mut word, 0, n);
-    copy(bytes, 256 * t, &mut word, n, 32 - n);
-    word
-}
-
-// Puts a word that begins at offset r of slot s and goes on in slot t.
-fn put_word(bytes: &mut [u8], s: usize, t: usize, r: usize, word: [u8; 32])
-    requires { ⌜ InSlots (now bytes) s t r ⌝ }
-    ensures { λ _. ⌜ Spread (placeIn s t r) (λ i. getD word i 0) 32 (now (bytes .entry)) (now (bytes .exit)) ⌝ }
-{
-    if r <= 224 {
-        copy(&word, 0, bytes, 256 * s + r, 32);
-        return;
-    }
-    let n = 256 - r;
-    copy(&word, 0, bytes, 256 * s + r, n);
-    copy(&word, n, bytes, 256 * t, 32 - n);
-}
 
 // The entry of journal j's page.
 fn place(j: usize) -> u64
@@ -82,8 +38,8 @@ fn note_at(bytes: &mut [u8], words: &mut [u64], j: usize, address: u32, s: usize
     let i = words[12 + j];
     let n = number(words, j, i as usize);
     let c = words[6] as usize;
-    let old = word_in(bytes, s, t, (address % 256) as usize);
-    copy(&old, 0, bytes, 256 * c + 32 * n, 32);
+    let old = bodies::word_in(bytes, s, t, (address % 256) as usize);
+    bodies::copy(&old, 0, bytes, 256 * c + 32 * n, 32);
     let at = 16 + 3 * n;
     words[at] = address as u64;
     words[at + 1] = s as u64;
@@ -126,9 +82,9 @@ fn put_back(bytes: &mut [u8], words: &[u64], j: usize, i: usize)
     let n = number(words, j, i);
     let c = words[6] as usize;
     let mut old = [0u8; 32];
-    copy(bytes, 256 * c + 32 * n, &mut old, 0, 32);
+    bodies::copy(bytes, 256 * c + 32 * n, &mut old, 0, 32);
     let at = 16 + 3 * n;
-    put_word(
+    bodies::put_word(
         bytes,
         words[at + 1] as usize,
         words[at + 2] as usize,

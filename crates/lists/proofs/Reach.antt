@@ -14,6 +14,7 @@ use Rattle.index.specs.Index.{seek}
 use Rattle.index.proofs.Logic.{lt-or-ge}
 use Rattle.store.specs.Mem.{Mem, mem, layoutOf, slotCount, pageCount, heldNow, inUse, journalRoom, journalLength, holders}
 use Rattle.store.specs.Hold.{lacks, Indexed, Held}
+use Rattle.store.specs.Find.{slotFor}
 use Rattle.store.proofs.Holds.{part-room, insertable, taken, lacking, held-new, held-was}
 use Rattle.store.proofs.Parts.{rest-part}
 use Rattle.formed.specs.Pages.{group, journalCount, journalPlace, journalPage}
@@ -22,14 +23,14 @@ use Rattle.view.specs.View.{View, Setting, settingOf, viewOf}
 use Rattle.view.specs.Steps.{max, wordNotes, marks, rolledBack, fresh, opened}
 use Rattle.view.specs.Does.{Shows}
 use Rattle.view.specs.Inner.{listing, holding, putting, ListAsks, HoldAsks, PutAsks, noting, NoteAsks}
-use Rattle.bodies.proofs.Copies.{copied-none, copied-more}
+use Rattle.bodies.specs.Words.{placeIn, Spread, InSlots}
+use Rattle.bodies.proofs.Copies.{copy-none, copy-more, spread-same, put-one, put-two}
 use Rattle.bodies.proofs.Puts.{put-none, put-slot, put-in, put-more, put-done}
 use Rattle.chunks.proofs.Turns.{After, after-none, turn-room, turn-after}
 use Rattle.pages.proofs.Taking as taking
 use Rattle.pages.proofs.Listing.{listed-already, entry-asks, listed-now}
-use Rattle.journal.specs.Words.{placeIn, Spread, InSlots, numberOf, oldPlace, noteSet}
+use Rattle.journal.specs.Words.{numberOf, oldPlace, noteSet}
 use Rattle.journal.specs.Steps.{alignedFrom, AlignedAsks, restoring, undoing, UndoAsks, RollBackAsks}
-use Rattle.journal.proofs.Copies.{copy-none, copy-more, spread-same, put-one, put-two}
 use Rattle.journal.proofs.Numbers.{number-lt}
 use Rattle.journal.proofs.Notes.{note-room, note-shows}
 use Rattle.journal.proofs.Aligned.{aligned-none, aligned-asks, aligned-more}
@@ -109,27 +110,24 @@ record Put (m : Mem) (p a : ℕ) (src : List ℕ) (n : ℕ) : Type 0 where
   shown : Shows (settingOf m) (putting p a (take n src) (viewOf m)) (mem now (m .keys) (m .order) (m .words))
 
 module _ (m : Mem) (p a : ℕ) (src : List ℕ) (asks : PutAsks m p a (length src)) where
-  abbrev entry : ℕ
-  entry = seek (drop (slotCount (m .words)) (m .keys)) (p + 1)
-
   abbrev slot : ℕ → ℕ
-  slot n = seek (take (slotCount (m .words)) (m .keys)) (entry * 33554432 + (a + n) / 256 + 1)
+  slot n = slotFor (m .keys) (m .words) p ((a + n) / 256)
 
   put : (n : ℕ) → n ≤ length src → Put m p a src n
   put zero l = record { now = m .bytes; shown = put-none (m .bytes) (m .keys) (m .order) (m .words) p a src asks }
   put (suc n) l =
       let t = put n (omega arith) in
       let at = 256 * slot n + (a + n) % 256 in
-      let i = put-in (m .bytes) (m .keys) (m .order) (m .words) p a src asks entry (slot n) n l refl refl .0 in
+      let i = put-in (m .bytes) (m .keys) (m .order) (m .words) p a src asks (slot n) n l refl .0 in
       let b = asks .formed .lengths .in-bytes in
       let d = t .shown .formed .lengths .in-bytes in
-      let c = copied-more (t .now) at src n 0 (t .now) (copied-none (t .now) at src n) (omega arith) in
+      let c = copy-more at 0 (λ i. getD src (n + i) 0) (t .now) (t .now) (omega arith) (copy-none (λ i. at + i) (λ i. getD src (n + i) 0) (t .now)) in
       let next = set (t .now) (at + 0) (getD src (n + 0) 0) in
       record {
         now = next;
         shown =
             subst (λ (x : ℕ). Shows (settingOf m) (putting p a (take x src) (viewOf m)) (mem next (m .keys) (m .order) (m .words))) (add-one n)
-            (put-more (m .bytes) (m .keys) (m .order) (m .words) p a src asks n (t .now) (t .shown) (slot n) 1 next (put-slot (m .bytes) (m .keys) (m .order) (m .words) p a src asks entry (slot n) n l refl refl) (omega arith) (omega arith) c);
+            (put-more (m .bytes) (m .keys) (m .order) (m .words) p a src asks n (t .now) (t .shown) (slot n) 1 next (put-slot (m .bytes) (m .keys) (m .order) (m .words) p a src asks (slot n) n l refl) (omega arith) (omega arith) (length-set (t .now) (at + 0) (getD src (n + 0) 0)) c);
       }
 
   pub put-there : Reached (settingOf m) (putting p a src (viewOf m))

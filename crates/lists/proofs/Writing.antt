@@ -2,7 +2,7 @@
 -- Assumes nothing.
 use mathlib.Core.Path.{_≡_, refl, ap, subst}
 use mathlib.Core.Logic.{⊎-elim}
-use mathlib.Core.List.{List}
+use mathlib.Core.List.{List, []}
 use Prim.Native.Nat.{ℕ, _/_, _≤_, _<_}
 use native.Mathlib.Omega.{arith}
 use lib.ListN.{length}
@@ -84,4 +84,4 @@ contents-there m p page bs asks =
     let c = contents-cleared m p (length bs) k page asks refl in
     let h = prepared-there m p 0 (length bs) 0 c in
     let t = put-there (h .memory) p 0 bs (plain-asks m p 0 bs 0 k c (h .memory) (h .shows)) in
-    record { memory = t .memory; shows = plain-done m p 0 bs 0 k c (h .memory) (h .shows) (contents-unjournalled m p (length bs) asks) (t .memory) (t .shows) }
+    record { memory = t .memory; shows = plain-done m p 0 bs 0 k c (h .memory) (h .shows) [] (contents-unjournalled m p (length bs) asks) (t .memory) (t .shows) }

@@ -28,7 +28,7 @@ fn take_entry(keys: &mut [u64], order: &mut [u32], words: &mut [u64], page: u32)
     let c = words[6] as usize;
     let n = words[10] as usize;
     let group = (page as u64 - words[4]) / words[5];
-    let e = store::free_place(&keys[c..]);
+    let e = store::free_place(&keys[c..], n);
     index::insert(
         &mut keys[c..],
         &mut order[c..],

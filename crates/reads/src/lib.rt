@@ -6,14 +6,15 @@ use page_ids::PageId;
 use word::Word;
 ghost use mathlib.Core.Path.{_≡_};
 ghost use mathlib.Core.Bool.{true, cond, _&&_};
-ghost use mathlib.Core.List.{[]};
-ghost use Prim.Native.Nat.{_+_, _*_, _-_, _%_, _<_, _≤_};
+ghost use mathlib.Core.List.{List, []};
+ghost use Prim.Native.Nat.{ℕ, _+_, _*_, _-_, _%_, _<_, _≤_};
 ghost use lib.Dec.{eqb};
 ghost use lib.ListN.{length, getD};
 ghost use Rattle.outcome.specs.Outcome as outcomes;
 ghost use Rattle.word.specs.Value.{value, bigEndian};
 ghost use Rattle.store.specs.Mem.{mem};
-ghost use Rattle.store.specs.Hold.{Indexed};
+ghost use Rattle.store.specs.Find.{Findable};
+ghost use Rattle.formed.specs.Parts.{tab, slotOfChunk, byteAt};
 ghost use Rattle.formed.specs.Formed.{zeros, wellFormed};
 ghost use Rattle.formed.specs.WellFormed.{WellFormed};
 ghost use Rattle.view.specs.View.{viewOf};
@@ -21,7 +22,7 @@ ghost use Rattle.view.specs.Steps.{run, padded};
 ghost use Rattle.view.specs.Checks.{onMemory, partialChecks, rangeChecks, lookupChecks};
 ghost use Rattle.view.specs.Calls.{shown};
 ghost use Rattle.reads.specs.Calls.{answered, told, toldByte, toldLength, toldMarks, ReadDoes, RangeDoes};
-ghost use Rattle.reads.specs.Reading.{slotOf, byteOf, Put};
+ghost use Rattle.reads.specs.Reading.{Put};
 
 // A word, or a refusal and the word 0.
 pub struct WordRead {
@@ -81,34 +82,34 @@ fn fill(out: &mut [u8], to: usize, n: usize)
     }
 }
 
-// The slot of chunk k of the page at entry e, or the number of slots where none holds it.
-fn slot_at(keys: &[u64], order: &[u32], words: &[u64], e: usize, k: usize) -> usize
-    requires { ⌜ (Indexed (now keys) (now order) (now words)) × (e ≤ 4100) ⌝ }
-    ensures { λ r. ⌜ r ≡ slotOf (now (keys .entry)) (now (words .entry)) e k ⌝ }
+// The slot of chunk k of a page, or the number of slots where none holds it; no byte bears on it.
+fn slot_at(keys: &[u64], order: &[u32], words: &[u64], page: u32, k: usize) -> usize
+    requires { ⌜ Findable (now keys) (now order) (now words) ⌝ }
+    ensures { λ r. ⌜ ((b : List ℕ) → r ≡ slotOfChunk (mem b (now (keys .entry)) (now (order .entry)) (now (words .entry))) page k) ⌝ }
 {
     if k > 16777216 {
         return words[6] as usize;
     }
-    store::slot_of(keys, order, words, e as u64 * 33554432 + k as u64 + 1)
+    store::place_of(keys, order, words, page, k as u32)
 }
 
-// Reads n bytes from address a on, which lie in one chunk, of the page at entry e to `out` from `to` on.
+// Reads n bytes of a page from address a on, which lie in one chunk, to `out` from `to` on.
 fn read_part(
     bytes: &[u8],
     keys: &[u64],
     order: &[u32],
     words: &[u64],
-    e: usize,
+    page: u32,
     a: usize,
     n: usize,
     out: &mut [u8],
     to: usize,
 )
     requires { ⌜ WellFormed (mem (now bytes) (now keys) (now order) (now words)) ⌝ }
-    requires { ⌜ (e ≤ 4100) × (a % 256 + n ≤ 256) × (to + n ≤ length (now out)) ⌝ }
-    ensures { λ _. ⌜ Put (λ i. byteOf (mem (now (bytes .entry)) (now (keys .entry)) (now (order .entry)) (now (words .entry))) e (a + i)) to n (now (out .entry)) (now (out .exit)) ⌝ }
+    requires { ⌜ (a % 256 + n ≤ 256) × (to + n ≤ length (now out)) ⌝ }
+    ensures { λ _. ⌜ Put (λ i. byteAt (mem (now (bytes .entry)) (now (keys .entry)) (now (order .entry)) (now (words .entry))) page (a + i)) to n (now (out .entry)) (now (out .exit)) ⌝ }
 {
-    let s = slot_at(keys, order, words, e, a / 256);
+    let s = slot_at(keys, order, words, page, a / 256);
     if s >= words[6] as usize {
         fill(out, to, n);
         return;
@@ -130,17 +131,26 @@ pub fn read_into(
     requires { ⌜ length (now out) ≤ 4294967296 ⌝ }
     ensures { λ _. ⌜ now (out .exit) ≡ run (viewOf (mem (now (bytes .entry)) (now (keys .entry)) (now (order .entry)) (now (words .entry)))) page start (length (now (out .entry))) ⌝ }
 {
-    let e = store::entry_of(keys, order, words, page);
     let mut pos: usize = 0;
     while pos < out.len() {
         let a = start as usize + pos;
         let n = least(256 - a % 256, out.len() - pos);
-        read_part(bytes, keys, order, words, e, a, n, out, pos);
+        read_part(bytes, keys, order, words, page, a, n, out, pos);
         pos += n;
     }
 }
 
-// Reads 32 bytes.
+// The 32 bytes from a place on.
+fn word_at(bytes: &[u8], at: usize) -> [u8; 32]
+    requires { ⌜ at + 32 ≤ length (now bytes) ⌝ }
+    ensures { λ r. ⌜ r ≡ tab 32 (λ i. getD (now (bytes .entry)) (at + i) 0) ⌝ }
+{
+    let mut out = [0u8; 32];
+    copy_out(bytes, at, &mut out, 0, 32);
+    out
+}
+
+// Reads 32 bytes: where they lie in one chunk, from the slot that a hint knows.
 pub fn read_word(
     bytes: &[u8],
     keys: &[u64],
@@ -152,8 +162,38 @@ pub fn read_word(
     requires { ⌜ WellFormed (mem (now bytes) (now keys) (now order) (now words)) ⌝ }
     ensures { λ r. ⌜ r ≡ run (viewOf (mem (now (bytes .entry)) (now (keys .entry)) (now (order .entry)) (now (words .entry)))) page address 32 ⌝ }
 {
+    let r = (address % 256) as usize;
+    if r <= 224 {
+        let s = store::hinted(keys, order, words, page, address / 256);
+        if s < words[6] as usize {
+            return word_at(bytes, 256 * s + r);
+        }
+    }
+    search_word(bytes, keys, order, words, page, address)
+}
+
+// The same by search, in one or two chunks.
+fn search_word(
+    bytes: &[u8],
+    keys: &[u64],
+    order: &[u32],
+    words: &[u64],
+    page: u32,
+    address: u32,
+) -> [u8; 32]
+    requires { ⌜ WellFormed (mem (now bytes) (now keys) (now order) (now words)) ⌝ }
+    ensures { λ r. ⌜ r ≡ run (viewOf (mem (now (bytes .entry)) (now (keys .entry)) (now (order .entry)) (now (words .entry)))) page address 32 ⌝ }
+{
     let mut out = [0u8; 32];
-    read_into(bytes, keys, order, words, page, address, &mut out);
+    let a = address as usize;
+    let r = a % 256;
+    if r <= 224 {
+        read_part(bytes, keys, order, words, page, a, 32, &mut out, 0);
+        return out;
+    }
+    let n = 256 - r;
+    read_part(bytes, keys, order, words, page, a, n, &mut out, 0);
+    read_part(bytes, keys, order, words, page, a + n, 32 - n, &mut out, n);
     out
 }
 
@@ -171,8 +211,7 @@ pub fn chunk_of<'a>(
     requires { ⌜ (length (now block) ≡ 256) × (zeros (now block) ≡ true) ⌝ }
     ensures { λ r. ⌜ now r ≡ run (viewOf (mem (now (bytes .entry)) (now (keys .entry)) (now (order .entry)) (now (words .entry)))) page (256 * number) 256 ⌝ }
 {
-    let e = store::entry_of(keys, order, words, page);
-    let s = slot_at(keys, order, words, e, number as usize);
+    let s = slot_at(keys, order, words, page, number as usize);
     if s >= words[6] as usize {
         return block;
     }
@@ -205,8 +244,7 @@ fn byte_at(bytes: &[u8], keys: &[u64], order: &[u32], words: &[u64], page: u32, 
     requires { ⌜ WellFormed (mem (now bytes) (now keys) (now order) (now words)) ⌝ }
     ensures { λ r. ⌜ r ≡ viewOf (mem (now (bytes .entry)) (now (keys .entry)) (now (order .entry)) (now (words .entry))) .bytes page address ⌝ }
 {
-    let e = store::entry_of(keys, order, words, page);
-    let s = slot_at(keys, order, words, e, (address / 256) as usize);
+    let s = slot_at(keys, order, words, page, (address / 256) as usize);
     if s >= words[6] as usize {
         return 0;
     }

@@ -3,3 +3,4 @@
 pub mod Parts
 pub mod Holds
 pub mod Gives
+pub mod Finds

@@ -2,3 +2,4 @@
 pub mod Mem
 pub mod Hold
 pub mod Give
+pub mod Find

@@ -4,7 +4,8 @@ ghost use mathlib.Core.Bool.{true};
 ghost use Prim.Native.Nat.{ℕ, _+_, _*_, _<_, _≤_};
 ghost use lib.ListN.{length, getD, take, drop};
 ghost use Rattle.index.specs.Index.{seek, usedCount, freeCount};
-ghost use Rattle.store.specs.Mem.{slotCount, heldNow};
+ghost use Rattle.store.specs.Find.{slotFor, Findable, Names, Learnt};
+ghost use Rattle.store.specs.Mem.{headLength, slotCount, pageCount, heldNow};
 ghost use Rattle.store.specs.Hold.{lacks, Indexed, PagesIndexed, Taken, Held};
 ghost use Rattle.store.specs.Give.{Zeroed, Wiped, Given};
 
@@ -16,11 +17,16 @@ pub fn pool_count(keys: &[u64], order: &[u32], words: &[u64]) -> u64
     words[6] - words[9]
 }
 
-// A free place of a table that has one. Which one it is stays open.
-pub fn free_place(keys: &[u64]) -> usize
+// A free place of a table that has one: `guess`, where that is one. Which one it is stays open.
+pub fn free_place(keys: &[u64], guess: usize) -> usize
     requires { ⌜ usedCount (now keys) < length (now keys) ⌝ }
     ensures { λ r. ⌜ (r < length (now (keys .entry))) × (getD (now (keys .entry)) r 0 ≡ 0) ⌝ }
 {
+    if guess < keys.len() {
+        if keys[guess] == 0 {
+            return guess;
+        }
+    }
     let mut i = 0;
     while i < keys.len() {
         if keys[i] == 0 {
@@ -39,7 +45,7 @@ fn take_slot(keys: &mut [u64], order: &mut [u32], words: &mut [u64], k: u64) -> 
 {
     let c = words[6] as usize;
     let n = words[9] as usize;
-    let s = free_place(&keys[0..c]);
+    let s = free_place(&keys[0..c], n);
     index::insert(&mut keys[0..c], &mut order[0..c], n, s as u32, k);
     words[9] = (n + 1) as u64;
     s
@@ -61,6 +67,94 @@ pub fn entry_of(keys: &[u64], order: &[u32], words: &[u64], page: u32) -> usize
 {
     let c = words[6] as usize;
     index::find(&keys[c..], &order[c..], words[10] as usize, page as u64 + 1)
+}
+
+// ---- hints
+// The order ends in hints: where a chunk was found last. A hint says nothing until it has been tested, so that no rule speaks of hints.
+
+// All ones up to the highest bit of c: at most 2·c - 1.
+fn ones(c: u64) -> u64 {
+    let a = c | (c >> 1);
+    let b = a | (a >> 2);
+    let d = b | (b >> 4);
+    let e = d | (d >> 8);
+    e | (e >> 16)
+}
+
+// The place of the hint for a chunk of a page. The last place of the order has the mask; the factor parts the pages.
+fn hint_place(order: &[u32], page: u32, chunk: u32) -> usize
+    requires { ⌜ 0 < length (now order) ⌝ }
+{
+    let n = order.len();
+    let x = (page as u64 * 40503 + chunk as u64) & order[n - 1] as u64;
+    std::num::wrapping_sub_usize(std::num::wrapping_sub_usize(n, x as usize), 2)
+}
+
+// Whether slot s holds this chunk of this page.
+fn is_place(keys: &[u64], words: &[u64], s: usize, page: u32, chunk: u32) -> bool
+    requires { ⌜ (headLength ≤ length (now words)) × (slotCount (now words) ≤ length (now keys)) × (slotCount (now words) ≤ 65536) ⌝ }
+    ensures { λ r. ⌜ (r ≡ true → Names (now (keys .entry)) (now (words .entry)) s page chunk) ⌝ }
+{
+    let c = words[6] as usize;
+    if s >= c {
+        return false;
+    }
+    let k = keys[s];
+    if k % 33554432 != chunk as u64 + 1 {
+        return false;
+    }
+    let e = (k / 33554432) as usize;
+    if e >= keys.len() - c {
+        return false;
+    }
+    keys[c + e] == page as u64 + 1
+}
+
+// The slot of a chunk of a page, if a hint knows it, or the number of slots.
+pub fn hinted(keys: &[u64], order: &[u32], words: &[u64], page: u32, chunk: u32) -> usize
+    requires { ⌜ Findable (now keys) (now order) (now words) ⌝ }
+    ensures { λ r. ⌜ (r < slotCount (now (words .entry)) → r ≡ slotFor (now (keys .entry)) (now (words .entry)) page chunk) ⌝ }
+{
+    let h = hint_place(order, page, chunk);
+    if h >= order.len() {
+        return words[6] as usize;
+    }
+    let s = order[h] as usize;
+    if is_place(keys, words, s, page, chunk) {
+        return s;
+    }
+    words[6] as usize
+}
+
+// The slot of a chunk of a page, or the number of slots where none holds it.
+pub fn place_of(keys: &[u64], order: &[u32], words: &[u64], page: u32, chunk: u32) -> usize
+    requires { ⌜ (Findable (now keys) (now order) (now words)) × (chunk ≤ 16777216) ⌝ }
+    ensures { λ r. ⌜ r ≡ slotFor (now (keys .entry)) (now (words .entry)) page chunk ⌝ }
+{
+    let s = hinted(keys, order, words, page, chunk);
+    if s < words[6] as usize {
+        return s;
+    }
+    let e = entry_of(keys, order, words, page);
+    slot_of(keys, order, words, e as u64 * 33554432 + chunk as u64 + 1)
+}
+
+// Notes where a chunk of a page was found, for the next search.
+pub fn learn(order: &mut [u32], words: &[u64], page: u32, chunk: u32, s: usize)
+    requires { ⌜ (headLength ≤ length (now words)) × (slotCount (now words) ≤ 65536) × (pageCount (now words) ≤ 4096) ⌝ }
+    requires { ⌜ (slotCount (now words) + pageCount (now words) + 4 < length (now order)) × (s ≤ 65536) ⌝ }
+    ensures { λ _. ⌜ Learnt (now (order .entry)) (now (words .entry)) (now (order .exit)) ⌝ }
+{
+    let n = order.len();
+    order[n - 1] = (ones(words[6]) % 4294967296) as u32;
+    let h = hint_place(order, page, chunk);
+    if h >= n {
+        return;
+    }
+    if (h as u64) < words[6] + words[7] + 4 {
+        return;
+    }
+    order[h] = s as u32;
 }
 
 // The slot of the key k, taken from the pool where none has it yet.

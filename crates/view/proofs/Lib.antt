@@ -6,3 +6,4 @@ pub mod Counts
 pub mod Dropping
 pub mod Reading
 pub mod Order
+pub mod Hints

@@ -162,6 +162,12 @@ module _ (m : Mem) (p a n w k : ℕ) (c : Cleared m p a n w k) where
     }
 
 -- ---- the words are journalled
+-- a page is neither journal's
+pub no-journal : (l : Layout) (p : ℕ) → (p ≡ journalPage l 0 → ⊥) → (p ≡ journalPage l 1 → ⊥) → (j : ℕ) → j < journalCount → p ≡ journalPage l j → ⊥
+no-journal l p no-heap no-aux zero k = no-heap
+no-journal l p no-heap no-aux (suc zero) k = no-aux
+no-journal l p no-heap no-aux (suc (suc j)) k = absurd (omega arith)
+
 module _ (m : Mem) (p a n w : ℕ) (asks : JournalAsks m p a n w) (f : ℕ → List Note) where
   abbrev l : Layout
   l = layoutOf (m .words)
@@ -171,12 +177,7 @@ module _ (m : Mem) (p a n w : ℕ) (asks : JournalAsks m p a n w) (f : ℕ → L
       shows-view shown (ap (λ (q : ℕ). noting j (f q) (viewOf m)) (sym own) ∙ own-journal l p (f p) (viewOf m) (asks .formed .layout) j k own)
 
   pub journal-none : (p ≡ journalPage l 0 → ⊥) → (p ≡ journalPage l 1 → ⊥) → Shows (settingOf m) (journalling l p (f p) (viewOf m)) m
-  journal-none no-heap no-aux = record { formed = asks .formed; setting = refl; view = sym (unjournalled l p (f p) (viewOf m) none) }
-    where
-      none : (j : ℕ) → j < journalCount → p ≡ journalPage l j → ⊥
-      none zero k = no-heap
-      none (suc zero) k = no-aux
-      none (suc (suc j)) k = absurd (omega arith)
+  journal-none no-heap no-aux = record { formed = asks .formed; setting = refl; view = sym (unjournalled l p (f p) (viewOf m) (no-journal l p no-heap no-aux)) }
 
 pub note-asks : (m : Mem) (p a : ℕ) → a ≤ 4294967295 → JournalAsks m p a 32 1 → (j : ℕ) → j < journalCount → p ≡ journalPage (layoutOf (m .words)) j → NoteAsks m j a
 note-asks m p a small asks j k own = record {
@@ -241,8 +242,8 @@ module _ (m : Mem) (p a : ℕ) (bs : List ℕ) (w k : ℕ) (c : Cleared m p a (l
   pub plain-asks : PutAsks m₂ p a (length bs)
   plain-asks = record { formed = now .formed; held = held; top = c .end }
 
-  pub plain-done : ((j : ℕ) → j < journalCount → p ≡ journalPage (layoutOf (m .words)) j → ⊥) → (m₄ : Mem) → Shows (settingOf m₂) (putting p a bs (viewOf m₂)) m₄ → Shows (settingOf m) (written (layoutOf (m .words)) p a bs [] (viewOf m)) m₄
-  plain-done n m₄ put = shows-view (shows-then (putting p a bs) now put) (plain-write (layoutOf (m .words)) p (viewOf m) a bs [] n)
+  pub plain-done : (notes : List Note) → ((j : ℕ) → j < journalCount → p ≡ journalPage (layoutOf (m .words)) j → ⊥) → (m₄ : Mem) → Shows (settingOf m₂) (putting p a bs (viewOf m₂)) m₄ → Shows (settingOf m) (written (layoutOf (m .words)) p a bs notes (viewOf m)) m₄
+  plain-done notes n m₄ put = shows-view (shows-then (putting p a bs) now put) (plain-write (layoutOf (m .words)) p (viewOf m) a bs notes n)
 
   -- a page that may have one
   module _ (notes : View → List Note) (same : (v w : View) → ((b : ℕ) → v .bytes p b ≡ w .bytes p b) → notes v ≡ notes w)

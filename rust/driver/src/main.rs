@@ -1,17 +1,15 @@
 //! Reads calls line by line and answers each with vm2's own files. README.md has the language.
 
-mod fields;
-mod parse;
-mod show;
-
 use std::{
     io::{self, BufRead, BufWriter, Write},
     process::ExitCode,
 };
 
+use lines::{
+    parse::{self, Line},
+    show,
+};
 use oracle::{differences, Answer, Bank, Call, Frame};
-
-use crate::parse::Line;
 
 const USAGE: &str = "usage: driver [LAYOUT] < CALLS, or: driver --layouts";
 

@@ -1,15 +1,15 @@
-use mathlib.Core.Path.{subst, _≡_, refl}
+use mathlib.Core.Path.{_≡_, refl, subst}
 use Prim.Native.Nat.{ℕ, _+_, _*_, _-_, _≤_}
 use native.Mathlib.Nat.{le-antisymm}
 use native.Mathlib.Omega.{arith}
 use lib.ListN.{length}
 use borrow.Author.Needs.{needs}
-use Rattle.formed.proofs.Asks.{entry-few, pages-asked, slots-asked}
+use Rattle.formed.proofs.Asks.{entry-few, pages-asked}
 use Rattle.store.specs.Mem.{mem}
 use Rattle.view.specs.View.{viewOf, settingOf}
 use Rattle.view.specs.Does.{Shows}
 use Rattle.view.specs.Inner.{holding}
-use Rattle.chunks.proofs.Turns.{After, after-none, turn-room, turn-after}
+use Rattle.chunks.proofs.Turns.{After, after-none, next-key, next-asks, next-after}
 use Rattle.chunks.proofs.hold_chunks.Statement.{statement}
 use Rattle.chunks.proofs.hold_chunks.Tie as tie
 
@@ -29,13 +29,13 @@ mul-k : tie.Need-mul-k Inv-loop μ-loop
 mul-k c =
     let at-entry-of = c in
     let start = at-entry-of .before .before .before .before .before .before .before .before in
-    omega (arith, entry-few (mem (start .args .bytes .now) (start .args .keys .now) (start .args .order .now) (start .args .words .now)) (start .pre .formed) (start .args .page), at-entry-of .entry-of .ensures, start .pre .top)
+    omega (arith, entry-few (mem (start .args .bytes .now) (start .args .keys .now) (start .args .order .now) (start .args .words .now)) (start .pre .formed) (start .args .page), at-entry-of .entry-of .ensures)
 
 add-k : tie.Need-add-k Inv-loop μ-loop
 add-k c =
     let at-entry-of = c in
     let start = at-entry-of .before .before .before .before .before .before .before .before in
-    omega (arith, entry-few (mem (start .args .bytes .now) (start .args .keys .now) (start .args .order .now) (start .args .words .now)) (start .pre .formed) (start .args .page), at-entry-of .entry-of .ensures, start .pre .top)
+    omega (arith, entry-few (mem (start .args .bytes .now) (start .args .keys .now) (start .args .order .now) (start .args .words .now)) (start .pre .formed) (start .args .page), at-entry-of .entry-of .ensures)
 
 add-k-2 : tie.Need-add-k-2 Inv-loop μ-loop
 add-k-2 c =
@@ -48,23 +48,29 @@ loop-holds c =
     let start = c .before .before .before .before .before .before .before .before in
     (search needs, refl, refl, refl, after-none _ _ _ (start .pre .formed))
 
-cast-hold : tie.Need-cast-hold Inv-loop μ-loop
-cast-hold c = search needs
+add-hold-chunk : tie.Need-add-hold-chunk Inv-loop μ-loop
+add-hold-chunk c =
+    let at-loop-test = c .before .before .before in
+    let start = at-loop-test .before .before .before .before .before .before .before .before .before .before in
+    omega (arith, start .pre .top, at-loop-test .loop-test .taken)
 
-add-hold : tie.Need-add-hold Inv-loop μ-loop
-add-hold c =
+cast-hold-chunk : tie.Need-cast-hold-chunk Inv-loop μ-loop
+cast-hold-chunk c = search needs
+
+add-hold-chunk-2 : tie.Need-add-hold-chunk-2 Inv-loop μ-loop
+add-hold-chunk-2 c =
     let at-loop-test = c .before .before .before in
     let at-entry-of = at-loop-test .before .before in
     let start = at-entry-of .before .before .before .before .before .before .before .before in
     omega (arith, entry-few (mem (start .args .bytes .now) (start .args .keys .now) (start .args .order .now) (start .args .words .now)) (start .pre .formed) (start .args .page), at-entry-of .entry-of .ensures, at-loop-test .loop-test .taken, start .pre .top)
 
-hold-requires : tie.Need-hold-requires Inv-loop μ-loop
-hold-requires c κs =
+hold-chunk-requires : tie.Need-hold-chunk-requires Inv-loop μ-loop
+hold-chunk-requires c κs =
     let at-loop-test = c .before .before .before in
     let at-loop = at-loop-test .before in
     let at-entry-of = at-loop .before in
     let start = at-entry-of .before .before .before .before .before .before .before .before in
-    (slots-asked _ (at-loop .loop .inv .4 .shows .formed), (omega arith, turn-room _ _ _ _ (start .pre) (at-loop .loop .i) (at-loop-test .loop-test .taken) _ _ _ _ (at-loop .loop .inv .4) _ (at-entry-of .entry-of .result * 33554432 + 1 + start .args .first + at-loop .loop .i) (at-entry-of .entry-of .ensures) (omega arith)))
+    (next-asks (mem (start .args .bytes .now) (start .args .keys .now) (start .args .order .now) (start .args .words .now)) (start .args .page) (start .args .first) (start .args .count) (start .pre) (at-loop .loop .i) (at-loop-test .loop-test .taken) (mem (start .args .bytes .now) (at-loop .loop .keys) (at-loop .loop .order) (at-loop .loop .words)) (at-loop .loop .inv .4), next-key (mem (start .args .bytes .now) (start .args .keys .now) (start .args .order .now) (start .args .words .now)) (start .args .page) (start .args .first) (start .args .count) (start .pre) (at-loop .loop .i) (at-loop-test .loop-test .taken) (mem (start .args .bytes .now) (at-loop .loop .keys) (at-loop .loop .order) (at-loop .loop .words)) (at-loop .loop .inv .4) (at-entry-of .entry-of .result) (at-entry-of .entry-of .result * 33554432 + 1 + start .args .first + at-loop .loop .i) (at-entry-of .entry-of .ensures) (omega arith))
 
 add-i : tie.Need-add-i Inv-loop μ-loop
 add-i c = search needs
@@ -74,12 +80,12 @@ loop-less c = search needs
 
 loop-again : tie.Need-loop-again Inv-loop μ-loop
 loop-again c =
-    let at-hold = c .before .before .before .before .before .before in
-    let at-loop-test = at-hold .before .before .before .before in
+    let at-hold-chunk = c .before .before .before .before .before .before in
+    let at-loop-test = at-hold-chunk .before .before .before .before in
     let at-loop = at-loop-test .before in
-    let at-entry-of = at-loop .before in
-    let start = at-entry-of .before .before .before .before .before .before .before .before in
-    (search needs, search needs, search needs, search needs, turn-after _ _ _ _ (start .pre) (at-loop .loop .i) (at-loop-test .loop-test .taken) _ _ _ _ (at-loop .loop .inv .4) _ (at-entry-of .entry-of .result * 33554432 + 1 + start .args .first + at-loop .loop .i) (at-entry-of .entry-of .ensures) (omega arith) _ _ _ _ (at-hold .hold .ensures))
+    let start = at-loop .before .before .before .before .before .before .before .before .before in
+    let d = at-hold-chunk .hold-chunk .ensures in
+    (search needs, search needs, search needs, search needs, next-after (mem (start .args .bytes .now) (start .args .keys .now) (start .args .order .now) (start .args .words .now)) (start .args .page) (start .args .first) (start .args .count) (start .pre) (at-loop .loop .i) (at-loop-test .loop-test .taken) (mem (start .args .bytes .now) (at-loop .loop .keys) (at-loop .loop .order) (at-loop .loop .words)) (at-loop .loop .inv .4) _ (d .0) (d .1))
 
 same-length : tie.Need-same-length Inv-loop μ-loop
 same-length c = search needs
@@ -109,9 +115,10 @@ hold-chunks-spec =
     add-k
     add-k-2
     loop-holds
-    cast-hold
-    add-hold
-    hold-requires
+    add-hold-chunk
+    cast-hold-chunk
+    add-hold-chunk-2
+    hold-chunk-requires
     add-i
     loop-less
     loop-again

@@ -5,11 +5,11 @@ use Rattle.index.proofs.Places.{find-past, find-gap, find-at}
 use Rattle.index.proofs.find.Statement.{statement}
 use Rattle.index.proofs.find.Tie as tie
 
-rank-below-requires : tie.Need-rank-below-requires
-rank-below-requires c κs = (index-fits _ _ _ (c .before .before .pre .0), index-rises _ _ _ (c .before .before .pre .0))
+rank-requires : tie.Need-rank-requires
+rank-requires c κs = (index-fits _ _ _ (c .before .before .pre .0), index-rises _ _ _ (c .before .before .pre .0))
 
 returns : tie.Need-returns
-returns c = find-past _ _ _ _ _ (c .before .before .before .before .pre .0) (c .before .before .before .before .pre .1) (c .before .rank-below .ensures) (c .if1 .taken)
+returns c = find-past _ _ _ _ _ (c .before .before .before .before .pre .0) (c .before .before .before .before .pre .1) (c .before .rank .ensures) (c .if1 .taken)
 
 mul-s : tie.Need-mul-s
 mul-s c = let h = index-fits _ _ _ (c .before .before .before .before .pre .0) in search needs
@@ -18,25 +18,25 @@ shared-slice-read-s : tie.Need-shared-slice-read-s
 shared-slice-read-s c = let h = index-fits _ _ _ (c .before .before .before .before .before .pre .0) in omega arith
 
 cast-s : tie.Need-cast-s
-cast-s c = omega (arith, c .shared-slice-known3 .given (c .before .before .rank-below .result))
+cast-s c = omega (arith, c .shared-slice-known3 .given (c .before .before .rank .result))
 
 mul-if2 : tie.Need-mul-if2
-mul-if2 c = let h = slot-lt _ _ _ (index-rises _ _ _ (c .before .before .before .before .before .pre .0)) (c .before .before .rank-below .result) (c .before .if1 .left) in search needs
+mul-if2 c = let h = slot-lt _ _ _ (index-rises _ _ _ (c .before .before .before .before .before .pre .0)) (c .before .before .rank .result) (c .before .if1 .left) in search needs
 
 shared-slice-read-if2 : tie.Need-shared-slice-read-if2
-shared-slice-read-if2 c = slot-lt _ _ _ (index-rises _ _ _ (c .before .before .before .before .before .before .pre .0)) (c .before .before .before .rank-below .result) (c .before .before .if1 .left)
+shared-slice-read-if2 c = slot-lt _ _ _ (index-rises _ _ _ (c .before .before .before .before .before .before .pre .0)) (c .before .before .before .rank .result) (c .before .before .if1 .left)
 
 returns-2 : tie.Need-returns-2
-returns-2 c = find-at _ _ _ _ _ (c .before .before .before .before .before .before .before .pre .0) (c .before .before .before .before .before .before .before .pre .1) (c .before .before .before .before .rank-below .ensures) (c .before .before .before .if1 .left) (c .if2 .taken)
+returns-2 c = find-at _ _ _ _ _ (c .before .before .before .before .before .before .before .pre .0) (c .before .before .before .before .before .before .before .pre .1) (c .before .before .before .before .rank .ensures) (c .before .before .before .if1 .left) (c .if2 .taken)
 
 returns-3 : tie.Need-returns-3
-returns-3 c = find-gap _ _ _ _ _ (c .before .before .before .before .before .before .before .pre .0) (c .before .before .before .before .before .before .before .pre .1) (c .before .before .before .before .rank-below .ensures) (c .before .before .before .if1 .left) (c .if2 .left)
+returns-3 c = find-gap _ _ _ _ _ (c .before .before .before .before .before .before .before .pre .0) (c .before .before .before .before .before .before .before .pre .1) (c .before .before .before .before .rank .ensures) (c .before .before .before .if1 .left) (c .if2 .left)
 
 pub find-spec : {M : Type 1} → statement M
 find-spec =
     tie.close
     (tie.spec
-    rank-below-requires
+    rank-requires
     returns
     mul-s
     shared-slice-read-s

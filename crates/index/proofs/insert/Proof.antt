@@ -5,8 +5,8 @@ use Rattle.index.proofs.Inserts.{inserted}
 use Rattle.index.proofs.insert.Statement.{statement}
 use Rattle.index.proofs.insert.Tie as tie
 
-rank-below-requires : tie.Need-rank-below-requires
-rank-below-requires c κs = (index-fits _ _ _ (c .before .before .before .before .pre .index), index-rises _ _ _ (c .before .before .before .before .pre .index))
+rank-requires : tie.Need-rank-requires
+rank-requires c κs = (index-fits _ _ _ (c .before .before .before .before .pre .index), index-rises _ _ _ (c .before .before .before .before .pre .index))
 
 move-up-requires : tie.Need-move-up-requires
 move-up-requires c κs = search needs
@@ -30,13 +30,13 @@ same-length-2 : tie.Need-same-length-2
 same-length-2 c = search needs
 
 returns : tie.Need-returns
-returns c = (refl, inserted _ _ _ _ _ _ _ (c .before .before .before .before .before .before .before .before .before .pre) (c .before .before .before .before .rank-below .ensures) (c .before .before .move-up .ensures))
+returns c = (refl, inserted _ _ _ _ _ _ _ (c .before .before .before .before .before .before .before .before .before .pre) (c .before .before .before .before .rank .ensures) (c .before .before .move-up .ensures))
 
 pub insert-spec : {M : Type 1} → statement M
 insert-spec =
     tie.close
     (tie.spec
-    rank-below-requires
+    rank-requires
     move-up-requires
     mul-order
     slice-write-order

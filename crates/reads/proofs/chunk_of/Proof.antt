@@ -1,23 +1,15 @@
-use native.Mathlib.Omega.{arith}
 use borrow.Author.Needs.{needs}
-use Rattle.formed.proofs.Asks.{entry-few, pages-asked, slots-asked}
+use Rattle.formed.proofs.Hints.{find-asked}
 use Rattle.store.specs.Mem.{mem}
 use Rattle.reads.proofs.Bytes.{chunk-held, chunk-none}
 use Rattle.reads.proofs.chunk_of.Statement.{statement}
 use Rattle.reads.proofs.chunk_of.Tie as tie
 
-entry-of-requires : tie.Need-entry-of-requires
-entry-of-requires c κs =
-    let start = c .before .before .before .before .before in
-    let m = mem (start .args .bytes .now) (start .args .keys .now) (start .args .order .now) (start .args .words .now) in
-    pages-asked m (start .pre .0)
-
 slot-at-requires : tie.Need-slot-at-requires
 slot-at-requires c κs =
-    let at-entry-of = c in
-    let start = at-entry-of .before .before .before .before .before .before in
+    let start = c .before .before .before .before .before in
     let m = mem (start .args .bytes .now) (start .args .keys .now) (start .args .order .now) (start .args .words .now) in
-    (slots-asked m (start .pre .0), omega (arith, at-entry-of .entry-of .ensures, entry-few m (start .pre .0) (start .args .page)))
+    find-asked m (start .pre .0)
 
 shared-slice-read-if1 : tie.Need-shared-slice-read-if1
 shared-slice-read-if1 c = search needs
@@ -26,10 +18,9 @@ returns : tie.Need-returns
 returns c =
     let at-if1 = c in
     let at-slot-at = at-if1 .before .before in
-    let at-entry-of = at-slot-at .before in
-    let start = at-entry-of .before .before .before .before .before .before in
+    let start = at-slot-at .before .before .before .before .before .before in
     let m = mem (start .args .bytes .now) (start .args .keys .now) (start .args .order .now) (start .args .words .now) in
-    chunk-none m (start .pre .0) (start .args .page) (start .args .number) (at-entry-of .entry-of .result) (at-slot-at .slot-at .result) (at-entry-of .entry-of .ensures) (at-slot-at .slot-at .ensures) (at-if1 .if1 .taken) (start .args .block .now) (start .pre .1 .0) (start .pre .1 .1)
+    chunk-none m (start .pre .0) (start .args .page) (start .args .number) (at-slot-at .slot-at .result) (at-slot-at .slot-at .ensures (start .args .bytes .now)) (at-if1 .if1 .taken) (start .args .block .now) (start .pre .1 .0) (start .pre .1 .1)
 
 mul-at : tie.Need-mul-at
 mul-at c = search needs
@@ -50,16 +41,14 @@ returns-2 : tie.Need-returns-2
 returns-2 c =
     let at-if1 = c .before in
     let at-slot-at = at-if1 .before .before in
-    let at-entry-of = at-slot-at .before in
-    let start = at-entry-of .before .before .before .before .before .before in
+    let start = at-slot-at .before .before .before .before .before .before in
     let m = mem (start .args .bytes .now) (start .args .keys .now) (start .args .order .now) (start .args .words .now) in
-    chunk-held m (start .pre .0) (start .args .page) (start .args .number) (at-entry-of .entry-of .result) (at-slot-at .slot-at .result) (at-entry-of .entry-of .ensures) (at-slot-at .slot-at .ensures) (at-if1 .if1 .left)
+    chunk-held m (start .pre .0) (start .args .page) (start .args .number) (at-slot-at .slot-at .result) (at-slot-at .slot-at .ensures (start .args .bytes .now)) (at-if1 .if1 .left)
 
 pub chunk-of-spec : {M : Type 1} → statement M
 chunk-of-spec =
     tie.close
     (tie.spec
-    entry-of-requires
     slot-at-requires
     shared-slice-read-if1
     returns

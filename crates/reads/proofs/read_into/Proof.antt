@@ -5,7 +5,6 @@ use native.Mathlib.Omega.{arith}
 use lib.ListN.{length, getD}
 use borrow.Author.Needs.{needs}
 use Rattle.formed.proofs.Same.{tab-is}
-use Rattle.formed.proofs.Asks.{entry-few, pages-asked}
 use Rattle.store.specs.Mem.{mem}
 use Rattle.formed.specs.Parts.{byteAt}
 use Rattle.reads.proofs.Bytes.{part-on}
@@ -13,16 +12,10 @@ use Rattle.reads.proofs.read_into.Statement.{statement}
 use Rattle.reads.proofs.read_into.Tie as tie
 
 abbrev Inv-loop : tie.InvT-loop
-Inv-loop bytes keys order words page start out₀ e pos₀ out pos = (pos ≤ length out₀) × (length out ≡ length out₀) × ((i : ℕ) → i < pos → getD out i 0 ≡ byteAt (mem bytes keys order words) page (start + i))
+Inv-loop bytes keys order words page start out₀ pos₀ out pos = (pos ≤ length out₀) × (length out ≡ length out₀) × ((i : ℕ) → i < pos → getD out i 0 ≡ byteAt (mem bytes keys order words) page (start + i))
 
 abbrev μ-loop : tie.MeasureT-loop
-μ-loop bytes keys order words page start out₀ e pos₀ out pos = length out₀ - pos
-
-entry-of-requires : tie.Need-entry-of-requires Inv-loop μ-loop
-entry-of-requires c κs =
-    let start = c .before .before .before .before .before in
-    let m = mem (start .args .bytes .now) (start .args .keys .now) (start .args .order .now) (start .args .words .now) in
-    pages-asked m (start .pre .0)
+μ-loop bytes keys order words page start out₀ pos₀ out pos = length out₀ - pos
 
 loop-holds : tie.Need-loop-holds Inv-loop μ-loop
 loop-holds c = (search needs, refl, λ i l. absurd (not-suc-le-zero l))
@@ -44,10 +37,8 @@ read-part-requires c κs =
     let at-least = c .before in
     let at-loop-test = at-least .before in
     let at-loop = at-loop-test .before in
-    let at-entry-of = at-loop .before in
-    let start = at-entry-of .before .before .before .before .before .before in
-    let m = mem (start .args .bytes .now) (start .args .keys .now) (start .args .order .now) (start .args .words .now) in
-    (start .pre .0, (omega (arith, at-entry-of .entry-of .ensures, entry-few m (start .pre .0) (start .args .page)), omega (arith, at-least .least .ensures), omega (arith, at-least .least .ensures, at-loop .loop .inv .1, at-loop-test .loop-test .taken)))
+    let start = at-loop .before .before .before .before .before .before in
+    (start .pre .0, (omega (arith, at-least .least .ensures), omega (arith, at-least .least .ensures, at-loop .loop .inv .1, at-loop-test .loop-test .taken)))
 
 add-pos : tie.Need-add-pos Inv-loop μ-loop
 add-pos c = search needs
@@ -61,12 +52,11 @@ loop-again c =
     let at-least = at-read-part .before .before in
     let at-loop-test = at-least .before in
     let at-loop = at-loop-test .before in
-    let at-entry-of = at-loop .before in
-    let start = at-entry-of .before .before .before .before .before .before in
+    let start = at-loop .before .before .before .before .before .before in
     let m = mem (start .args .bytes .now) (start .args .keys .now) (start .args .order .now) (start .args .words .now) in (
       omega (arith, at-least .least .ensures, at-loop .loop .inv .1, at-loop-test .loop-test .taken),
       at-read-part .read-part .ensures .long ∙ at-loop .loop .inv .1,
-      part-on m (start .pre .0) (start .args .page) (start .args .start) (at-entry-of .entry-of .result) (at-entry-of .entry-of .ensures) (at-loop .loop .pos) (at-least .least .result) (at-loop .loop .out) _ (at-loop .loop .inv .2) (at-read-part .read-part .ensures),
+      part-on m (start .pre .0) (start .args .page) (start .args .start) (at-loop .loop .pos) (at-least .least .result) (at-loop .loop .out) _ (at-loop .loop .inv .2) (at-read-part .read-part .ensures),
     )
 
 same-length : tie.Need-same-length Inv-loop μ-loop
@@ -76,7 +66,7 @@ returns : tie.Need-returns Inv-loop μ-loop
 returns c =
     let at-loop-test = c in
     let at-loop = at-loop-test .before in
-    let start = at-loop .before .before .before .before .before .before .before in
+    let start = at-loop .before .before .before .before .before .before in
     let m = mem (start .args .bytes .now) (start .args .keys .now) (start .args .order .now) (start .args .words .now) in
     tab-is (length (start .args .out .now)) (λ i. byteAt m (start .args .page) (start .args .start + i)) (at-loop .loop .out) (at-loop .loop .inv .1) (λ i l. at-loop .loop .inv .2 i (omega (arith, at-loop .loop .inv .1, at-loop-test .loop-test .left)))
 
@@ -86,7 +76,6 @@ read-into-spec =
     (tie.spec
     Inv-loop
     μ-loop
-    entry-of-requires
     loop-holds
     add-a
     sub-least

@@ -1,5 +1,5 @@
 use borrow.Author.Needs.{needs}
-use Rattle.formed.proofs.Asks.{slots-asked}
+use Rattle.formed.proofs.Hints.{find-asked}
 use Rattle.store.specs.Mem.{mem}
 use Rattle.reads.proofs.Bytes.{part-held, part-none}
 use Rattle.reads.proofs.read_part.Statement.{statement}
@@ -9,7 +9,7 @@ slot-at-requires : tie.Need-slot-at-requires
 slot-at-requires c κs =
     let start = c .before .before .before .before .before in
     let m = mem (start .args .bytes .now) (start .args .keys .now) (start .args .order .now) (start .args .words .now) in
-    (slots-asked m (start .pre .0), start .pre .1 .0)
+    find-asked m (start .pre .0)
 
 shared-slice-read-if1 : tie.Need-shared-slice-read-if1
 shared-slice-read-if1 c = search needs
@@ -27,7 +27,7 @@ returns c =
     let at-slot-at = at-if1 .before .before in
     let start = at-slot-at .before .before .before .before .before .before in
     let m = mem (start .args .bytes .now) (start .args .keys .now) (start .args .order .now) (start .args .words .now) in
-    part-none m (start .pre .0) (start .args .e) (start .args .a) (start .args .n) (at-slot-at .slot-at .result) (start .pre .1 .1) (at-slot-at .slot-at .ensures) (start .args .to) _ _ (at-if1 .if1 .taken) (at-fill .fill .ensures)
+    part-none m (start .pre .0) (start .args .page) (start .args .a) (start .args .n) (at-slot-at .slot-at .result) (start .pre .1 .0) (at-slot-at .slot-at .ensures (start .args .bytes .now)) (start .args .to) _ _ (at-if1 .if1 .taken) (at-fill .fill .ensures)
 
 mul-copy-out : tie.Need-mul-copy-out
 mul-copy-out c = search needs
@@ -48,7 +48,7 @@ returns-2 c =
     let at-slot-at = at-if1 .before .before in
     let start = at-slot-at .before .before .before .before .before .before in
     let m = mem (start .args .bytes .now) (start .args .keys .now) (start .args .order .now) (start .args .words .now) in
-    part-held m (start .pre .0) (start .args .e) (start .args .a) (start .args .n) (at-slot-at .slot-at .result) (start .pre .1 .1) (at-slot-at .slot-at .ensures) (start .args .to) _ _ (at-if1 .if1 .left) (at-copy-out .copy-out .ensures)
+    part-held m (start .pre .0) (start .args .page) (start .args .a) (start .args .n) (at-slot-at .slot-at .result) (start .pre .1 .0) (at-slot-at .slot-at .ensures (start .args .bytes .now)) (start .args .to) _ _ (at-if1 .if1 .left) (at-copy-out .copy-out .ensures)
 
 pub read-part-spec : {M : Type 1} → statement M
 read-part-spec =

@@ -1,3 +1,4 @@
+use mathlib.Core.List.{[]}
 use native.Mathlib.Omega.{arith}
 use lib.ListN.{length}
 use borrow.Author.Needs.{needs}
@@ -46,7 +47,7 @@ returns c =
     let at-prepare = at-write-from .before .before .before .before .before .before .before .before .before .before .before in
     let at-touched = at-prepare .before .before .before .before .before in
     let start = at-touched .before .before .before .before .before .before in
-    plain-done (mem (start .args .bytes .now) (start .args .keys .now) (start .args .order .now) (start .args .words .now)) (start .args .page) 0 (start .args .contents .now) 0 (at-touched .touched .result) (contents-cleared (mem (start .args .bytes .now) (start .args .keys .now) (start .args .order .now) (start .args .words .now)) (start .args .page) (length (start .args .contents .now)) (at-touched .touched .result) (omega (arith, start .fits .page)) (start .pre) (at-touched .touched .ensures)) (mem (start .args .bytes .now) (at-prepare .prepare .last .1 .0) (at-prepare .prepare .last .1 .1 .0) (at-prepare .prepare .last .1 .1 .1 .0)) (at-prepare .prepare .ensures) (contents-unjournalled (mem (start .args .bytes .now) (start .args .keys .now) (start .args .order .now) (start .args .words .now)) (start .args .page) (length (start .args .contents .now)) (start .pre)) _ (at-write-from .write-from .ensures)
+    plain-done (mem (start .args .bytes .now) (start .args .keys .now) (start .args .order .now) (start .args .words .now)) (start .args .page) 0 (start .args .contents .now) 0 (at-touched .touched .result) (contents-cleared (mem (start .args .bytes .now) (start .args .keys .now) (start .args .order .now) (start .args .words .now)) (start .args .page) (length (start .args .contents .now)) (at-touched .touched .result) (omega (arith, start .fits .page)) (start .pre) (at-touched .touched .ensures)) (mem (start .args .bytes .now) (at-prepare .prepare .last .1 .0) (at-prepare .prepare .last .1 .1 .0) (at-prepare .prepare .last .1 .1 .1 .0)) (at-prepare .prepare .ensures) [] (contents-unjournalled (mem (start .args .bytes .now) (start .args .keys .now) (start .args .order .now) (start .args .words .now)) (start .args .page) (length (start .args .contents .now)) (start .pre)) _ (at-write-from .write-from .ensures)
 
 pub fill-spec : {M : Type 1} → statement M
 fill-spec = tie.close (tie.spec touched-requires cast-count prepare-requires write-from-requires same-length same-length-2 same-length-3 same-length-4 returns)

@@ -1,0 +1,89 @@
+use Prim.Native.Nat.{_≤_}
+use native.Mathlib.Omega.{arith}
+use borrow.Author.Needs.{needs}
+use Rattle.formed.proofs.Asks.{slots-asked}
+use Rattle.formed.proofs.Hints.{find-asked}
+use Rattle.store.specs.Mem.{mem}
+use Rattle.chunks.proofs.Turns.{after-learnt, one-room, one-held, one-known}
+use Rattle.chunks.proofs.hold_chunk.Statement.{statement}
+use Rattle.chunks.proofs.hold_chunk.Tie as tie
+
+hinted-requires : tie.Need-hinted-requires
+hinted-requires c κs =
+    let start = c .before .before .before .before .before .before .before in
+    find-asked (mem (start .args .bytes .now) (start .args .keys .now) (start .args .order .now) (start .args .words .now)) (start .pre .0 .formed)
+
+slice-read-if1 : tie.Need-slice-read-if1
+slice-read-if1 c = search needs
+
+same-length : tie.Need-same-length
+same-length c = search needs
+
+same-length-2 : tie.Need-same-length-2
+same-length-2 c = search needs
+
+same-length-3 : tie.Need-same-length-3
+same-length-3 c = search needs
+
+returns : tie.Need-returns
+returns c =
+    let at-if1 = c in
+    let at-hinted = at-if1 .before .before in
+    let start = at-hinted .before .before .before .before .before .before .before .before in
+    let a = one-known (start .args .bytes .now) (start .args .keys .now) (start .args .order .now) (start .args .words .now) (start .args .page) (start .args .chunk) (start .pre .0) (start .args .k) (start .pre .1) (at-hinted .hinted .result) (at-if1 .if1 .taken) (at-hinted .hinted .ensures) in
+    (a .shows, a .pages)
+
+hold-requires : tie.Need-hold-requires
+hold-requires c κs =
+    let start = c .before .before .before .before .before .before .before .before .before .before .before .before .before in
+    let q = start .pre .1 in
+    (slots-asked (mem (start .args .bytes .now) (start .args .keys .now) (start .args .order .now) (start .args .words .now)) (start .pre .0 .formed), (omega arith, one-room (start .args .bytes .now) (start .args .keys .now) (start .args .order .now) (start .args .words .now) (start .args .page) (start .args .chunk) (start .pre .0) (start .args .k) (start .pre .1)))
+
+learn-requires : tie.Need-learn-requires
+learn-requires c κs =
+    let at-hold = c .before .before .before .before .before .before .before .before in
+    let start = at-hold .before .before .before .before .before .before .before .before .before .before .before .before .before .before in
+    let h = at-hold .hold .ensures in
+    let a = one-held (start .args .bytes .now) (start .args .keys .now) (start .args .order .now) (start .args .words .now) (start .args .page) (start .args .chunk) (start .pre .0) (start .args .k) (start .pre .1) _ _ _ _ h in
+    let l = a .shows .formed .lengths in
+    let few = start .pre .0 .formed .lengths .slots-hi in
+    let s = h .slot-in in
+    let w = l .in-words in
+    let o = l .in-order in
+    let lo = l .slots-lo in
+    ((omega arith, l .slots-hi, l .pages-hi), (omega arith, omega arith))
+
+same-length-4 : tie.Need-same-length-4
+same-length-4 c = search needs
+
+same-length-5 : tie.Need-same-length-5
+same-length-5 c = search needs
+
+same-length-6 : tie.Need-same-length-6
+same-length-6 c = search needs
+
+returns-2 : tie.Need-returns-2
+returns-2 c =
+    let at-learn = c .before .before in
+    let at-hold = at-learn .before .before .before .before .before .before .before .before .before in
+    let start = at-hold .before .before .before .before .before .before .before .before .before .before .before .before .before .before in
+    let a = one-held (start .args .bytes .now) (start .args .keys .now) (start .args .order .now) (start .args .words .now) (start .args .page) (start .args .chunk) (start .pre .0) (start .args .k) (start .pre .1) _ _ _ _ (at-hold .hold .ensures) in
+    let b = after-learnt _ _ _ _ _ a _ (at-learn .learn .ensures) in
+    (b .shows, b .pages)
+
+pub hold-chunk-spec : {M : Type 1} → statement M
+hold-chunk-spec =
+    tie.close
+    (tie.spec
+    hinted-requires
+    slice-read-if1
+    same-length
+    same-length-2
+    same-length-3
+    returns
+    hold-requires
+    learn-requires
+    same-length-4
+    same-length-5
+    same-length-6
+    returns-2)

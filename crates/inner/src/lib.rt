@@ -1,0 +1,158 @@
+// Inner functions, exported for the benchmarks alone: no part of the library. A host must not link these, since they test nothing.
+ghost use mathlib.Core.Path.{_≡_};
+ghost use Prim.Native.Nat.{_≤_};
+ghost use lib.ListN.{length};
+ghost use Rattle.store.specs.Mem.{mem};
+ghost use Rattle.formed.specs.WellFormed.{WellFormed};
+ghost use Rattle.view.specs.View.{settingOf, viewOf};
+ghost use Rattle.view.specs.Checks.{wordWriteChecks, byteWriteChecks};
+ghost use Rattle.room.specs.Refusals.{number};
+ghost use Rattle.journal.specs.Steps.{RollBackAsks};
+ghost use Rattle.drops.specs.Drops.{PageAsks};
+use outcome::Answer;
+use page_ids::BasePage;
+use page_ids::Layout;
+use page_ids::PageId;
+use word::Word;
+
+// Opens a memory with the layout of document 01's example and no calldata.
+#[no_mangle]
+pub extern "C" fn in_open(
+    bytes: &mut [u8],
+    keys: &mut [u64],
+    order: &mut [u32],
+    words: &mut [u64],
+    chunks: u32,
+    pages: u32,
+    room: u32,
+) -> u32 {
+    let layout = Layout {
+        static_memory: PageId(1),
+        calldata: PageId(4),
+        bootloader_heap: PageId(5),
+        bootloader_aux: PageId(6),
+        base: BasePage(64),
+        stride: 8,
+    };
+    match opening::open(bytes, keys, order, words, layout, chunks, pages, room, b"") {
+        Answer::Done => 0,
+        Answer::Refused(n) => n,
+    }
+}
+
+// Four limbs of a word, the lowest first.
+fn put(out: &mut [u64], w: Word)
+    requires { ⌜ length (now out) ≡ 4 ⌝ }
+{
+    let limbs = w.limbs;
+    out[0] = limbs[0];
+    out[1] = limbs[1];
+    out[2] = limbs[2];
+    out[3] = limbs[3];
+}
+
+#[no_mangle]
+pub extern "C" fn in_read_word(
+    bytes: &[u8],
+    keys: &[u64],
+    order: &[u32],
+    words: &[u64],
+    page: u32,
+    address: u32,
+    out: &mut [u64],
+)
+    requires { ⌜ WellFormed (mem (now bytes) (now keys) (now order) (now words)) ⌝ }
+    requires { ⌜ length (now out) ≡ 4 ⌝ }
+{
+    let read = reads::read_word(bytes, keys, order, words, page, address);
+    put(out, word::from_big_endian(read));
+}
+
+#[no_mangle]
+pub extern "C" fn in_read_range(
+    bytes: &[u8],
+    keys: &[u64],
+    order: &[u32],
+    words: &[u64],
+    page: u32,
+    start: u32,
+    out: &mut [u8],
+)
+    requires { ⌜ WellFormed (mem (now bytes) (now keys) (now order) (now words)) ⌝ }
+    requires { ⌜ length (now out) ≤ 4294967296 ⌝ }
+{
+    reads::read_into(bytes, keys, order, words, page, start, out);
+}
+
+#[no_mangle]
+pub extern "C" fn in_write_word(
+    bytes: &mut [u8],
+    keys: &mut [u64],
+    order: &mut [u32],
+    words: &mut [u64],
+    page: u32,
+    address: u32,
+    limb0: u64,
+    limb1: u64,
+    limb2: u64,
+    limb3: u64,
+)
+    requires { ⌜ (WellFormed (mem (now bytes) (now keys) (now order) (now words))) × (number (wordWriteChecks (settingOf (mem (now bytes) (now keys) (now order) (now words))) (viewOf (mem (now bytes) (now keys) (now order) (now words))) page address) ≡ 0) ⌝ }
+{
+    let limbs = [limb0, limb1, limb2, limb3];
+    let value = word::to_big_endian(Word { limbs: limbs });
+    writes::steps::write_word(bytes, keys, order, words, page, address, value);
+}
+
+#[no_mangle]
+pub extern "C" fn in_write_range(
+    bytes: &mut [u8],
+    keys: &mut [u64],
+    order: &mut [u32],
+    words: &mut [u64],
+    page: u32,
+    start: u32,
+    src: &[u8],
+)
+    requires { ⌜ (WellFormed (mem (now bytes) (now keys) (now order) (now words))) × (number (byteWriteChecks (settingOf (mem (now bytes) (now keys) (now order) (now words))) (viewOf (mem (now bytes) (now keys) (now order) (now words))) page start (length (now src))) ≡ 0) ⌝ }
+{
+    writes::steps::write_range(bytes, keys, order, words, page, start, src);
+}
+
+#[no_mangle]
+pub extern "C" fn in_free_page(
+    bytes: &mut [u8],
+    keys: &mut [u64],
+    order: &mut [u32],
+    words: &mut [u64],
+    page: u32,
+)
+    requires { ⌜ PageAsks (mem (now bytes) (now keys) (now order) (now words)) page ⌝ }
+{
+    drops::free_page(bytes, keys, order, words, page);
+}
+
+#[no_mangle]
+pub extern "C" fn in_roll_back(
+    bytes: &mut [u8],
+    keys: &[u64],
+    order: &[u32],
+    words: &mut [u64],
+    heap: u64,
+    aux: u64,
+)
+    requires { ⌜ RollBackAsks (mem (now bytes) (now keys) (now order) (now words)) heap aux ⌝ }
+{
+    journal::roll_back(bytes, keys, order, words, heap, aux);
+}
+
+#[no_mangle]
+pub extern "C" fn in_well_formed(bytes: &[u8], keys: &[u64], order: &[u32], words: &[u64]) -> bool {
+    formed::well_formed(bytes, keys, order, words)
+}
+
+// One plain scan: whether every byte is zero.
+#[no_mangle]
+pub extern "C" fn in_scan(bytes: &[u8]) -> bool {
+    formed::slot::all_zero(bytes)
+}

@@ -1,0 +1,232 @@
+-- The contract of an instruction's call, from what the instruction and the parts tell.
+-- Assumes nothing.
+use mathlib.Core.Path.{_≡_, refl, sym, ap, _∙_, subst}
+use mathlib.Core.Bool.{Bool, true, false, not, _&&_}
+use mathlib.Core.List.{List, [], _∷_, _++_}
+use mathlib.Core.Logic.{_⊎_, inl, inr}
+use Prim.Native.Nat.{ℕ, _<_}
+use native.Mathlib.Omega.{arith}
+use lib.Dec.{ltb}
+use lib.ListN.{length, getD, drop}
+use borrow.Author.Tests.{ne-eqb, ltb-true}
+use Rattle.index.proofs.Logic.{and-left, and-right}
+use Rattle.outcome.specs.Outcome.{Outcome, refused, panicked, done, firstOf}
+use Rattle.word.specs.Value.{value}
+use Rattle.state.specs.declared.Frame.{Frame}
+use Rattle.state.specs.declared.Area.{Area}
+use Rattle.store.specs.Mem.{Mem}
+use Rattle.formed.specs.Formed.{wellFormed}
+use Rattle.view.specs.View.{settingOf, viewOf}
+use Rattle.view.specs.Checks.{Check, wordWriteChecks}
+use Rattle.view.specs.Instructions.{Operand, Hook, Given, Stop, running, onHook, heapOf, frameAlone, hooked, accessChecks, loaded, storeChecks, stored, pointerChecks, pointed, staticChecks, staticLoaded, staticStoreChecks, staticStored}
+use Rattle.view.specs.Calls.{Call, Value, Load, Store, LoadPointer, LoadStatic, StoreStatic, given, answerOf, CallDoes}
+use Rattle.instructions.specs.Executions as executions
+use Rattle.instructions.specs.Executions.{toldBy, told}
+use Rattle.instructions.specs.declared.Execution.{Execution}
+use Rattle.instructions.specs.declared.ExecutionStatus.{ExecutionStatus}
+use Rattle.instructions.specs.declared.ExecutionStatus.the-variants.{Running, SuspendedOnHook, Panicked, Refused}
+use Rattle.zincpapaya.specs.Executing.{bit, flag, frameOf, toldAs, frameNumbers, givenNumbers, statusOf, frameAfter, outAfter, Tells, Executes}
+
+-- ---- an outcome that a status can tell: a refusal's number is none of 0, 100, 101, and a panic gives the frame alone
+pub data Tellable : Outcome Value → Type 0 where
+  refuses : {n : ℕ} → (ltb 0 n && ltb n 100) ≡ true → Tellable (refused n)
+  panics : {f : Frame} → Tellable (panicked (given (frameAlone f)))
+  gives : {g : Given} → Tellable (done (given g))
+
+data All : List (Check Value) → Type 0 where
+  end : All []
+  next : {b : Bool} {o : Outcome Value} {rest : List (Check Value)} → Tellable o → All rest → All ((b, o) ∷ rest)
+
+first : (checks : List (Check Value)) → All checks → {o : Outcome Value} → Tellable o → Tellable (firstOf checks o)
+first [] end p = p
+first ((true, o) ∷ rest) (next q h) p = q
+first ((false, o) ∷ rest) (next q h) p = first rest h p
+
+-- the instructions have such outcomes
+module _ (m : Mem) (f : Frame) (x : Operand) where
+  formed : {o : Outcome Value} → Tellable o → Tellable (firstOf ((not (wellFormed m), refused 3) ∷ []) o)
+  formed p = first ((not (wellFormed m), refused 3) ∷ []) (next (refuses refl) end) p
+
+  writes : (p a : ℕ) (rest : List (Check Value)) → All rest → All (wordWriteChecks (settingOf m) (viewOf m) p a ++ rest)
+  writes p a rest h = next (refuses refl) (next (refuses refl) (next (refuses refl) (next (refuses refl) h)))
+
+  pub load-tellable : (area : Area) → Tellable (answerOf m (Load area f x))
+  load-tellable area = formed (first (accessChecks given area f (x .word)) (next panics (next panics end)) (gives {g = loaded (viewOf m) area f x}))
+
+  pub store-tellable : (area : Area) (n : ℕ) (h : Hook) → Tellable (answerOf m (Store area f x n h))
+  store-tellable area n h =
+      formed
+      (first (storeChecks given (settingOf m) (viewOf m) area f (x .word) n h)
+      (next panics (next panics (writes (heapOf f area) (x .word) ((hooked h (x .word) && ltb 4294967295 n, refused 15) ∷ []) (next (refuses refl) end))))
+      (gives {g = stored area f x n h}))
+
+  pub pointer-tellable : Tellable (answerOf m (LoadPointer f x))
+  pointer-tellable = formed (first (pointerChecks given f x) (next panics (next panics (next (refuses refl) end))) (gives {g = pointed (viewOf m) f x}))
+
+  pub static-tellable : Tellable (answerOf m (LoadStatic f x))
+  static-tellable = formed (first (staticChecks given f (x .word)) (next panics end) (gives {g = staticLoaded (settingOf m) (viewOf m) f x}))
+
+  pub static-store-tellable : (n : ℕ) → Tellable (answerOf m (StoreStatic f x n))
+  static-store-tellable n =
+      formed
+      (first (staticStoreChecks given (settingOf m) (viewOf m) f (x .word))
+      (next panics (next (refuses refl) (next (refuses refl) (next (refuses refl) (next (refuses refl) end)))))
+      (gives {g = staticStored f x}))
+
+-- what is known of each
+refusal-is : {o : Outcome Value} → Tellable o → (n : ℕ) → o ≡ refused n → (0 < n) × (n < 100)
+refusal-is (refuses {n = k} h) n q =
+    let e : k ≡ n = cc in
+    subst (λ (j : ℕ). (0 < j) × (j < 100)) e (ltb-true 0 k (and-left (ltb 0 k) (ltb k 100) h), ltb-true k 100 (and-right (ltb 0 k) (ltb k 100) h))
+refusal-is panics n q = absurd (let z : _≡_ {A = ℕ} 0 1 = cc in omega arith)
+refusal-is gives n q = absurd (let z : _≡_ {A = ℕ} 0 1 = cc in omega arith)
+
+panic-is : {o : Outcome Value} → Tellable o → (g : Given) → o ≡ panicked (given g) → frameAlone (g .frame) ≡ g
+panic-is (refuses h) g q = absurd (let z : _≡_ {A = ℕ} 0 1 = cc in omega arith)
+panic-is (panics {f = f}) g q =
+    let e : frameAlone f ≡ g = cc in
+    sym (ap (λ (x : Given). frameAlone (x .frame)) e) ∙ e
+panic-is gives g q = absurd (let z : _≡_ {A = ℕ} 0 1 = cc in omega arith)
+
+-- ---- numbers and back
+flag-bit : (b : Bool) → flag (bit b) ≡ b
+flag-bit true = refl
+flag-bit false = refl
+
+bit-small : (b : Bool) → bit b < 2
+bit-small true = omega arith
+bit-small false = omega arith
+
+frame-back : (f : Frame) → frameOf (frameNumbers f) ≡ f
+frame-back f = λ i. record { gas = f .gas; heap = f .heap; aux = f .aux; «heap_bound» = f .«heap_bound»; «aux_bound» = f .«aux_bound»; panicked = flag-bit (f .panicked) i }
+
+abbrev back : Execution → ℕ → Stop → Given
+back x h s = record {
+  word = value (givenNumbers x h);
+  operand = record { word = value (drop 4 (givenNumbers x h)); tag = flag (bit (x .operand .tagged)) };
+  frame = frameOf (frameNumbers (x .frame));
+  stop = s;
+}
+
+given-back : (x : Execution) (h : ℕ) (s : Stop) → back x h s ≡ record { word = value (x .word .limbs); operand = executions.operandOf (x .operand); frame = x .frame; stop = s }
+unfolding value
+given-back x h s = λ i. record {
+  word = value (x .word .limbs);
+  operand = record { word = value (x .operand .word .limbs); tag = flag-bit (x .operand .tagged) i };
+  frame = frame-back (x .frame) i;
+  stop = s;
+}
+
+-- ---- what is left by an execution x of the status s
+record Left (s : ExecutionStatus) (x : Execution) (frame out : List ℕ) (r : ℕ) (frame' out' : List ℕ) : Type 0 where
+  same : toldAs r frame' out' ≡ toldBy s (record { word = value (x .word .limbs); operand = executions.operandOf (x .operand); frame = x .frame; stop = executions.stopOf s })
+  kept-out : (r ≡ 0 → ⊥) → (r ≡ 101 → ⊥) → out' ≡ out
+  kept-frame : (r ≡ 0 → ⊥) → (r ≡ 100 → ⊥) → (r ≡ 101 → ⊥) → frame' ≡ frame
+  mark : (frame' ≡ frame) ⊎ (getD frame' 5 0 < 2)
+  tag : (out' ≡ out) ⊎ (getD out' 8 0 < 2)
+  no-stop : r ≡ 0 → getD out' 9 0 ≡ 0
+
+module _ (x : Execution) (frame out : List ℕ) where
+  abbrev told-at : ExecutionStatus → Outcome Value
+  told-at s = toldBy s (record { word = value (x .word .limbs); operand = executions.operandOf (x .operand); frame = x .frame; stop = executions.stopOf s })
+
+  left : (s : ExecutionStatus) → Tellable (told-at s) → Left s x frame out (statusOf s) (frameAfter s x frame) (outAfter s x out)
+  left Running p = record {
+    same = ap (λ (g : Given). done (given g)) (given-back x 0 running);
+    kept-out = λ a b. absurd (a refl);
+    kept-frame = λ a b c. absurd (a refl);
+    mark = inr (bit-small (x .frame .panicked));
+    tag = inr (bit-small (x .operand .tagged));
+    no-stop = λ _. refl;
+  }
+  left (SuspendedOnHook h) p = record {
+    same = ap (λ (g : Given). done (given g)) (given-back x h (onHook h));
+    kept-out = λ a b. absurd (b refl);
+    kept-frame = λ a b c. absurd (c refl);
+    mark = inr (bit-small (x .frame .panicked));
+    tag = inr (bit-small (x .operand .tagged));
+    no-stop = λ e. absurd (omega arith);
+  }
+  left Panicked p = record {
+    same =
+        ap (λ (f : Frame). panicked (given (frameAlone f))) (frame-back (x .frame))
+        ∙ ap (λ (g : Given). panicked (given g)) (panic-is p _ refl);
+    kept-out = λ a b. refl;
+    kept-frame = λ a b c. absurd (b refl);
+    mark = inr (bit-small (x .frame .panicked));
+    tag = inl refl;
+    no-stop = λ e. absurd (omega arith);
+  }
+  left (Refused n) p =
+      let h = refusal-is p n refl in
+      record {
+        same = rw (ne-eqb n 0 (λ e. omega arith), ne-eqb n 100 (λ e. omega arith), ne-eqb n 101 (λ e. omega arith)) refl;
+        kept-out = λ a b. refl;
+        kept-frame = λ a b c. refl;
+        mark = inl refl;
+        tag = inl refl;
+        no-stop = λ e. absurd (omega arith);
+      }
+
+-- ---- the contract
+module _ (m : Mem) (c : Call) (frame out : List ℕ) where
+  pub unfit : ((length frame ≡ 6) × (length out ≡ 10) → ⊥) → Executes m c frame out 102 m frame out
+  unfit h = record {
+    unfit = λ _. (refl, (refl, (refl, refl)));
+    does = λ a b. absurd (h (a, b));
+    kept-out = λ a b. refl;
+    kept-frame = λ a b d. refl;
+    mark = inl refl;
+    tag = inl refl;
+    no-stop = λ e. absurd (omega arith);
+  }
+
+  module _ (a : length frame ≡ 6) (b : length out ≡ 10) (tellable : Tellable (answerOf m c)) where
+    -- d is the call as it was made
+    pub executes : {d : Call} → d ≡ c → {m' : Mem} (x : Execution) → CallDoes m d (told x) m' → {r : ℕ} {frame' out' : List ℕ} → Tells x frame out r frame' out' → Executes m c frame out r m' frame' out'
+    executes {d} q {m'} x does {r} {frame'} {out'} t =
+        let done : CallDoes m c (told x) m' = subst (λ (y : Call). CallDoes m y (told x) m') q does in
+        let h : Left (x .status) x frame out r frame' out' =
+        subst (λ (z : ℕ). Left (x .status) x frame out z frame' out') (sym (t .status))
+        (subst (λ (z : List ℕ). Left (x .status) x frame out (statusOf (x .status)) z out') (sym (t .frame-is))
+        (subst (λ (z : List ℕ). Left (x .status) x frame out (statusOf (x .status)) (frameAfter (x .status) x frame) z) (sym (t .out-is))
+        (left x frame out (x .status) (subst Tellable (sym (done .answer)) tellable)))) in
+        record {
+          unfit = λ n. absurd (n (a, b));
+          does = λ _ _. record { answer = h .same ∙ done .answer; kept = done .kept; changed = done .changed };
+          kept-out = h .kept-out;
+          kept-frame = h .kept-frame;
+          mark = h .mark;
+          tag = h .tag;
+          no-stop = h .no-stop;
+        }
+
+-- ---- the calls as they are made
+pub load-is : {area area' : Area} {f f' : Frame} {x x' : Operand} → area ≡ area' → f ≡ f' → x ≡ x' → Load area f x ≡ Load area' f' x'
+load-is d e q = λ i. Load (d i) (e i) (q i)
+
+pub store-is : {area area' : Area} {f f' : Frame} {x x' : Operand} {n n' : ℕ} {h h' : Hook} → area ≡ area' → f ≡ f' → x ≡ x' → n ≡ n' → h ≡ h' → Store area f x n h ≡ Store area' f' x' n' h'
+store-is d e q w k = λ i. Store (d i) (e i) (q i) (w i) (k i)
+
+pub pointer-is : {f f' : Frame} {x x' : Operand} → f ≡ f' → x ≡ x' → LoadPointer f x ≡ LoadPointer f' x'
+pointer-is e q = λ i. LoadPointer (e i) (q i)
+
+pub static-is : {f f' : Frame} {x x' : Operand} → f ≡ f' → x ≡ x' → LoadStatic f x ≡ LoadStatic f' x'
+static-is e q = λ i. LoadStatic (e i) (q i)
+
+pub static-store-is : {f f' : Frame} {x x' : Operand} {n n' : ℕ} → f ≡ f' → x ≡ x' → n ≡ n' → StoreStatic f x n ≡ StoreStatic f' x' n'
+static-store-is e q w = λ i. StoreStatic (e i) (q i) (w i)
+
+-- ---- what the parts tell
+module _ (x : Execution) {frame out frame' : List ℕ} (e : frame' ≡ frameNumbers (x .frame)) where
+  pub panic-told : x .status ≡ Panicked → Tells x frame out 100 frame' out
+  panic-told q = record { status = sym (ap statusOf q); frame-is = e ∙ sym (ap (λ (s : ExecutionStatus). frameAfter s x frame) q); out-is = sym (ap (λ (s : ExecutionStatus). outAfter s x out) q) }
+
+  pub run-told : x .status ≡ Running → {out' : List ℕ} → out' ≡ givenNumbers x 0 → Tells x frame out 0 frame' out'
+  run-told q d = record { status = sym (ap statusOf q); frame-is = e ∙ sym (ap (λ (s : ExecutionStatus). frameAfter s x frame) q); out-is = d ∙ sym (ap (λ (s : ExecutionStatus). outAfter s x out) q) }
+
+  pub stop-told : {h : ℕ} → x .status ≡ SuspendedOnHook h → {out' : List ℕ} → out' ≡ givenNumbers x h → Tells x frame out 101 frame' out'
+  stop-told q d = record { status = sym (ap statusOf q); frame-is = e ∙ sym (ap (λ (s : ExecutionStatus). frameAfter s x frame) q); out-is = d ∙ sym (ap (λ (s : ExecutionStatus). outAfter s x out) q) }
+
+pub operand-made : (tagged : Bool) {w n : ℕ} → w ≡ n → _≡_ {A = Operand} (record { word = w; tag = tagged }) (record { word = n; tag = tagged })
+operand-made tagged e = λ i. record { word = e i; tag = tagged }

@@ -1,0 +1,34 @@
+use Rattle.zincpapaya.proofs.MemoryGives.{gives-unfit, gives-refused, gives-value, number-put}
+use lib.ListN.{getD}
+use borrow.Author.Needs.{needs}
+use Rattle.zincpapaya.proofs.answers.give_number.Statement.{statement}
+use Rattle.zincpapaya.proofs.answers.give_number.Tie as tie
+
+returns : tie.Need-returns
+returns c =
+    let at-if1 = c in
+    let start = at-if1 .before in
+    gives-unfit 1 (λ o. getD o 0 0) (start .args .out .now) _ (at-if1 .if1 .taken)
+
+returns-2 : tie.Need-returns-2
+returns-2 c =
+    let at-if2 = c in
+    let at-if1 = at-if2 .before in
+    let start = at-if1 .before in
+    gives-refused 1 (λ o. getD o 0 0) (start .args .out .now) _ (start .args .refusal) (at-if1 .if1 .left) (at-if2 .if2 .taken)
+
+slice-write-out : tie.Need-slice-write-out
+slice-write-out c = search needs
+
+same-length : tie.Need-same-length
+same-length c = search needs
+
+returns-3 : tie.Need-returns-3
+returns-3 c =
+    let at-if2 = c in
+    let at-if1 = at-if2 .before in
+    let start = at-if1 .before in
+    gives-value 1 (λ o. getD o 0 0) (start .args .out .now) (start .args .number) (start .args .refusal) _ (at-if1 .if1 .left) (at-if2 .if2 .left) (number-put (start .args .number) (start .args .out .now) (at-if1 .if1 .left))
+
+pub give-number-spec : {M : Type 1} → statement M
+give-number-spec = tie.close (tie.spec returns returns-2 slice-write-out same-length returns-3)

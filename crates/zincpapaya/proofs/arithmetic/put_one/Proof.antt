@@ -1,0 +1,23 @@
+use mathlib.Core.Path.{refl}
+use Rattle.zincpapaya.proofs.ArithmeticLists.{one-put}
+use borrow.Author.Needs.{needs}
+use Rattle.zincpapaya.proofs.arithmetic.put_one.Statement.{statement}
+use Rattle.zincpapaya.proofs.arithmetic.put_one.Tie as tie
+
+wide-requires : tie.Need-wide-requires
+wide-requires c κs = tt
+
+slice-write-out : tie.Need-slice-write-out
+slice-write-out c = search needs
+
+same-length : tie.Need-same-length
+same-length c = search needs
+
+returns : tie.Need-returns
+returns c =
+    let at-wide = c in
+    let start = at-wide .before .before in
+    (refl, one-put (start .args .out .now) (start .pre) (at-wide .wide .ensures))
+
+pub put-one-spec : {M : Type 1} → statement M
+put-one-spec = tie.close (tie.spec wide-requires slice-write-out same-length returns)

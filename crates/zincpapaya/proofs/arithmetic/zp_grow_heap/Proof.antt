@@ -1,0 +1,72 @@
+use mathlib.Core.Path.{_∙_}
+use Rattle.zincpapaya.proofs.ArithmeticGives.{grow-unfit, grows}
+use Rattle.zincpapaya.specs.Executing.{areaOf, frameOf}
+use Rattle.state.specs.Access.{accessed}
+use borrow.Author.Needs.{needs}
+use Rattle.zincpapaya.proofs.arithmetic.zp_grow_heap.Statement.{statement}
+use Rattle.zincpapaya.proofs.arithmetic.zp_grow_heap.Tie as tie
+
+returns : tie.Need-returns
+returns c =
+    let at-if1 = c in
+    let start = at-if1 .before .before .before in
+    grow-unfit (start .args .frame .now) (start .args .out .now) (accessed (frameOf (start .args .frame .now)) (areaOf (start .args .aux)) (start .args .new-bound)) (λ h. at-if1 .if1 .taken (h .0))
+
+returns-2 : tie.Need-returns-2
+returns-2 c =
+    let at-if2 = c in
+    let start = at-if2 .before .before .before .before in
+    grow-unfit (start .args .frame .now) (start .args .out .now) (accessed (frameOf (start .args .frame .now)) (areaOf (start .args .aux)) (start .args .new-bound)) (λ h. at-if2 .if2 .taken (h .1))
+
+frame-of-requires : tie.Need-frame-of-requires
+frame-of-requires c κs = search needs
+
+area-of-requires : tie.Need-area-of-requires
+area-of-requires c κs = tt
+
+access-requires : tie.Need-access-requires
+access-requires c κs = tt
+
+put-frame-requires : tie.Need-put-frame-requires
+put-frame-requires c κs = search needs
+
+bit-requires : tie.Need-bit-requires
+bit-requires c κs = tt
+
+put-one-requires : tie.Need-put-one-requires
+put-one-requires c κs = search needs
+
+same-length : tie.Need-same-length
+same-length c = search needs
+
+same-length-2 : tie.Need-same-length-2
+same-length-2 c = search needs
+
+returns-3 : tie.Need-returns-3
+returns-3 c =
+    let at-put-one = c .before .before in
+    let at-bit = at-put-one .before in
+    let at-put-frame = at-bit .before .before .before .before in
+    let at-access = at-put-frame .before .before in
+    let at-area-of = at-access .before in
+    let at-frame-of = at-area-of .before in
+    let at-if2 = at-frame-of .before .before in
+    let at-if1 = at-if2 .before in
+    let start = at-if1 .before .before .before in
+    grows (start .args .frame .now) (start .args .out .now) (accessed (frameOf (start .args .frame .now)) (areaOf (start .args .aux)) (start .args .new-bound)) (at-if1 .if1 .left) (at-if2 .if2 .left) (at-access .access .ensures ∙ (λ i. accessed (at-frame-of .frame-of .ensures i) (at-area-of .area-of .ensures i) (start .args .new-bound))) (at-put-one .put-one .ensures .0) (at-put-frame .put-frame .ensures) (at-put-one .put-one .ensures .1) (at-bit .bit .ensures)
+
+pub zp-grow-heap-spec : {M : Type 1} → statement M
+zp-grow-heap-spec =
+    tie.close
+    (tie.spec
+    returns
+    returns-2
+    frame-of-requires
+    area-of-requires
+    access-requires
+    put-frame-requires
+    bit-requires
+    put-one-requires
+    same-length
+    same-length-2
+    returns-3)

@@ -1,0 +1,34 @@
+use mathlib.Core.Path.{refl}
+use Rattle.zincpapaya.proofs.ArithmeticGives.{unfit, gives, quoted-plain}
+use Rattle.zincpapaya.specs.Numbers.{one, alone}
+use Rattle.state.specs.Quote.{quoted}
+use borrow.Author.Needs.{needs}
+use Rattle.zincpapaya.proofs.arithmetic.zp_quote.Statement.{statement}
+use Rattle.zincpapaya.proofs.arithmetic.zp_quote.Tie as tie
+
+returns : tie.Need-returns
+returns c =
+    let at-if1 = c in
+    let start = at-if1 .before .before .before in
+    unfit 1 one (start .args .out .now) (quoted (start .args .list .now) (start .args .bound)) (at-if1 .if1 .taken)
+
+quote-requires : tie.Need-quote-requires
+quote-requires c κs = tt
+
+put-quoted-requires : tie.Need-put-quoted-requires
+put-quoted-requires c κs = search needs
+
+same-length : tie.Need-same-length
+same-length c = search needs
+
+returns-2 : tie.Need-returns-2
+returns-2 c =
+    let at-put-quoted = c .before .before in
+    let at-quote = at-put-quoted .before in
+    let at-if1 = at-quote .before .before in
+    let start = at-if1 .before .before .before in
+    gives 1 one (start .args .out .now) (at-if1 .if1 .left) alone (λ a. refl) (at-quote .quote .ensures) (quoted-plain (start .args .list .now) (start .args .bound)) (at-put-quoted .put-quoted .ensures)
+
+pub zp-quote-spec : {M : Type 1} → statement M
+zp-quote-spec =
+    tie.close (tie.spec returns quote-requires put-quoted-requires same-length returns-2)

@@ -1,0 +1,54 @@
+use native.Mathlib.Omega.{arith}
+use lib.ListN.{length-set}
+use Rattle.zincpapaya.proofs.ArithmeticLists.{frame-put}
+use borrow.Author.Needs.{needs}
+use Rattle.zincpapaya.proofs.frames.put_frame.Statement.{statement}
+use Rattle.zincpapaya.proofs.frames.put_frame.Tie as tie
+
+slice-write-frame : tie.Need-slice-write-frame
+slice-write-frame c = search needs
+
+slice-write-frame-2 : tie.Need-slice-write-frame-2
+slice-write-frame-2 c = search needs
+
+slice-write-frame-3 : tie.Need-slice-write-frame-3
+slice-write-frame-3 c = search needs
+
+slice-write-frame-4 : tie.Need-slice-write-frame-4
+slice-write-frame-4 c = search needs
+
+slice-write-frame-5 : tie.Need-slice-write-frame-5
+slice-write-frame-5 c =
+    let start = c .before in
+    simp length-set (omega (arith, start .pre))
+
+bit-requires : tie.Need-bit-requires
+bit-requires c κs = tt
+
+slice-write-frame-6 : tie.Need-slice-write-frame-6
+slice-write-frame-6 c =
+    let start = c .before .before in
+    simp length-set (omega (arith, start .pre))
+
+same-length : tie.Need-same-length
+same-length c = search needs
+
+returns : tie.Need-returns
+returns c =
+    let at-bit = c in
+    let start = at-bit .before .before in
+    frame-put (start .args .f) (start .args .frame .now) (start .pre) _ (at-bit .bit .ensures)
+
+pub put-frame-spec : {M : Type 1} → statement M
+put-frame-spec =
+    tie.close
+    (tie.spec
+    slice-write-frame
+    slice-write-frame-2
+    slice-write-frame-3
+    slice-write-frame-4
+    slice-write-frame-5
+    bit-requires
+    slice-write-frame-6
+    same-length
+    returns)

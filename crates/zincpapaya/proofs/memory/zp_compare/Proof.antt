@@ -1,0 +1,27 @@
+use Rattle.store.specs.Mem.{mem}
+use Rattle.zincpapaya.proofs.MemoryStatus.{comparison-nonzero}
+use Rattle.zincpapaya.proofs.MemoryGives.{gives-same}
+use borrow.Author.Needs.{needs}
+use Rattle.zincpapaya.proofs.memory.zp_compare.Statement.{statement}
+use Rattle.zincpapaya.proofs.memory.zp_compare.Tie as tie
+
+compare-requires : tie.Need-compare-requires
+compare-requires c κs = search needs
+
+give-verdict-requires : tie.Need-give-verdict-requires
+give-verdict-requires c κs =
+    let at-compare = c .before in
+    let start = at-compare .before .before .before .before .before .before .before .before .before .before in
+    comparison-nonzero (mem (start .args .bytes .now) (start .args .keys .now) (start .args .order .now) (start .args .words .now)) (mem (start .args .other-bytes .now) (start .args .other-keys .now) (start .args .other-order .now) (start .args .other-words .now)) (at-compare .compare .ensures)
+
+same-length : tie.Need-same-length
+same-length c = search needs
+
+returns : tie.Need-returns
+returns c =
+    let at-give-verdict = c .before .before in
+    let at-compare = at-give-verdict .before .before in
+    gives-same (at-give-verdict .give-verdict .ensures) (at-compare .compare .ensures)
+
+pub zp-compare-spec : {M : Type 1} → statement M
+zp-compare-spec = tie.close (tie.spec compare-requires give-verdict-requires same-length returns)

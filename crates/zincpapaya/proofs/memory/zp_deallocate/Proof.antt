@@ -1,0 +1,43 @@
+use Rattle.store.specs.Mem.{mem}
+use Rattle.view.specs.Calls.{Call}
+use Rattle.zincpapaya.proofs.MemoryStatus.{call-status}
+use borrow.Author.Needs.{needs}
+use Rattle.zincpapaya.proofs.memory.zp_deallocate.Statement.{statement}
+use Rattle.zincpapaya.proofs.memory.zp_deallocate.Tie as tie
+
+deallocate-requires : tie.Need-deallocate-requires
+deallocate-requires c κs = search needs
+
+status-requires : tie.Need-status-requires
+status-requires c κs = search needs
+
+same-length : tie.Need-same-length
+same-length c = search needs
+
+same-length-2 : tie.Need-same-length-2
+same-length-2 c = search needs
+
+same-length-3 : tie.Need-same-length-3
+same-length-3 c = search needs
+
+same-length-4 : tie.Need-same-length-4
+same-length-4 c = search needs
+
+returns : tie.Need-returns
+returns c =
+    let at-status = c in
+    let at-deallocate = at-status .before .before .before .before .before .before .before .before .before in
+    let start = at-deallocate .before .before .before .before .before .before .before .before .before in
+    call-status (mem (start .args .bytes .now) (start .args .keys .now) (start .args .order .now) (start .args .words .now)) (Call.Free (start .args .page)) (at-deallocate .deallocate .result) (at-status .status .result) (at-status .status .ensures) (at-deallocate .deallocate .ensures)
+
+pub zp-deallocate-spec : {M : Type 1} → statement M
+zp-deallocate-spec =
+    tie.close
+    (tie.spec
+    deallocate-requires
+    status-requires
+    same-length
+    same-length-2
+    same-length-3
+    same-length-4
+    returns)

@@ -1,0 +1,26 @@
+use Rattle.store.specs.Mem.{mem}
+use Rattle.view.specs.Calls.{Call}
+use Rattle.zincpapaya.proofs.MemoryStatus.{call-status}
+use borrow.Author.Needs.{needs}
+use Rattle.zincpapaya.proofs.memory.zp_delete_history.Statement.{statement}
+use Rattle.zincpapaya.proofs.memory.zp_delete_history.Tie as tie
+
+delete-history-requires : tie.Need-delete-history-requires
+delete-history-requires c κs = search needs
+
+status-requires : tie.Need-status-requires
+status-requires c κs = search needs
+
+same-length : tie.Need-same-length
+same-length c = search needs
+
+returns : tie.Need-returns
+returns c =
+    let at-status = c in
+    let at-delete-history = at-status .before .before .before in
+    let start = at-delete-history .before .before .before .before .before .before in
+    call-status (mem (start .args .bytes .now) (start .args .keys .now) (start .args .order .now) (start .args .words .now)) (Call.DeleteHistory) (at-delete-history .delete-history .result) (at-status .status .result) (at-status .status .ensures) (at-delete-history .delete-history .ensures)
+
+pub zp-delete-history-spec : {M : Type 1} → statement M
+zp-delete-history-spec =
+    tie.close (tie.spec delete-history-requires status-requires same-length returns)

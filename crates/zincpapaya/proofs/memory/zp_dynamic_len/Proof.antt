@@ -1,0 +1,31 @@
+use Rattle.view.specs.Calls.{number}
+use Rattle.store.specs.Mem.{mem}
+use Rattle.reads.proofs.Calls.{length-call}
+use Rattle.zincpapaya.proofs.MemoryGives.{gives-as}
+use borrow.Author.Needs.{needs}
+use Rattle.zincpapaya.proofs.memory.zp_dynamic_len.Statement.{statement}
+use Rattle.zincpapaya.proofs.memory.zp_dynamic_len.Tie as tie
+
+dynamic-len-requires : tie.Need-dynamic-len-requires
+dynamic-len-requires c κs = search needs
+
+cast-give-number : tie.Need-cast-give-number
+cast-give-number c = search needs
+
+give-number-requires : tie.Need-give-number-requires
+give-number-requires c κs = search needs
+
+same-length : tie.Need-same-length
+same-length c = search needs
+
+returns : tie.Need-returns
+returns c =
+    let at-give-number = c .before .before in
+    let at-dynamic-len = at-give-number .before .before in
+    let start = at-dynamic-len .before .before .before .before .before .before in
+    gives-as number (at-give-number .give-number .ensures) (length-call (mem (start .args .bytes .now) (start .args .keys .now) (start .args .order .now) (start .args .words .now)) _ (at-dynamic-len .dynamic-len .ensures .answer) .answer)
+
+pub zp-dynamic-len-spec : {M : Type 1} → statement M
+zp-dynamic-len-spec =
+    tie.close
+    (tie.spec dynamic-len-requires cast-give-number give-number-requires same-length returns)

@@ -1,0 +1,31 @@
+use Rattle.view.specs.Calls.{number}
+use Rattle.store.specs.Mem.{mem}
+use Rattle.reads.proofs.Calls.{byte-call}
+use Rattle.zincpapaya.proofs.MemoryGives.{gives-as}
+use borrow.Author.Needs.{needs}
+use Rattle.zincpapaya.proofs.memory.zp_read_byte.Statement.{statement}
+use Rattle.zincpapaya.proofs.memory.zp_read_byte.Tie as tie
+
+read-byte-requires : tie.Need-read-byte-requires
+read-byte-requires c κs = search needs
+
+cast-give-number : tie.Need-cast-give-number
+cast-give-number c = search needs
+
+give-number-requires : tie.Need-give-number-requires
+give-number-requires c κs = search needs
+
+same-length : tie.Need-same-length
+same-length c = search needs
+
+returns : tie.Need-returns
+returns c =
+    let at-give-number = c .before .before in
+    let at-read-byte = at-give-number .before .before in
+    let start = at-read-byte .before .before .before .before .before .before in
+    gives-as number (at-give-number .give-number .ensures) (byte-call (mem (start .args .bytes .now) (start .args .keys .now) (start .args .order .now) (start .args .words .now)) (start .args .page) (start .args .address) _ (at-read-byte .read-byte .ensures .answer) .answer)
+
+pub zp-read-byte-spec : {M : Type 1} → statement M
+zp-read-byte-spec =
+    tie.close
+    (tie.spec read-byte-requires cast-give-number give-number-requires same-length returns)

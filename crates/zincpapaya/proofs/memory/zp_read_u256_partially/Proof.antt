@@ -1,0 +1,27 @@
+use Rattle.view.specs.Calls.{number}
+use Rattle.store.specs.Mem.{mem}
+use Rattle.reads.proofs.Calls.{partial-call}
+use Rattle.zincpapaya.proofs.MemoryGives.{gives-as}
+use borrow.Author.Needs.{needs}
+use Rattle.zincpapaya.proofs.memory.zp_read_u256_partially.Statement.{statement}
+use Rattle.zincpapaya.proofs.memory.zp_read_u256_partially.Tie as tie
+
+read-u256-partially-requires : tie.Need-read-u256-partially-requires
+read-u256-partially-requires c κs = search needs
+
+give-word-requires : tie.Need-give-word-requires
+give-word-requires c κs = search needs
+
+same-length : tie.Need-same-length
+same-length c = search needs
+
+returns : tie.Need-returns
+returns c =
+    let at-give-word = c .before .before in
+    let at-read-u256-partially = at-give-word .before .before .before in
+    let start = at-read-u256-partially .before .before .before .before .before .before in
+    gives-as number (at-give-word .give-word .ensures) (partial-call (mem (start .args .bytes .now) (start .args .keys .now) (start .args .order .now) (start .args .words .now)) (start .args .page) (start .args .start) (start .args .end) _ (at-read-u256-partially .read-u256-partially .ensures .answer) .answer)
+
+pub zp-read-u256-partially-spec : {M : Type 1} → statement M
+zp-read-u256-partially-spec =
+    tie.close (tie.spec read-u256-partially-requires give-word-requires same-length returns)

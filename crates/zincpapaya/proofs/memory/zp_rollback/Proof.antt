@@ -1,0 +1,29 @@
+use Rattle.store.specs.Mem.{mem}
+use Rattle.view.specs.Calls.{Call}
+use Rattle.zincpapaya.proofs.MemoryStatus.{call-status}
+use borrow.Author.Needs.{needs}
+use Rattle.zincpapaya.proofs.memory.zp_rollback.Statement.{statement}
+use Rattle.zincpapaya.proofs.memory.zp_rollback.Tie as tie
+
+rollback-requires : tie.Need-rollback-requires
+rollback-requires c κs = search needs
+
+status-requires : tie.Need-status-requires
+status-requires c κs = search needs
+
+same-length : tie.Need-same-length
+same-length c = search needs
+
+same-length-2 : tie.Need-same-length-2
+same-length-2 c = search needs
+
+returns : tie.Need-returns
+returns c =
+    let at-status = c in
+    let at-rollback = at-status .before .before .before .before .before in
+    let start = at-rollback .before .before .before .before .before .before .before in
+    call-status (mem (start .args .bytes .now) (start .args .keys .now) (start .args .order .now) (start .args .words .now)) (Call.Rollback (start .args .heap) (start .args .aux)) (at-rollback .rollback .result) (at-status .status .result) (at-status .status .ensures) (at-rollback .rollback .ensures)
+
+pub zp-rollback-spec : {M : Type 1} → statement M
+zp-rollback-spec =
+    tie.close (tie.spec rollback-requires status-requires same-length same-length-2 returns)

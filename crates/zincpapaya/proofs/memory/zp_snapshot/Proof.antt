@@ -1,0 +1,40 @@
+use Rattle.reads.specs.Calls.{marked}
+use Rattle.store.specs.Mem.{mem}
+use Rattle.reads.proofs.Calls.{marks-call}
+use Rattle.zincpapaya.proofs.MemoryGives.{gives-as}
+use borrow.Author.Needs.{needs}
+use Rattle.zincpapaya.proofs.memory.zp_snapshot.Statement.{statement}
+use Rattle.zincpapaya.proofs.memory.zp_snapshot.Tie as tie
+
+snapshot-requires : tie.Need-snapshot-requires
+snapshot-requires c κs = search needs
+
+cast-give-pair : tie.Need-cast-give-pair
+cast-give-pair c = search needs
+
+cast-give-pair-2 : tie.Need-cast-give-pair-2
+cast-give-pair-2 c = search needs
+
+give-pair-requires : tie.Need-give-pair-requires
+give-pair-requires c κs = search needs
+
+same-length : tie.Need-same-length
+same-length c = search needs
+
+returns : tie.Need-returns
+returns c =
+    let at-give-pair = c .before .before in
+    let at-snapshot = at-give-pair .before .before in
+    let start = at-snapshot .before .before .before .before .before .before in
+    gives-as marked (at-give-pair .give-pair .ensures) (marks-call (mem (start .args .bytes .now) (start .args .keys .now) (start .args .order .now) (start .args .words .now)) _ (at-snapshot .snapshot .ensures .answer) .answer)
+
+pub zp-snapshot-spec : {M : Type 1} → statement M
+zp-snapshot-spec =
+    tie.close
+    (tie.spec
+    snapshot-requires
+    cast-give-pair
+    cast-give-pair-2
+    give-pair-requires
+    same-length
+    returns)

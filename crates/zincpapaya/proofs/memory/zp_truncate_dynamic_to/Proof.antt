@@ -1,0 +1,43 @@
+use Rattle.store.specs.Mem.{mem}
+use Rattle.view.specs.Calls.{Call}
+use Rattle.zincpapaya.proofs.MemoryStatus.{call-status}
+use borrow.Author.Needs.{needs}
+use Rattle.zincpapaya.proofs.memory.zp_truncate_dynamic_to.Statement.{statement}
+use Rattle.zincpapaya.proofs.memory.zp_truncate_dynamic_to.Tie as tie
+
+truncate-dynamic-to-requires : tie.Need-truncate-dynamic-to-requires
+truncate-dynamic-to-requires c κs = search needs
+
+status-requires : tie.Need-status-requires
+status-requires c κs = search needs
+
+same-length : tie.Need-same-length
+same-length c = search needs
+
+same-length-2 : tie.Need-same-length-2
+same-length-2 c = search needs
+
+same-length-3 : tie.Need-same-length-3
+same-length-3 c = search needs
+
+same-length-4 : tie.Need-same-length-4
+same-length-4 c = search needs
+
+returns : tie.Need-returns
+returns c =
+    let at-status = c in
+    let at-truncate-dynamic-to = at-status .before .before .before .before .before .before .before .before .before in
+    let start = at-truncate-dynamic-to .before .before .before .before .before .before .before .before .before in
+    call-status (mem (start .args .bytes .now) (start .args .keys .now) (start .args .order .now) (start .args .words .now)) (Call.Truncate (start .args .len)) (at-truncate-dynamic-to .truncate-dynamic-to .result) (at-status .status .result) (at-status .status .ensures) (at-truncate-dynamic-to .truncate-dynamic-to .ensures)
+
+pub zp-truncate-dynamic-to-spec : {M : Type 1} → statement M
+zp-truncate-dynamic-to-spec =
+    tie.close
+    (tie.spec
+    truncate-dynamic-to-requires
+    status-requires
+    same-length
+    same-length-2
+    same-length-3
+    same-length-4
+    returns)

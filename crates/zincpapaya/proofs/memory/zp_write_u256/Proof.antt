@@ -1,0 +1,47 @@
+use Rattle.store.specs.Mem.{mem}
+use Rattle.zincpapaya.proofs.MemoryStatus.{word-status}
+use borrow.Author.Needs.{needs}
+use Rattle.zincpapaya.proofs.memory.zp_write_u256.Statement.{statement}
+use Rattle.zincpapaya.proofs.memory.zp_write_u256.Tie as tie
+
+word-of-requires : tie.Need-word-of-requires
+word-of-requires c κs = search needs
+
+write-u256-requires : tie.Need-write-u256-requires
+write-u256-requires c κs = search needs
+
+status-requires : tie.Need-status-requires
+status-requires c κs = search needs
+
+same-length : tie.Need-same-length
+same-length c = search needs
+
+same-length-2 : tie.Need-same-length-2
+same-length-2 c = search needs
+
+same-length-3 : tie.Need-same-length-3
+same-length-3 c = search needs
+
+same-length-4 : tie.Need-same-length-4
+same-length-4 c = search needs
+
+returns : tie.Need-returns
+returns c =
+    let at-status = c in
+    let at-write-u256 = at-status .before .before .before .before .before .before .before .before .before in
+    let at-word-of = at-write-u256 .before .before .before .before .before in
+    let start = at-word-of .before .before .before .before .before in
+    word-status (mem (start .args .bytes .now) (start .args .keys .now) (start .args .order .now) (start .args .words .now)) (start .args .page) (start .args .address) (at-write-u256 .write-u256 .result) (at-status .status .result) (at-word-of .word-of .ensures) (at-status .status .ensures) (at-write-u256 .write-u256 .ensures)
+
+pub zp-write-u256-spec : {M : Type 1} → statement M
+zp-write-u256-spec =
+    tie.close
+    (tie.spec
+    word-of-requires
+    write-u256-requires
+    status-requires
+    same-length
+    same-length-2
+    same-length-3
+    same-length-4
+    returns)

@@ -1,0 +1,122 @@
+-- What the numbers of an instruction mean, and its contract.
+-- Assumes nothing.
+use mathlib.Core.Path.{_≡_}
+use mathlib.Core.Bool.{Bool, true, false, cond, not}
+use mathlib.Core.List.{List, [], _∷_}
+use mathlib.Core.Logic.{_⊎_}
+use Prim.Native.Nat.{ℕ, _+_, _<_}
+use lib.Dec.{eqb}
+use lib.ListN.{length, getD, set, drop}
+use Rattle.outcome.specs.Outcome.{Outcome, refused, panicked, done, firstOf}
+use Rattle.word.specs.Value.{value, limbsValue}
+use Rattle.state.specs.declared.Frame.{Frame}
+use Rattle.state.specs.declared.Area.{Area}
+use Rattle.state.specs.declared.Area.the-variants.{Heap, Aux}
+use Rattle.store.specs.Mem.{Mem}
+use Rattle.view.specs.Instructions.{Operand, Hook, Given, running, onHook, frameAlone}
+use Rattle.view.specs.Calls.{Call, Value, given, CallDoes}
+use Rattle.instructions.specs.declared.Execution.{Execution}
+use Rattle.instructions.specs.declared.ExecutionStatus.{ExecutionStatus}
+use Rattle.instructions.specs.declared.ExecutionStatus.the-variants.{Running, SuspendedOnHook, Panicked, Refused}
+
+-- ---- arguments
+-- a number is a flag, which is set where it is not 0; a flag is written as 0 or 1
+abbrev pub flag : ℕ → Bool
+flag n = not (eqb n 0)
+
+abbrev pub bit : Bool → ℕ
+bit b = cond b 1 0
+
+abbrev pub areaOf : Bool → Area
+areaOf true = Aux
+areaOf false = Heap
+
+-- the frame that six numbers are: gas, heap page, aux page, heap bound, aux bound, and the panic's mark
+abbrev pub frameOf : List ℕ → Frame
+frameOf l = record {
+  gas = getD l 0 0;
+  heap = record { 0 = getD l 1 0 };
+  aux = record { 0 = getD l 2 0 };
+  «heap_bound» = getD l 3 0;
+  «aux_bound» = getD l 4 0;
+  panicked = flag (getD l 5 0);
+}
+
+-- the operand of four limbs and a tag
+abbrev pub operandOf : (x0 x1 x2 x3 : ℕ) → Bool → Operand
+operandOf x0 x1 x2 x3 tagged = record { word = limbsValue x0 x1 x2 x3; tag = tagged }
+
+abbrev pub hookOf : Bool → ℕ → Hook
+hookOf on address = record { on = on; address = address }
+
+-- ---- answers
+-- what an instruction gives: `out` is the word (4 limbs), the operand (4 limbs), its tag and the hook's value; status 101 says that the hook stops the run
+abbrev pub givenOf : ℕ → (frame out : List ℕ) → Given
+givenOf r frame out = record {
+  word = value out;
+  operand = record { word = value (drop 4 out); tag = flag (getD out 8 0) };
+  frame = frameOf frame;
+  stop = cond (eqb r 101) (onHook (getD out 9 0)) running;
+}
+
+-- the outcome that status, frame and `out` tell: carried out, panicked, carried out and stopped, or refused
+abbrev pub toldAs : ℕ → (frame out : List ℕ) → Outcome Value
+toldAs r frame out =
+    firstOf
+    ((eqb r 0, done (given (givenOf r frame out)))
+    ∷ (eqb r 100, panicked (given (frameAlone (frameOf frame))))
+    ∷ (eqb r 101, done (given (givenOf r frame out)))
+    ∷ [])
+    (refused r)
+
+-- THE CONTRACT of an instruction c that is lent the buffers m, a frame and an `out`, has the status r, and leaves m', frame' and out'
+pub record Executes (m : Mem) (c : Call) (frame out : List ℕ) (r : ℕ) (m' : Mem) (frame' out' : List ℕ) : Type 0 where
+  -- a frame has six numbers and `out` ten, or nothing is done
+  pub unfit : ((length frame ≡ 6) × (length out ≡ 10) → ⊥) → (r ≡ 102) × ((m' ≡ m) × ((frame' ≡ frame) × (out' ≡ out)))
+  -- that of every call on a memory
+  pub does : length frame ≡ 6 → length out ≡ 10 → CallDoes m c (toldAs r frame' out') m'
+  -- `out` is as it was where the instruction is refused or panics, the frame where it is refused
+  pub kept-out : (r ≡ 0 → ⊥) → (r ≡ 101 → ⊥) → out' ≡ out
+  pub kept-frame : (r ≡ 0 → ⊥) → (r ≡ 100 → ⊥) → (r ≡ 101 → ⊥) → frame' ≡ frame
+  -- the flags that are written are 0 or 1, and without a stop the hook's value is 0
+  pub mark : (frame' ≡ frame) ⊎ (getD frame' 5 0 < 2)
+  pub tag : (out' ≡ out) ⊎ (getD out' 8 0 < 2)
+  pub no-stop : r ≡ 0 → getD out' 9 0 ≡ 0
+
+-- ---- what the parts write
+abbrev pub limbsPut : List ℕ → ℕ → List ℕ → List ℕ
+limbsPut out at limbs = set (set (set (set out at (getD limbs 0 0)) (at + 1) (getD limbs 1 0)) (at + 2) (getD limbs 2 0)) (at + 3) (getD limbs 3 0)
+
+abbrev pub frameNumbers : Frame → List ℕ
+frameNumbers f = f .gas ∷ f .heap .0 ∷ f .aux .0 ∷ f .«heap_bound» ∷ f .«aux_bound» ∷ bit (f .panicked) ∷ []
+
+-- of an execution that was carried out, with the hook's value h
+abbrev pub givenNumbers : Execution → ℕ → List ℕ
+givenNumbers x h =
+    let w = x .word .limbs in
+    let y = x .operand .word .limbs in
+    getD w 0 0 ∷ getD w 1 0 ∷ getD w 2 0 ∷ getD w 3 0 ∷ getD y 0 0 ∷ getD y 1 0 ∷ getD y 2 0 ∷ getD y 3 0 ∷ bit (x .operand .tagged) ∷ h ∷ []
+
+abbrev pub statusOf : ExecutionStatus → ℕ
+statusOf Running = 0
+statusOf (SuspendedOnHook h) = 101
+statusOf Panicked = 100
+statusOf (Refused n) = n
+
+abbrev pub frameAfter : ExecutionStatus → Execution → List ℕ → List ℕ
+frameAfter Running x frame = frameNumbers (x .frame)
+frameAfter (SuspendedOnHook h) x frame = frameNumbers (x .frame)
+frameAfter Panicked x frame = frameNumbers (x .frame)
+frameAfter (Refused n) x frame = frame
+
+abbrev pub outAfter : ExecutionStatus → Execution → List ℕ → List ℕ
+outAfter Running x out = givenNumbers x 0
+outAfter (SuspendedOnHook h) x out = givenNumbers x h
+outAfter Panicked x out = out
+outAfter (Refused n) x out = out
+
+-- the status r tells the execution x, and frame' and out' what it gives
+pub record Tells (x : Execution) (frame out : List ℕ) (r : ℕ) (frame' out' : List ℕ) : Type 0 where
+  pub status : r ≡ statusOf (x .status)
+  pub frame-is : frame' ≡ frameAfter (x .status) x frame
+  pub out-is : out' ≡ outAfter (x .status) x out

@@ -1,0 +1,317 @@
+// Page ids, fat pointers and gas: calls that are lent no memory.
+ghost use mathlib.Core.Path.{_≡_};
+ghost use mathlib.Core.List.{[], _∷_};
+ghost use lib.ListN.{length};
+ghost use Rattle.outcome.specs.Outcome.{done};
+ghost use Rattle.word.specs.Value.{value, limbsValue};
+ghost use Rattle.page_ids.specs.Arithmetic.{toldPage, toldBase, sum, difference};
+ghost use Rattle.page_ids.specs.Decode.{pageOf, decoding};
+ghost use Rattle.page_ids.specs.Decode as decodes;
+ghost use Rattle.fat_pointer.specs.Pointer.{pointerOf, numberOf};
+ghost use Rattle.state.specs.Access.{used, accessed};
+ghost use Rattle.state.specs.Quote.{quoted};
+ghost use Rattle.state.specs.Quote as quotes;
+ghost use Rattle.zincpapaya.specs.Executing.{areaOf, frameOf};
+ghost use Rattle.zincpapaya.specs.Interface.{Gives};
+ghost use Rattle.opening.specs.Opening.{layoutFrom};
+ghost use Rattle.zincpapaya.specs.Numbers.{one, all, pointerAt, pointer, mapped, kindOf, groupOf, pageNumbers, gasNumbers, Grows, alone, Tells};
+use crate::frames;
+use fat_pointer::FatPointer;
+use page_ids::BaseAnswer;
+use page_ids::BasePage;
+use page_ids::DecodedPage;
+use page_ids::Decoding;
+use page_ids::DynamicPageKind;
+use page_ids::Layout;
+use page_ids::PageAnswer;
+use page_ids::PageId;
+use state::quote::Quoted;
+
+// ---- answers
+
+fn put_one(out: &mut [u64], a: u32) -> u32
+    requires { ⌜ length (now out) ≡ 1 ⌝ }
+    ensures { λ r. ⌜ (r ≡ 0) × (now (out .exit) ≡ a ∷ []) ⌝ }
+{
+    out[0] = frames::wide(a);
+    0
+}
+
+fn put_two(out: &mut [u64], a: u32, b: u32) -> u32
+    requires { ⌜ length (now out) ≡ 2 ⌝ }
+    ensures { λ r. ⌜ (r ≡ 0) × (now (out .exit) ≡ a ∷ b ∷ []) ⌝ }
+{
+    out[0] = frames::wide(a);
+    out[1] = frames::wide(b);
+    0
+}
+
+fn put_page(out: &mut [u64], answer: PageAnswer) -> u32
+    requires { ⌜ length (now out) ≡ 1 ⌝ }
+    ensures { λ r. ⌜ Tells alone (toldPage answer) (now (out .entry)) r (now (out .exit)) ⌝ }
+{
+    match answer {
+        PageAnswer::Refused(number) => number,
+        PageAnswer::Page(page) => put_one(out, page.0),
+    }
+}
+
+fn put_base(out: &mut [u64], answer: BaseAnswer) -> u32
+    requires { ⌜ length (now out) ≡ 1 ⌝ }
+    ensures { λ r. ⌜ Tells alone (toldBase answer) (now (out .entry)) r (now (out .exit)) ⌝ }
+{
+    match answer {
+        BaseAnswer::Refused(number) => number,
+        BaseAnswer::Base(base) => put_one(out, base.0),
+    }
+}
+
+fn dynamic_kind(kind: DynamicPageKind) -> u32
+    ensures { λ r. ⌜ r ≡ kindOf (pageOf (DecodedPage.Dynamic kind 0)) ⌝ }
+{
+    match kind {
+        DynamicPageKind::Code => 0,
+        DynamicPageKind::Heap => 1,
+        DynamicPageKind::Aux => 2,
+    }
+}
+
+fn kind_of(page: DecodedPage) -> u32
+    ensures { λ r. ⌜ r ≡ kindOf (pageOf page) ⌝ }
+{
+    match page {
+        DecodedPage::Dynamic(kind, _) => dynamic_kind(kind),
+        DecodedPage::Static => 3,
+        DecodedPage::BootloaderCalldata => 4,
+        DecodedPage::BootloaderHeap => 5,
+        DecodedPage::BootloaderAuxHeap => 6,
+        DecodedPage::Undecodable => 7,
+    }
+}
+
+fn group_of(page: DecodedPage) -> u32
+    ensures { λ r. ⌜ r ≡ groupOf (pageOf page) ⌝ }
+{
+    match page {
+        DecodedPage::Dynamic(_, group) => group,
+        DecodedPage::Static => 0,
+        DecodedPage::BootloaderCalldata => 0,
+        DecodedPage::BootloaderHeap => 0,
+        DecodedPage::BootloaderAuxHeap => 0,
+        DecodedPage::Undecodable => 0,
+    }
+}
+
+fn put_decoding(out: &mut [u64], decoding: Decoding) -> u32
+    requires { ⌜ length (now out) ≡ 2 ⌝ }
+    ensures { λ r. ⌜ Tells all (mapped pageNumbers (decodes.told decoding)) (now (out .entry)) r (now (out .exit)) ⌝ }
+{
+    match decoding {
+        Decoding::Refused(number) => number,
+        Decoding::Decoded(page) => put_two(out, kind_of(page), group_of(page)),
+    }
+}
+
+fn put_quoted(out: &mut [u64], quoted: Quoted) -> u32
+    requires { ⌜ length (now out) ≡ 1 ⌝ }
+    ensures { λ r. ⌜ Tells alone (quotes.told quoted) (now (out .entry)) r (now (out .exit)) ⌝ }
+{
+    match quoted {
+        Quoted::Refused(number) => number,
+        Quoted::Due(amount) => put_one(out, amount),
+    }
+}
+
+// ---- page ids
+
+fn layout_of(
+    static_memory: u32,
+    calldata_page: u32,
+    bootloader_heap: u32,
+    bootloader_aux: u32,
+    base: u32,
+    stride: u32,
+) -> Layout
+    ensures { λ r. ⌜ r ≡ layoutFrom «static_memory» «calldata_page» «bootloader_heap» «bootloader_aux» base stride ⌝ }
+{
+    Layout {
+        static_memory: PageId(static_memory),
+        calldata: PageId(calldata_page),
+        bootloader_heap: PageId(bootloader_heap),
+        bootloader_aux: PageId(bootloader_aux),
+        base: BasePage(base),
+        stride: stride,
+    }
+}
+
+// What a page id stands for: the number of its kind, and its group.
+#[no_mangle]
+pub extern "C" fn zp_decode(
+    static_memory: u32,
+    calldata_page: u32,
+    bootloader_heap: u32,
+    bootloader_aux: u32,
+    base: u32,
+    stride: u32,
+    page: u32,
+    out: &mut [u64],
+) -> u32
+    ensures { λ r. ⌜ Gives 2 (mapped pageNumbers (decoding (layoutFrom «static_memory» «calldata_page» «bootloader_heap» «bootloader_aux» base stride) page)) all r (now (out .entry)) (now (out .exit)) ⌝ }
+{
+    if out.len() != 2 {
+        return 102;
+    }
+    let layout = layout_of(
+        static_memory,
+        calldata_page,
+        bootloader_heap,
+        bootloader_aux,
+        base,
+        stride,
+    );
+    put_decoding(out, page_ids::decode(layout, PageId(page)))
+}
+
+// A page beside a base page, or 4 where that leaves 32 bits; the next three likewise.
+#[no_mangle]
+pub extern "C" fn zp_heap_page_from_base(base: u32, out: &mut [u64]) -> u32
+    ensures { λ r. ⌜ Gives 1 (sum base 2) one r (now (out .entry)) (now (out .exit)) ⌝ }
+{
+    if out.len() != 1 {
+        return 102;
+    }
+    put_page(out, page_ids::heap_page_from_base(BasePage(base)))
+}
+
+#[no_mangle]
+pub extern "C" fn zp_aux_heap_page_from_base(base: u32, out: &mut [u64]) -> u32
+    ensures { λ r. ⌜ Gives 1 (sum base 3) one r (now (out .entry)) (now (out .exit)) ⌝ }
+{
+    if out.len() != 1 {
+        return 102;
+    }
+    put_page(out, page_ids::aux_heap_page_from_base(BasePage(base)))
+}
+
+#[no_mangle]
+pub extern "C" fn zp_code_page_from_base(base: u32, out: &mut [u64]) -> u32
+    ensures { λ r. ⌜ Gives 1 (done base) one r (now (out .entry)) (now (out .exit)) ⌝ }
+{
+    if out.len() != 1 {
+        return 102;
+    }
+    let page = page_ids::code_page_from_base(BasePage(base));
+    put_one(out, page.0)
+}
+
+#[no_mangle]
+pub extern "C" fn zp_base_page_from_heap(heap: u32, out: &mut [u64]) -> u32
+    ensures { λ r. ⌜ Gives 1 (difference heap 2) one r (now (out .entry)) (now (out .exit)) ⌝ }
+{
+    if out.len() != 1 {
+        return 102;
+    }
+    put_base(out, page_ids::base_page_from_heap(PageId(heap)))
+}
+
+// The next far call's base page.
+#[no_mangle]
+pub extern "C" fn zp_next_page_group(base: u32, stride: u32, out: &mut [u64]) -> u32
+    ensures { λ r. ⌜ Gives 1 (sum base stride) one r (now (out .entry)) (now (out .exit)) ⌝ }
+{
+    if out.len() != 1 {
+        return 102;
+    }
+    put_base(out, page_ids::next_page_group(BasePage(base), stride))
+}
+
+// ---- fat pointers
+
+// Offset, page, start and length of a word.
+#[no_mangle]
+pub extern "C" fn zp_fat_pointer_from_u256(
+    limb0: u64,
+    limb1: u64,
+    limb2: u64,
+    limb3: u64,
+    out: &mut [u64],
+) -> u32
+    ensures { λ r. ⌜ Gives 4 (done (pointerOf (limbsValue limb0 limb1 limb2 limb3))) pointerAt r (now (out .entry)) (now (out .exit)) ⌝ }
+{
+    if out.len() != 4 {
+        return 102;
+    }
+    let pointer = fat_pointer::from_u256(frames::word_of(limb0, limb1, limb2, limb3));
+    out[0] = frames::wide(pointer.offset);
+    out[1] = frames::wide(pointer.memory_page.0);
+    out[2] = frames::wide(pointer.start);
+    out[3] = frames::wide(pointer.length);
+    0
+}
+
+// The word of offset, page, start and length.
+#[no_mangle]
+pub extern "C" fn zp_fat_pointer_into_u256(
+    offset: u32,
+    page: u32,
+    start: u32,
+    length: u32,
+    out: &mut [u64],
+) -> u32
+    ensures { λ r. ⌜ Gives 4 (done (numberOf (pointer offset page start length))) value r (now (out .entry)) (now (out .exit)) ⌝ }
+{
+    if out.len() != 4 {
+        return 102;
+    }
+    let memory_page = PageId(page);
+    let pointer = FatPointer {
+        offset: offset,
+        memory_page: memory_page,
+        start: start,
+        length: length,
+    };
+    frames::put_word(out, 0, fat_pointer::into_u256(pointer));
+    0
+}
+
+// ---- gas
+
+// The gas that is left, and whether the amount was paid.
+#[no_mangle]
+pub extern "C" fn zp_use_gas(gas: u32, amount: u32, out: &mut [u64]) -> u32
+    ensures { λ r. ⌜ Gives 2 (done (gasNumbers (used gas amount))) all r (now (out .entry)) (now (out .exit)) ⌝ }
+{
+    if out.len() != 2 {
+        return 102;
+    }
+    let gas = state::use_gas(gas, amount);
+    put_two(out, gas.left, frames::bit(gas.paid))
+}
+
+// The growth of one area is paid from the frame's gas, as instructions do it; `out` tells whether it was.
+#[no_mangle]
+pub extern "C" fn zp_grow_heap(frame: &mut [u32], aux: bool, new_bound: u32, out: &mut [u64]) -> u32
+    ensures { λ r. ⌜ Grows (now (frame .entry)) (now (out .entry)) (accessed (frameOf (now (frame .entry))) (areaOf aux) «new_bound») r (now (frame .exit)) (now (out .exit)) ⌝ }
+{
+    if frame.len() != 6 {
+        return 102;
+    }
+    if out.len() != 1 {
+        return 102;
+    }
+    let before = frames::frame_of(frame);
+    let step = state::access(before, frames::area_of(aux), new_bound);
+    frames::put_frame(frame, step.frame);
+    put_one(out, frames::bit(step.paid))
+}
+
+// What a list of accesses to one area would pay.
+#[no_mangle]
+pub extern "C" fn zp_quote(list: &[u32], bound: u32, out: &mut [u64]) -> u32
+    ensures { λ r. ⌜ Gives 1 (quoted (now (list .entry)) bound) one r (now (out .entry)) (now (out .exit)) ⌝ }
+{
+    if out.len() != 1 {
+        return 102;
+    }
+    put_quoted(out, state::quote::quote(list, bound))
+}

@@ -1,0 +1,209 @@
+//! What the library does where vm2 cannot be asked: it is held to document 01's rules alone.
+
+use std::ops::Range;
+
+use oracle::{Area, Call, Frame, HeapInstruction, Layout};
+use zincpapaya::{quote, Capacity, Error, Heaps, Outcome, PageId, Usage};
+
+use crate::{
+    list::Mismatch,
+    model::{self, Model, LAST_ADDRESS},
+    ours::{self, Reply, UNWRITTEN},
+    rng::Rng,
+};
+
+fn expect<T: PartialEq + std::fmt::Debug>(what: &str, due: T, given: T) -> Result<(), Mismatch> {
+    if due == given {
+        return Ok(());
+    }
+    let vm2 = format!("cannot be asked; due is {due:?}");
+    Err(Mismatch { what: what.into(), vm2, library: format!("{given:?}") })
+}
+
+/// The counts that a memory must report.
+pub fn counts(model: &Model) -> Usage {
+    let [heap, aux] = model.journals;
+    let [chunks, pages, heap_journal, aux_journal] =
+        [model.held_chunks(), model.allocated.len() as u64, heap, aux].map(|count| count as u32);
+    Usage { chunks, pages, heap_journal, aux_journal }
+}
+
+/// A range read whose output has another length is refused with 8, and puts nothing out.
+pub fn outputs_of_wrong_lengths(
+    heaps: &Heaps,
+    page: PageId,
+    range: Range<u32>,
+) -> Result<(), Mismatch> {
+    let length = range.len();
+    for wrong in [Some(length + 1), length.checked_sub(1)].into_iter().flatten() {
+        let mut output = vec![UNWRITTEN; wrong];
+        let refused = heaps.read_range_into(page, range.clone(), &mut output);
+        let untouched = output.iter().all(|byte| *byte == UNWRITTEN);
+        let what = format!("a range read into {wrong} bytes");
+        expect(&what, (Err(Error::Range), true), (refused, untouched))?;
+    }
+    Ok(())
+}
+
+/// A call that would take vm2 more memory than there is, or that it has not. The library answers on
+/// a copy, since vm2's memory stays behind. Tells what was looked at, if anything.
+pub fn not_run(
+    heaps: &Heaps,
+    model: &Model,
+    call: &Call,
+) -> Result<Option<&'static str>, Mismatch> {
+    match *call {
+        Call::Chunk { page, number } => {
+            let due = Ok([0; 256]);
+            expect("a chunk past the last", due, heaps.chunk(PageId(page), number))?;
+            Ok(Some("chunks past the last"))
+        }
+        Call::Decode { page } => {
+            let given = answer_on_copy(heaps, call).1;
+            let due = oracle::Answer::Decoded(model::place(&model.layout, page));
+            expect("a decode of a far page", Reply::Answer(due), given)?;
+            Ok(Some("far pages decoded"))
+        }
+        Call::Deallocate { .. } => {
+            let (copy, given) = answer_on_copy(heaps, call);
+            let unchanged = copy.buffers() == heaps.buffers();
+            expect("a free of a far page", (Reply::Refused(7), true), (given, unchanged))?;
+            Ok(Some("far pages not freed"))
+        }
+        Call::Instruction {
+            frame,
+            instruction: HeapInstruction::Store { area: Area::Aux, hook: Some(_), .. },
+        } => {
+            aux_hook(heaps, call, &frame)?;
+            Ok(Some("aux stores with a hook"))
+        }
+        _ => far_write(heaps, model, call),
+    }
+}
+
+fn answer_on_copy(heaps: &Heaps, call: &Call) -> (Heaps, Reply) {
+    let mut copies = [heaps.clone(), heaps.clone()];
+    let reply = ours::answer(&mut copies, 0, call, false);
+    let [copy, _] = copies;
+    (copy, reply)
+}
+
+/// A write to a group that vm2 is not let allocate.
+fn far_write(heaps: &Heaps, model: &Model, call: &Call) -> Result<Option<&'static str>, Mismatch> {
+    let Some(writes) = model.writes(call) else { return Ok(None) };
+    let (copy, given) = answer_on_copy(heaps, call);
+    if model::hook_value_too_great(call) {
+        let unchanged = copy.buffers() == heaps.buffers();
+        expect("a hook on a far page", (Reply::Refused(15), true), (given, unchanged))?;
+        return Ok(Some("far pages not written"));
+    }
+    expect("a write to a far page", true, matches!(given, Reply::Answer(_)))?;
+    let mut after = model.clone();
+    after.carry_out(call);
+    let due = (counts(&after), Ok(after.dynamic_len));
+    expect("counts after a write to a far page", due, (copy.usage(), copy.dynamic_len()))?;
+    let page = model.layout.id(writes.place).expect("a page that was written has an id");
+    if let Call::WriteU256 { address, value, .. } = call {
+        let word = copy.read_u256(PageId(page), *address).map(|word| word.0);
+        expect("a word of a far page", Ok(value.0), word)?;
+    }
+    Ok(Some("far pages written"))
+}
+
+/// A hook on the aux heap does what it does on the heap, the two areas exchanged.
+fn aux_hook(heaps: &Heaps, call: &Call, frame: &Frame) -> Result<(), Mismatch> {
+    let exchanged = |frame: &Frame| Frame {
+        gas: frame.gas,
+        heap: frame.aux,
+        aux: frame.heap,
+        heap_bound: frame.aux_bound,
+        aux_bound: frame.heap_bound,
+    };
+    let mut twin = call.clone();
+    if let Call::Instruction { frame: other, instruction: HeapInstruction::Store { area, .. } } =
+        &mut twin
+    {
+        (*other, *area) = (exchanged(frame), Area::Heap);
+    }
+    let (copy, mut given) = answer_on_copy(heaps, call);
+    if let Reply::Answer(oracle::Answer::Ran(ran)) = &mut given {
+        ran.frame = exchanged(&ran.frame);
+    }
+    if let Reply::Answer(oracle::Answer::EraPanic(after)) = &mut given {
+        *after = exchanged(after);
+    }
+    let (other, due) = answer_on_copy(heaps, &twin);
+    expect("an aux store with a hook", due, given)?;
+    expect("what it wrote", other.buffers(), copy.buffers())
+}
+
+/// Refusals of openings and comparisons, and the quote, of which vm2 has none. Gives how many were
+/// tried.
+pub fn extras(rng: &mut Rng, layout: &Layout, heaps: &Heaps) -> Result<(), Mismatch> {
+    quotes(rng, heaps)?;
+    bad_openings(rng, layout)?;
+    let mut copy = heaps.clone();
+    let too_long = vec![1; 256 * heaps.capacity().chunks as usize + 1];
+    let refused = copy.reopen(heaps.layout(), &too_long);
+    let due = (Err(Error::NoChunk), heaps.buffers());
+    expect("an opening with too much calldata", due, (refused, copy.buffers()))?;
+
+    let mut other = ours::layout(layout);
+    other.base ^= 1 + rng.below32(7);
+    let refused = copy.reopen(other, &[]).and_then(|()| heaps.equal(&copy));
+    expect("a comparison of two layouts", Err(Error::Layout), refused)
+}
+
+/// A quote is what loads of its addresses pay.
+fn quotes(rng: &mut Rng, heaps: &Heaps) -> Result<(), Mismatch> {
+    let edges = [0, 31, 4064, 4065, 4096, LAST_ADDRESS - 1, LAST_ADDRESS, u32::MAX - 31, u32::MAX];
+    let many = rng.below(8);
+    let addresses: Vec<u32> = (0..many).map(|_| rng.pick(&edges)).collect();
+    let bound = rng.pick(&[0, 32, 4096, 4097, u32::MAX - 1, u32::MAX]);
+    let allowed: Vec<u32> = addresses.iter().copied().filter(|at| *at <= LAST_ADDRESS).collect();
+    let highest = allowed.iter().map(|address| address + 32).max().unwrap_or(0);
+    expect("a quote", Ok(highest.saturating_sub(bound)), quote(&addresses, bound))?;
+
+    let page = PageId(0);
+    let (gas, heap_bound, aux_bound) = (u32::MAX, bound, 0);
+    let mut frame =
+        zincpapaya::Frame { gas, heap: page, aux: page, heap_bound, aux_bound, panicked: false };
+    for address in allowed {
+        let loaded = heaps.load(&mut frame, zincpapaya::Area::Heap, address.into());
+        let running = matches!(loaded, Ok(Outcome::Running { .. }));
+        expect("a load of a quoted address", true, running)?;
+    }
+    expect("a quote beside its loads", quote(&addresses, bound), Ok(u32::MAX - frame.gas))?;
+    let long = vec![0; 4096 + rng.below(2) as usize];
+    let due = if long.len() > 4096 { Err(Error::Range) } else { Ok(32) };
+    expect("a quote of many addresses", due, quote(&long, 0))
+}
+
+/// Layouts and counts around their bounds.
+fn bad_openings(rng: &mut Rng, layout: &Layout) -> Result<(), Mismatch> {
+    let mut tried = ours::layout(layout);
+    match rng.below(6) {
+        0 => tried.static_memory = tried.bootloader_aux,
+        1 => tried.calldata = tried.bootloader_heap,
+        2 => tried.stride = rng.below32(6),
+        _ => {}
+    }
+    let capacity = Capacity {
+        chunks: rng.pick(&[0, 1, 2, 65_537, u32::MAX]),
+        pages: rng.pick(&[0, 1, 2, 4_097, u32::MAX]),
+        journal_words: rng.pick(&[0, 1, 2, 65_537, u32::MAX]),
+    };
+    let fixed = [tried.static_memory, tried.calldata, tried.bootloader_heap, tried.bootloader_aux];
+    let twice = (1..4).any(|at| fixed[..at].contains(&fixed[at]));
+    let due = if twice || tried.stride < 4 {
+        Some(Error::Layout)
+    } else if !(1..=65_536).contains(&capacity.chunks)
+        || !(1..=4_096).contains(&capacity.pages)
+        || capacity.journal_words > 65_536
+    {
+        Some(Error::Sizes)
+    } else {
+        None
+    };
+    expect("an opening", due, Heaps::open(tried, capacity, &[]).err())
+}

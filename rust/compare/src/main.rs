@@ -1,0 +1,197 @@
+//! Puts lists of calls to vm2's own files and to the linked library, and compares all that both
+//! show. README.md tells how.
+
+mod alone;
+mod framed;
+mod generate;
+mod list;
+mod model;
+mod options;
+mod ours;
+mod pair;
+mod rng;
+mod shrink;
+mod small;
+mod store;
+mod tally;
+#[cfg(test)]
+mod tests;
+mod written;
+
+use std::{process::ExitCode, thread, time::Instant};
+
+use oracle::{Bank, LAYOUTS};
+use zincpapaya::Capacity;
+
+use crate::{
+    generate::{Generator, Sort},
+    list::{Finding, List},
+    options::Options,
+    pair::Looks,
+    rng::Rng,
+    small::Alphabet,
+    tally::Tally,
+};
+
+/// Lists are shared out to so many threads, by their numbers, so that a run with the same options
+/// is the same run on any machine.
+const SHARDS: u64 = 2;
+
+/// The memories of one thread, and what it has counted.
+struct Shard {
+    number: u64,
+    options: Options,
+    banks: Vec<(&'static str, Box<dyn Bank>)>,
+    tally: Tally,
+}
+
+impl Shard {
+    fn new(number: u64, options: Options) -> Self {
+        let banks = LAYOUTS.map(|name| (name, oracle::bank(name).expect("a listed layout")));
+        Self { number, options, banks: banks.into(), tally: Tally::default() }
+    }
+
+    fn bank(&mut self, layout: &str) -> &mut dyn Bank {
+        let found = self.banks.iter_mut().find(|(name, _)| *name == layout);
+        found.expect("a listed layout").1.as_mut()
+    }
+
+    /// Compares until this shard's part of the calls is done, or something differs.
+    fn run(&mut self) -> Result<(), Box<Finding>> {
+        let mut number = self.number;
+        while self.tally.calls < self.options.calls.div_ceil(SHARDS) {
+            self.random_list(number)?;
+            number += SHARDS;
+        }
+        if self.options.layout.is_none_or(|layout| layout == small::LAYOUT) {
+            small::alphabets().iter().try_for_each(|alphabet| self.small_lists(alphabet))?;
+        }
+        Ok(())
+    }
+
+    fn random_list(&mut self, number: u64) -> Result<(), Box<Finding>> {
+        let mut rng = Rng::new(self.options.seed, number);
+        let turn = (number / SHARDS) as usize % LAYOUTS.len();
+        let layout = self.options.layout.unwrap_or(LAYOUTS[turn]);
+        let sort = match rng.below(1_000) {
+            0 => Sort::Top,
+            1 => Sort::Far,
+            2..12 => Sort::Large,
+            _ => Sort::Light,
+        };
+        let capacities = [0, 1].map(|_| capacity(&mut rng, sort));
+        let (calls, looks) = match sort {
+            Sort::Light => (10 + rng.below(90), Looks::Every(1 + rng.below(16) as usize)),
+            Sort::Large => (300, Looks::Every(60)),
+            Sort::Top => (80, Looks::AtTheEnd),
+            Sort::Far => (40, Looks::AtTheEnd),
+        };
+        let list = List { layout, capacities, steps: Vec::new() };
+        let at = self.banks.iter().position(|(name, _)| *name == layout).expect("a listed layout");
+        let bank = self.banks[at].1.as_mut();
+        let extra_rng = &mut Rng::new(self.options.seed, !number);
+        let mut generator = Generator::new(rng, bank.layout(), sort, capacities, calls);
+        let next = |models: &_| generator.next(models);
+        match pair::run(bank, &mut self.tally, list, looks, next) {
+            Ok(heaps) => self.extras(layout, extra_rng, &heaps),
+            Err(finding) => {
+                let looks = if sort.is_dear() { looks } else { Looks::Always };
+                Err(Box::new(shrink::shrink(bank, looks, *finding)))
+            }
+        }
+    }
+
+    /// What is looked at of the library alone, on the memories that a list has left.
+    fn extras(
+        &mut self,
+        layout: &'static str,
+        rng: &mut Rng,
+        heaps: &[zincpapaya::Heaps],
+    ) -> Result<(), Box<Finding>> {
+        let numbers = self.bank(layout).layout();
+        self.tally.count_alone("rounds of quotes, openings and layouts");
+        alone::extras(rng, &numbers, &heaps[0]).map_err(|mismatch| {
+            let capacities = [heaps[0].capacity(), heaps[1].capacity()];
+            let list = List { layout, capacities, steps: Vec::new() };
+            Box::new(Finding { list, mismatch })
+        })
+    }
+
+    /// This shard's part of all short lists over an alphabet.
+    fn small_lists(&mut self, alphabet: &Alphabet) -> Result<(), Box<Finding>> {
+        let bank = self.banks.iter_mut().find(|(name, _)| *name == small::LAYOUT);
+        let bank = bank.expect("a listed layout").1.as_mut();
+        for number in (self.number..alphabet.lists()).step_by(SHARDS as usize) {
+            let list = alphabet.list(number);
+            let mut steps = list.steps.clone().into_iter();
+            let looks = Looks::Every(usize::MAX);
+            pair::run(bank, &mut self.tally, list, looks, |_| steps.next())
+                .map_err(|finding| Box::new(shrink::shrink(bank, Looks::Always, *finding)))?;
+        }
+        Ok(())
+    }
+}
+
+/// Counts for a memory of the library: so small that most lists meet them, or larger.
+fn capacity(rng: &mut Rng, sort: Sort) -> Capacity {
+    // The least of each count, and how many values it has.
+    let counts = match (sort, rng.below(6)) {
+        (Sort::Light, 0 | 1) => [(1, 6), (1, 3), (0, 5)],
+        (Sort::Light, 2 | 3) => [(16, 33), (4, 9), (4, 29)],
+        (Sort::Light, _) => [(64, 65), (8, 57), (16, 113)],
+        (Sort::Large, _) => [(500, 1_500), (30, 200), (100, 900)],
+        (Sort::Top | Sort::Far, _) => [(32, 1), (12, 1), (32, 1)],
+    };
+    let [chunks, pages, journal_words] = counts.map(|(least, many)| least + rng.below32(many));
+    Capacity { chunks, pages, journal_words }
+}
+
+fn main() -> ExitCode {
+    let options = match Options::read(std::env::args().skip(1)) {
+        Ok(options) => options,
+        Err(fault) => {
+            eprintln!("compare: {fault}\n{}", options::USAGE);
+            return ExitCode::from(2);
+        }
+    };
+    match &options.store {
+        None => compare(&options),
+        Some(file) => match store::store(file, options.seed) {
+            Ok(calls) => {
+                println!("{calls} calls with vm2's answers stored");
+                ExitCode::SUCCESS
+            }
+            Err(fault) => {
+                eprintln!("compare: {file}: {fault}");
+                ExitCode::from(2)
+            }
+        },
+    }
+}
+
+fn compare(options: &Options) -> ExitCode {
+    let began = Instant::now();
+    let shards: Vec<_> = (0..SHARDS)
+        .map(|number| {
+            let options = options.clone();
+            thread::spawn(move || {
+                let mut shard = Shard::new(number, options);
+                let finding = shard.run().err();
+                (shard.tally, finding.map(|finding| finding.lines()))
+            })
+        })
+        .collect();
+    let (mut tally, mut differ) = (Tally::default(), 0);
+    for shard in shards {
+        let (part, finding) = shard.join().expect("a thread of the comparison ends");
+        tally.add(&part);
+        if let Some(lines) = finding {
+            differ += 1;
+            println!("{}\n", lines.join("\n"));
+        }
+    }
+    println!("seed {}, {} seconds", options.seed, began.elapsed().as_secs());
+    print!("{tally}");
+    println!("{} calls, {differ} differ", tally.calls);
+    ExitCode::from(u8::from(differ > 0))
+}

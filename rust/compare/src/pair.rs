@@ -1,0 +1,274 @@
+//! One list of calls, put to vm2 and to the library side by side.
+
+use lines::show;
+use oracle::{catch, Answer, Bank, Call, Chunk, View, Word};
+use zincpapaya::{Capacity, Heaps, PageId};
+
+use crate::{
+    alone,
+    list::{Finding, List, Mismatch, Step},
+    model::{Model, CHUNK},
+    ours::{self, Reply},
+    tally::Tally,
+};
+
+/// Two memories on each side, and what they must hold.
+pub struct Pair<'a> {
+    bank: &'a mut dyn Bank,
+    tally: &'a mut Tally,
+    ours: [Heaps; 2],
+    /// The library's memories before the latest call that may change one.
+    before: [Heaps; 2],
+    models: [Model; 2],
+    /// Whether a memory may have changed since all that it holds was looked at.
+    changed: [bool; 2],
+}
+
+/// When all that both sides hold is looked at, besides the end of a list.
+#[derive(Clone, Copy, PartialEq)]
+pub enum Looks {
+    /// After every call that may have changed something.
+    Always,
+    /// After so many calls, and whenever the library refuses for want of room.
+    Every(usize),
+    /// Only at the end: vm2 holds so much that a look takes seconds.
+    AtTheEnd,
+}
+
+/// Puts calls to both sides until there are no more. `next` is shown what the memories must hold.
+pub fn run(
+    bank: &mut dyn Bank,
+    tally: &mut Tally,
+    list: List,
+    looks: Looks,
+    mut next: impl FnMut(&[Model; 2]) -> Option<Step>,
+) -> Result<Vec<Heaps>, Box<Finding>> {
+    let mut done = List { steps: Vec::new(), ..list };
+    let mut pair = Pair::start(bank, tally, done.capacities);
+    let mut outcome = Ok(());
+    while outcome.is_ok() {
+        let Some(step) = next(&pair.models) else { break };
+        done.steps.push(step);
+        let step = done.steps.last().expect("it was just put there");
+        outcome = pair.step(step, looks != Looks::AtTheEnd);
+        let due = match looks {
+            Looks::Always => true,
+            Looks::Every(many) => done.steps.len().is_multiple_of(many),
+            Looks::AtTheEnd => false,
+        };
+        if due {
+            outcome = outcome.and_then(|()| pair.look());
+        }
+    }
+    outcome = outcome.and_then(|()| pair.look());
+    pair.tally.lists += 1;
+    match outcome {
+        Ok(()) => Ok(pair.ours.into()),
+        Err(mismatch) => Err(Box::new(Finding { list: done, mismatch })),
+    }
+}
+
+/// Puts the calls of a list to both sides.
+pub fn rerun(bank: &mut dyn Bank, list: &List, looks: Looks) -> Option<Box<Finding>> {
+    let mut steps = list.steps.iter().cloned();
+    run(bank, &mut Tally::default(), list.clone(), looks, |_| steps.next()).err()
+}
+
+impl<'a> Pair<'a> {
+    /// Opens two memories on each side.
+    fn start(bank: &'a mut dyn Bank, tally: &'a mut Tally, capacities: [Capacity; 2]) -> Self {
+        for at in 0..2 {
+            bank.answer(at, &Call::Open { calldata: Vec::new() });
+        }
+        let layout = bank.layout();
+        let open = |capacity| {
+            Heaps::open(ours::layout(&layout), capacity, &[]).expect("a layout and its counts")
+        };
+        let ours = capacities.map(open);
+        let models = [0, 1].map(|_| Model::new(layout));
+        Self { bank, tally, before: ours.clone(), ours, models, changed: [true; 2] }
+    }
+
+    fn step(&mut self, step: &Step, look_before_refusal: bool) -> Result<(), Mismatch> {
+        let (at, call) = (step.memory, &step.call);
+        if call.changes() {
+            self.before[at].clone_from(&self.ours[at]);
+        }
+        if let Some(number) = self.models[at].no_room(call, self.ours[at].capacity()) {
+            if look_before_refusal {
+                // What the refusal rests on is vm2's state.
+                self.look_at(at)?;
+            }
+            return self.refused_for_want_of_room(step, number);
+        }
+        let theirs = self.bank.answer(at, call);
+        if let Answer::NotRun(_) = theirs {
+            let what = alone::not_run(&self.ours[at], &self.models[at], call)?;
+            what.into_iter().for_each(|what| self.tally.count_alone(what));
+            return Ok(());
+        }
+        let ours = self.answer(step);
+        if !ours.agrees_with(&theirs) {
+            let (vm2, library) = (show::answer(&theirs), shown(&ours));
+            return Err(Mismatch { what: "the answers differ".into(), vm2, library });
+        }
+        self.tally.count(call, &theirs);
+        let carried_out = !matches!(theirs, Answer::RustPanic(_) | Answer::EraPanic(_));
+        if call.changes() {
+            if carried_out {
+                self.models[at].carry_out(call);
+            }
+            self.changed[at] = true;
+            self.counts_of_vm2(at)?;
+        }
+        self.after(step, carried_out)
+    }
+
+    /// The library's answer. A panic of its crate, which has none for any answer of the header's, is
+    /// wrong by itself.
+    fn answer(&mut self, step: &Step) -> Reply {
+        let heaps = &mut self.ours;
+        let answered = catch(|| ours::answer(heaps, step.memory, &step.call, step.marked));
+        answered.unwrap_or_else(|panic| Reply::Wrong(panic.message))
+    }
+
+    fn refused_for_want_of_room(&mut self, step: &Step, number: u8) -> Result<(), Mismatch> {
+        let ours = self.answer(step);
+        if ours != Reply::Refused(number) {
+            let vm2 = format!("not asked: by what it holds, refusal {number} is due");
+            let what = "a refusal for want of room".into();
+            return Err(Mismatch { what, vm2, library: shown(&ours) });
+        }
+        *self.tally.no_room.entry(number).or_default() += 1;
+        self.after(step, false)
+    }
+
+    /// What must hold after every call: the library's counts are right, and a memory whose call was
+    /// not carried out is as it was, to the last number of its buffers.
+    fn after(&mut self, step: &Step, carried_out: bool) -> Result<(), Mismatch> {
+        let (at, call) = (step.memory, &step.call);
+        if !carried_out && call.changes() && self.ours[at].buffers() != self.before[at].buffers() {
+            return Err(Mismatch {
+                what: "a call that was not carried out changed the library's buffers".into(),
+                vm2: "nothing changes".into(),
+                library: "another content".into(),
+            });
+        }
+        if let Call::ReadRangeBigEndian { page, start, end } = *call {
+            alone::outputs_of_wrong_lengths(&self.ours[at], PageId(page), start..end)?;
+            self.tally.count_alone("range reads with an output of a wrong length");
+        }
+        let (heaps, model) = (&self.ours[at], &self.models[at]);
+        let usage = heaps.usage();
+        let counts = alone::counts(model);
+        if (usage, heaps.dynamic_len()) != (counts, Ok(model.dynamic_len)) {
+            let vm2 = format!("{counts:?}, dynamic length {}", model.dynamic_len);
+            let library = format!("{usage:?}, dynamic length {:?}", heaps.dynamic_len());
+            return Err(Mismatch { what: "the counts after the call".into(), vm2, library });
+        }
+        Ok(())
+    }
+
+    /// Compares vm2's own lengths with what the memory must hold.
+    fn counts_of_vm2(&mut self, at: usize) -> Result<(), Mismatch> {
+        let model = &self.models[at];
+        let [heap, aux] = model.journals;
+        let due = [Answer::Snapshot { heap, aux }, Answer::Number(model.dynamic_len)];
+        let given = [Call::Snapshot, Call::DynamicLen].map(|call| self.bank.answer(at, &call));
+        if given == due {
+            return Ok(());
+        }
+        let [vm2, library] =
+            [given, due].map(|pair| pair.map(|item| show::answer(&item)).join(", "));
+        Err(Mismatch { what: "vm2's lengths (second: what is due)".into(), vm2, library })
+    }
+
+    /// Compares all that both sides hold, of both memories.
+    fn look(&mut self) -> Result<(), Mismatch> {
+        (0..2).try_for_each(|at| self.look_at(at))
+    }
+
+    fn look_at(&mut self, at: usize) -> Result<(), Mismatch> {
+        if !std::mem::replace(&mut self.changed[at], false) {
+            return Ok(());
+        }
+        let view = self.bank.view(at);
+        self.tally.looks += 1;
+        let place = format!("what memory {at} holds");
+        if let Some(vm2) = self.models[at].differs_from(&view) {
+            let library = "the count by document 01's rules says otherwise".into();
+            return Err(Mismatch { what: place, vm2, library });
+        }
+        let (chunks, words) = held_alike(&self.ours[at], &view, &self.bank.layout())
+            .map_err(|(vm2, library)| Mismatch { what: place, vm2, library })?;
+        self.tally.chunks += chunks;
+        self.tally.words += words;
+        Ok(())
+    }
+}
+
+fn shown(reply: &Reply) -> String {
+    match reply {
+        Reply::Answer(answer) => show::answer(answer),
+        Reply::Refused(number) => format!("refused {number}"),
+        Reply::Wrong(what) => format!("wrong by itself: {what}"),
+    }
+}
+
+/// Compares every held chunk, every allocated page and both journals with vm2's state. Gives the
+/// numbers of chunks and of journalled words, or what vm2 has and what the library has.
+fn held_alike(
+    heaps: &Heaps,
+    view: &View,
+    layout: &oracle::Layout,
+) -> Result<(u64, u64), (String, String)> {
+    let mut ours = ours::state(heaps);
+    let mut chunks = 0;
+    for page in &view.pages {
+        let id = layout.id(page.place).expect("an allocated page has an id");
+        let dynamic = matches!(page.place, oracle::Place::Dynamic { .. });
+        if dynamic && !ours.pages.remove(&id) {
+            return Err((format!("page {id} is allocated"), "it is not".into()));
+        }
+        for chunk in &page.chunks {
+            chunks += 1;
+            if !ours.held.remove(&(id, chunk.number)) {
+                return Err((format!("page {id} holds chunk {}", chunk.number), "not held".into()));
+            }
+            same_bytes(heaps, id, chunk)?;
+        }
+    }
+    if !(ours.pages.is_empty() && ours.held.is_empty()) {
+        let library = format!("pages {:?}, and chunks {:?}", ours.pages, ours.held);
+        return Err(("none of these".into(), library));
+    }
+    if ours.journals != view.journals {
+        let [vm2, library] = [&view.journals, &ours.journals].map(shown_words);
+        return Err((vm2, library));
+    }
+    let words = view.journals.iter().map(|journal| journal.len() as u64).sum();
+    Ok((chunks, words))
+}
+
+fn same_bytes(heaps: &Heaps, page: u32, chunk: &Chunk) -> Result<(), (String, String)> {
+    let bytes = match heaps.chunk(PageId(page), chunk.number) {
+        Ok(bytes) => bytes,
+        Err(error) => return Err(("a chunk".into(), format!("refused {}", error.number()))),
+    };
+    match (0..).zip(bytes.iter().zip(chunk.bytes.iter())).find(|(_, (ours, theirs))| ours != theirs)
+    {
+        None => Ok(()),
+        Some((at, (ours, theirs))) => {
+            let address = u64::from(chunk.number) * CHUNK + at;
+            Err((format!("byte {address} of page {page} is {theirs:02x}"), format!("{ours:02x}")))
+        }
+    }
+}
+
+fn shown_words(journals: &[Vec<(u32, Word)>; 2]) -> String {
+    let words = |journal: &Vec<(u32, Word)>| {
+        let words = journal.iter().map(|(address, word)| format!("{address}={word}"));
+        words.collect::<Vec<_>>().join(" ")
+    };
+    format!("journals [{}] and [{}]", words(&journals[0]), words(&journals[1]))
+}

@@ -1,0 +1,106 @@
+//! What was counted in a run.
+
+use std::{collections::BTreeMap, fmt};
+
+use lines::spell;
+use oracle::{Answer, Call};
+
+#[derive(Default)]
+pub struct Tally {
+    /// Calls that both sides answered.
+    pub calls: u64,
+    pub lists: u64,
+    /// Of these calls, by name: how many, and how many of them were carried out.
+    names: BTreeMap<&'static str, (u64, u64)>,
+    carried_out: u64,
+    panics: u64,
+    /// Refusals, by number.
+    refusals: BTreeMap<u8, u64>,
+    /// Refusals for want of room, which are not put to vm2, by number.
+    pub no_room: BTreeMap<u8, u64>,
+    /// Checks of the library alone, by what they are about.
+    pub alone: BTreeMap<&'static str, u64>,
+    /// Looks at all that a memory holds, on both sides.
+    pub looks: u64,
+    /// Chunks compared byte by byte, and journalled words.
+    pub chunks: u64,
+    pub words: u64,
+}
+
+impl Tally {
+    /// Counts a call that both sides answered alike.
+    pub fn count(&mut self, call: &Call, answer: &Answer) {
+        self.calls += 1;
+        let (all, carried_out) = self.names.entry(spell::name(call)).or_default();
+        *all += 1;
+        match answer {
+            Answer::RustPanic(panic) => {
+                *self.refusals.entry(panic.refusal.unwrap_or_default()).or_default() += 1;
+            }
+            Answer::EraPanic(_) => self.panics += 1,
+            _ => {
+                *carried_out += 1;
+                self.carried_out += 1;
+            }
+        }
+    }
+
+    pub fn count_alone(&mut self, what: &'static str) {
+        *self.alone.entry(what).or_default() += 1;
+    }
+
+    pub fn add(&mut self, other: &Self) {
+        self.calls += other.calls;
+        self.lists += other.lists;
+        self.carried_out += other.carried_out;
+        self.panics += other.panics;
+        self.looks += other.looks;
+        self.chunks += other.chunks;
+        self.words += other.words;
+        for (name, (all, carried_out)) in &other.names {
+            let sum = self.names.entry(name).or_default();
+            *sum = (sum.0 + all, sum.1 + carried_out);
+        }
+        add_to(&mut self.refusals, &other.refusals);
+        add_to(&mut self.no_room, &other.no_room);
+        add_to(&mut self.alone, &other.alone);
+    }
+}
+
+fn add_to<K: Ord + Copy>(sums: &mut BTreeMap<K, u64>, others: &BTreeMap<K, u64>) {
+    for (key, count) in others {
+        *sums.entry(*key).or_default() += count;
+    }
+}
+
+/// Keys and counts in one line.
+fn counts<K: fmt::Display>(of: &BTreeMap<K, u64>) -> String {
+    let items: Vec<_> = of.iter().map(|(key, count)| format!("{key}: {count}")).collect();
+    if items.is_empty() {
+        "none".into()
+    } else {
+        items.join(", ")
+    }
+}
+
+impl fmt::Display for Tally {
+    fn fmt(&self, out: &mut fmt::Formatter<'_>) -> fmt::Result {
+        for (name, (all, carried_out)) in &self.names {
+            writeln!(out, "  {name:<26} {all:>9} calls, {carried_out:>9} carried out")?;
+        }
+        let refused: u64 = self.refusals.values().sum();
+        let Self { carried_out, panics, lists, .. } = self;
+        writeln!(
+            out,
+            "{lists} lists: {carried_out} carried out, {panics} panics, {refused} refused"
+        )?;
+        writeln!(out, "refused by both: {}", counts(&self.refusals))?;
+        writeln!(out, "refused for want of room, not put to vm2: {}", counts(&self.no_room))?;
+        writeln!(out, "library alone: {}", counts(&self.alone))?;
+        let Self { looks, chunks, words, .. } = self;
+        writeln!(
+            out,
+            "{looks} looks at all that is held: {chunks} chunks, {words} journalled words"
+        )
+    }
+}

@@ -1,0 +1,37 @@
+//! A dry run in small: writes, a load that pays for growth, a rollback.
+
+use zincpapaya::{Area, Capacity, Error, Frame, Heaps, Layout, Outcome, PageId, Word};
+
+fn main() -> Result<(), Error> {
+    let layout = Layout {
+        static_memory: PageId(1),
+        calldata: PageId(4),
+        bootloader_heap: PageId(5),
+        bootloader_aux: PageId(6),
+        base: 64,
+        stride: 8,
+    };
+    let capacity = Capacity { chunks: 16, pages: 4, journal_words: 8 };
+    let mut heaps = Heaps::open(layout, capacity, b"transaction")?;
+
+    let (heap, aux) = (layout.bootloader_heap, layout.bootloader_aux);
+    heaps.write_u256(heap, 4065, Word::from(7))?;
+    let (heap_bound, aux_bound) = (4096, 4096);
+    let mut frame = Frame { gas: 10, heap, aux, heap_bound, aux_bound, panicked: false };
+    match heaps.load(&mut frame, Area::Heap, 4065.into())? {
+        Outcome::Running { word, .. } => println!("loaded {word:#x}, {} gas left", frame.gas),
+        other => println!("not loaded: {other:?}"),
+    }
+
+    let before = heaps.snapshot()?;
+    heaps.store(&mut frame, Area::Heap, 4065.into(), Word::from(8), None)?;
+    println!("stored {:#x}", heaps.read_u256(heap, 4065)?);
+    heaps.rollback(before)?;
+    println!("rolled back to {:#x}", heaps.read_u256(heap, 4065)?);
+
+    if let Err(error) = heaps.write_u256(PageId(3), 0, Word::from(1)) {
+        println!("refused {}: {error}", error.number());
+    }
+    println!("{} of {} chunks in use", heaps.usage().chunks, capacity.chunks);
+    Ok(())
+}

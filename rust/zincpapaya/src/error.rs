@@ -1,0 +1,144 @@
+//! Refusals.
+
+use std::fmt;
+
+/// Why a call was refused. A refused call has changed nothing: no byte, no journal, no frame.
+///
+/// The variants stand in the order in which a call tests them, each with its number in the
+/// project's scope (document 01).
+///
+/// ```
+/// use zincpapaya::{Capacity, Error, Heaps, Layout, PageId, Word};
+///
+/// # fn main() -> Result<(), Error> {
+/// # let layout = Layout { static_memory: PageId(1), calldata: PageId(4),
+/// #     bootloader_heap: PageId(5), bootloader_aux: PageId(6), base: 64, stride: 8 };
+/// let capacity = Capacity { chunks: 1, pages: 1, journal_words: 0 };
+/// let mut heaps = Heaps::open(layout, capacity, &[])?;
+///
+/// // A word at 225 lies in two chunks, and there is one.
+/// let error = heaps.write_u256(PageId(66), 225, Word::from(7)).unwrap_err();
+/// assert_eq!(error, Error::NoChunk);
+/// assert_eq!(error.number(), 10);
+/// assert!(error.to_string().contains("open the memory with a larger `chunks`"));
+/// # Ok(())
+/// # }
+/// ```
+#[derive(Debug, Clone, Copy, PartialEq, Eq, Hash)]
+#[repr(u8)]
+pub enum Error {
+    /// Two fixed page ids are equal, the stride is below 4, or two memories that are to be
+    /// compared have different layouts.
+    Layout = 1,
+    /// A count of the capacity is out of its bounds.
+    Sizes = 2,
+    /// The memory is not well formed. Its buffers belong to [`Heaps`](crate::Heaps) and nothing
+    /// writes to them between calls, so this tells of a fault elsewhere in the process.
+    NotFormed = 3,
+    /// The page id decodes to no page, or page arithmetic leaves 32 bits.
+    Undecodable = 4,
+    /// The page is a fixed one.
+    Fixed = 5,
+    /// The page is allocated already.
+    Allocated = 6,
+    /// The page is not allocated.
+    NotAllocated = 7,
+    /// A range, an output or a list has a length that does not fit.
+    Range = 8,
+    /// No page entry is free.
+    NoPage = 9,
+    /// The pool has too few chunks.
+    NoChunk = 10,
+    /// The journal has too little room.
+    NoJournal = 11,
+    /// A rollback goes past a journal's length.
+    BadMark = 12,
+    /// A truncation to more than the dynamic length.
+    BadLength = 13,
+    /// Start and length of a fat pointer leave 32 bits.
+    Pointer = 14,
+    /// A hook cannot stop with a value of more than 32 bits.
+    HookValue = 15,
+}
+
+impl Error {
+    /// Each refusal, by rising number.
+    pub const ALL: [Self; 15] = [
+        Self::Layout,
+        Self::Sizes,
+        Self::NotFormed,
+        Self::Undecodable,
+        Self::Fixed,
+        Self::Allocated,
+        Self::NotAllocated,
+        Self::Range,
+        Self::NoPage,
+        Self::NoChunk,
+        Self::NoJournal,
+        Self::BadMark,
+        Self::BadLength,
+        Self::Pointer,
+        Self::HookValue,
+    ];
+
+    /// The refusal's number, 1 to 15.
+    pub const fn number(self) -> u8 {
+        self as u8
+    }
+}
+
+/// What happened and what to do about it, by rising number.
+const TEXTS: [&str; 15] = [
+    "the layout does not fit: make the four fixed page ids distinct and the stride at least 4, and \
+     compare only memories of one layout",
+    "the capacity is out of bounds: open the memory with `chunks` from 1 to 65536, `pages` from 1 \
+     to 4096 and `journal_words` from 0 to 65536",
+    "the memory is not well formed: something in the process has written to its buffers; trust \
+     none of its answers, open it again and run from the start",
+    "the page id is none of the layout's pages, or lies past 32 bits: check the page id and the \
+     layout's base and stride",
+    "the page is a fixed one, which can be neither allocated nor freed: it is always there, so \
+     write to it as it is",
+    "the page is allocated already: free it before it is allocated again, or write to it as it is",
+    "the page is not allocated: free only pages that were allocated or written, and each once",
+    "a length does not fit: a byte write must not pass address 4294967295, a partial read has at \
+     most 32 bytes, an output as many bytes as its range, and a quote at most 4096 addresses",
+    "no page entry is free: open the memory with a larger `pages`, or free pages that are no \
+     longer needed",
+    "the pool has too few chunks: open the memory with a larger `chunks`, or free pages that are \
+     no longer needed",
+    "the journal has too little room: open the memory with a larger `journal_words`, or call \
+     `delete_history` once nothing is to be rolled back any more",
+    "the snapshot is past a journal's end: it was taken before an earlier rollback or \
+     `delete_history`, or from another memory",
+    "the length is above the dynamic length: truncate to what `dynamic_len` gave, or to less",
+    "start and length of the fat pointer leave 32 bits: no valid pointer does, so check where \
+     this one was made",
+    "the hook's value has more than 32 bits: the store was not carried out; the bootloader must \
+     store a smaller value at its hook address",
+];
+
+impl fmt::Display for Error {
+    fn fmt(&self, out: &mut fmt::Formatter<'_>) -> fmt::Result {
+        out.write_str(TEXTS[usize::from(self.number()) - 1])
+    }
+}
+
+impl std::error::Error for Error {}
+
+/// The result that a call's status stands for.
+///
+/// Instructions take their two other outcomes away before they come here, and the last status,
+/// which is for outputs and frames of a wrong length, cannot come: `ffi` takes both as arrays.
+pub(crate) fn carried_out(status: u32) -> Result<(), Error> {
+    if status == 0 {
+        return Ok(());
+    }
+    let refusal = Error::ALL.into_iter().find(|error| u32::from(error.number()) == status);
+    Err(refusal.unwrap_or_else(|| unreachable!("the library gave the status {status}")))
+}
+
+/// The status of a call that refuses nothing.
+pub(crate) fn never_refused(status: u32) {
+    carried_out(status).expect("this call refuses nothing");
+}

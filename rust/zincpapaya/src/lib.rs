@@ -1,0 +1,68 @@
+//! The EraVM's memory: heap pages, bootloader rollback and the five heap instructions.
+//!
+//! This is a safe interface to `libzincpapaya.a`, a library written in Rattle, every function of
+//! which is proved to meet its contract. Calls have the names that they have in vm2. Where vm2
+//! panics, a call here gives an [`Error`] and has changed nothing; and since the memory has a
+//! fixed capacity, a call may also be refused for want of room.
+//!
+//! ```
+//! use zincpapaya::{Capacity, Heaps, Layout, PageId, Word};
+//!
+//! # fn main() -> Result<(), zincpapaya::Error> {
+//! let layout = Layout {
+//!     static_memory: PageId(1),
+//!     calldata: PageId(4),
+//!     bootloader_heap: PageId(5),
+//!     bootloader_aux: PageId(6),
+//!     base: 64,
+//!     stride: 8,
+//! };
+//! let capacity = Capacity { chunks: 16, pages: 4, journal_words: 8 };
+//! let mut heaps = Heaps::open(layout, capacity, b"calldata")?;
+//!
+//! let page = PageId(66); // the heap of group 0
+//! heaps.write_u256(page, 225, Word::from(7))?;
+//! assert_eq!(heaps.read_u256(page, 225)?, Word::from(7));
+//! assert_eq!(heaps.read_byte(layout.calldata, 0)?, b'c');
+//! # Ok(())
+//! # }
+//! ```
+//!
+//! # Words
+//!
+//! A [`Word`] is four limbs of 64 bits, the lowest first, in a public field. That is how the
+//! `U256` of `primitive-types` keeps a number too, so a host converts by `Word(number.0)` and
+//! `U256(word.0)`, at no cost.
+//!
+//! # Pages
+//!
+//! A [`PageId`] is vm2's `HeapId`: `PageId(id.as_u32())`. A base page and a byte address are plain
+//! `u32`, as they are in vm2.
+
+#![deny(missing_docs)]
+#![deny(unsafe_code)]
+
+mod error;
+#[allow(unsafe_code)]
+mod ffi;
+mod frame;
+mod heaps;
+mod instructions;
+mod memory;
+mod pages;
+mod pointer;
+#[cfg(test)]
+mod tests;
+mod word;
+
+pub use error::Error;
+pub use frame::{quote, use_gas, Area, Frame};
+pub use heaps::{Heaps, Snapshot};
+pub use instructions::{Operand, Outcome};
+pub use memory::{Buffers, Capacity, Usage};
+pub use pages::{
+    aux_heap_page_from_base, base_page_from_heap, code_page_from_base, heap_page_from_base,
+    DecodedPage, Layout, PageId,
+};
+pub use pointer::FatPointer;
+pub use word::Word;

@@ -1,0 +1,77 @@
+//! 256-bit words.
+
+use std::fmt;
+
+/// A 256-bit word: four limbs of 64 bits, the lowest first.
+///
+/// `Word(number.0)` and `U256(word.0)` convert from and to the `U256` of `primitive-types`.
+///
+/// ```
+/// use zincpapaya::Word;
+///
+/// let word = Word([1, 0, 0, 0]);
+/// assert_eq!(word, Word::from(1));
+/// assert_eq!(word.to_big_endian()[31], 1);
+/// assert_eq!(format!("{word:#x}"), "0x1");
+/// ```
+#[derive(Clone, Copy, Default, PartialEq, Eq, Hash)]
+pub struct Word(
+    /// The limbs, the lowest first.
+    pub [u64; 4],
+);
+
+impl Word {
+    /// The word 0.
+    pub const ZERO: Self = Self([0; 4]);
+
+    /// The word of 32 bytes, the highest first, as it stands in memory.
+    pub fn from_big_endian(bytes: &[u8; 32]) -> Self {
+        let mut limbs = [0; 4];
+        for (limb, part) in limbs.iter_mut().rev().zip(bytes.chunks_exact(8)) {
+            *limb = part.iter().fold(0, |limb, byte| limb << 8 | u64::from(*byte));
+        }
+        Self(limbs)
+    }
+
+    /// The word's 32 bytes, the highest first, as it stands in memory.
+    pub fn to_big_endian(self) -> [u8; 32] {
+        let mut bytes = [0; 32];
+        for (part, limb) in bytes.chunks_exact_mut(8).zip(self.0.iter().rev()) {
+            part.copy_from_slice(&limb.to_be_bytes());
+        }
+        bytes
+    }
+}
+
+impl From<[u64; 4]> for Word {
+    fn from(limbs: [u64; 4]) -> Self {
+        Self(limbs)
+    }
+}
+
+impl From<Word> for [u64; 4] {
+    fn from(word: Word) -> Self {
+        word.0
+    }
+}
+
+impl From<u64> for Word {
+    fn from(number: u64) -> Self {
+        Self([number, 0, 0, 0])
+    }
+}
+
+/// Lower-case hexadecimal without leading zeros.
+impl fmt::LowerHex for Word {
+    fn fmt(&self, out: &mut fmt::Formatter<'_>) -> fmt::Result {
+        let digits: String = self.0.iter().rev().map(|limb| format!("{limb:016x}")).collect();
+        let digits = digits.trim_start_matches('0');
+        out.pad_integral(true, "0x", if digits.is_empty() { "0" } else { digits })
+    }
+}
+
+impl fmt::Debug for Word {
+    fn fmt(&self, out: &mut fmt::Formatter<'_>) -> fmt::Result {
+        write!(out, "Word({self:#x})")
+    }
+}

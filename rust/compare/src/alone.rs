@@ -3,7 +3,7 @@
 use std::ops::Range;
 
 use oracle::{Area, Call, Frame, HeapInstruction, Layout};
-use zincpapaya::{quote, Capacity, Error, Heaps, Outcome, PageId, Usage};
+use zincpapaya::{quote, Capacity, Error, Heaps, Outcome, PageId, Usage, Word};
 
 use crate::{
     list::Mismatch,
@@ -103,11 +103,26 @@ fn far_write(heaps: &Heaps, model: &Model, call: &Call) -> Result<Option<&'stati
     let due = (counts(&after), Ok(after.dynamic_len));
     expect("counts after a write to a far page", due, (copy.usage(), copy.dynamic_len()))?;
     let page = model.layout.id(writes.place).expect("a page that was written has an id");
-    if let Call::WriteU256 { address, value, .. } = call {
-        let word = copy.read_u256(PageId(page), *address).map(|word| word.0);
-        expect("a word of a far page", Ok(value.0), word)?;
+    if let [Ok(start), Ok(end)] = [writes.start, writes.start + writes.length].map(u32::try_from) {
+        let given = copy.read_range_big_endian(PageId(page), start..end);
+        expect("the bytes of a far page", Ok(bytes_of(call)), given)?;
     }
     Ok(Some("far pages written"))
+}
+
+/// The bytes that a call writes.
+fn bytes_of(call: &Call) -> Vec<u8> {
+    let word = |value: &oracle::Word| Word(value.0).to_big_endian().to_vec();
+    match call {
+        Call::WriteU256 { value, .. }
+        | Call::Instruction { instruction: HeapInstruction::Store { value, .. }, .. } => {
+            word(value)
+        }
+        Call::WriteBytes { bytes, .. } | Call::AllocateWithContentAt { content: bytes, .. } => {
+            bytes.clone()
+        }
+        _ => Vec::new(),
+    }
 }
 
 /// A hook on the aux heap does what it does on the heap, the two areas exchanged.
@@ -137,8 +152,7 @@ fn aux_hook(heaps: &Heaps, call: &Call, frame: &Frame) -> Result<(), Mismatch> {
     expect("what it wrote", other.buffers(), copy.buffers())
 }
 
-/// Refusals of openings and comparisons, and the quote, of which vm2 has none. Gives how many were
-/// tried.
+/// Refusals of openings and comparisons, and the quote: vm2 has none of them.
 pub fn extras(rng: &mut Rng, layout: &Layout, heaps: &Heaps) -> Result<(), Mismatch> {
     quotes(rng, heaps)?;
     bad_openings(rng, layout)?;

@@ -1,6 +1,8 @@
 //! Random calls, most of them near an edge: of a chunk, of a page, of the pool, of a journal, of a
 //! bound, of the gas, of the layout.
 
+use std::collections::BTreeSet;
+
 use oracle::{Call, Kind, Layout, PageIds, Place, Pointer, Word};
 use zincpapaya::Capacity;
 
@@ -45,6 +47,8 @@ pub struct Generator {
     addresses: Vec<u32>,
     /// Marks of snapshots that were taken, in either memory.
     marks: Vec<[u64; 2]>,
+    /// Memories and places that were written far up.
+    peaks: BTreeSet<(usize, Place)>,
     pending: Option<Step>,
     /// Calls to come, and rollbacks after them.
     calls: u64,
@@ -115,8 +119,6 @@ impl Generator {
         let longest = rng.pick(&[256, 1024, 1024, 8192]);
         let twins = !sort.is_dear() && rng.one_in(3);
         let rollbacks = rng.below(20);
-        let (pages, addresses, marks) = (Vec::new(), Vec::new(), Vec::new());
-        let pending = None;
         let mut made = Self {
             rng,
             layout,
@@ -124,10 +126,11 @@ impl Generator {
             capacities,
             longest,
             twins,
-            pages,
-            addresses,
-            marks,
-            pending,
+            pages: Vec::new(),
+            addresses: Vec::new(),
+            marks: Vec::new(),
+            peaks: BTreeSet::new(),
+            pending: None,
             calls,
             rollbacks,
         };
@@ -138,7 +141,8 @@ impl Generator {
         };
         made.pages = (0..2 + made.rng.below(pages)).map(|_| made.any_page()).collect();
         if sort == Sort::Top {
-            made.pages = vec![made.dynamic_page(), layout.bootloader_heap, made.any_page()];
+            let other = made.rng.pick(&[layout.bootloader_heap, layout.bootloader_aux]);
+            made.pages = vec![made.dynamic_page(), other, made.any_page()];
         }
         made.addresses = (0..3 + made.rng.below(addresses)).map(|_| made.any_address()).collect();
         made
@@ -160,12 +164,12 @@ impl Generator {
         self.calls -= 1;
         loop {
             let step = self.draw(models);
-            if self.is_dear(&step, models) {
+            if !self.allows(&step, models) {
                 continue;
             }
             if self.twins && step.call.changes() && !self.rng.one_in(8) {
                 let twin = Step { memory: 1 - step.memory, ..step.clone() };
-                self.pending = Some(twin).filter(|twin| !self.is_dear(twin, models));
+                self.pending = Some(twin).filter(|twin| self.allows(twin, models));
             }
             if self.sort == Sort::Top {
                 self.pending = self.window_after(&step, models);
@@ -215,27 +219,44 @@ impl Generator {
         Some(Step { memory, call: Call::Rollback { heap, aux }, marked: false })
     }
 
-    /// Whether vm2 would take much memory for the call, in a list that is not made for that.
-    fn is_dear(&self, step: &Step, models: &[Model; 2]) -> bool {
+    /// Whether vm2 is put to the call: for far groups and far chunks it takes much memory, so these
+    /// have lists of their own, with two pages each that may be written far up.
+    fn allows(&mut self, step: &Step, models: &[Model; 2]) -> bool {
         let (call, model) = (&step.call, &models[step.memory]);
-        if self.sort.is_dear() || model.no_room(call, self.capacities[step.memory]).is_some() {
+        if model.no_room(call, self.capacities[step.memory]).is_some() {
+            return true;
+        }
+        if self.is_far(call) && self.sort != Sort::Far {
             return false;
         }
-        let dear = |page: &u32| match model::place(&self.layout, *page) {
+        match model.writes(call) {
+            Some(writes) if writes.chunks().end > FAR_CHUNK => {
+                let peak = (step.memory, writes.place);
+                if self.peaks.len() < 2 && self.sort == Sort::Top {
+                    self.peaks.insert(peak);
+                }
+                self.peaks.contains(&peak)
+            }
+            _ => true,
+        }
+    }
+
+    /// Whether the call makes vm2 allocate groups up to a far one.
+    fn is_far(&self, call: &Call) -> bool {
+        let far = |page: &u32| match model::place(&self.layout, *page) {
             Some(Place::Dynamic { group, .. }) => (FAR_GROUP..=MAX_GROUP).contains(&group),
             _ => false,
         };
-        let page = match call {
+        match call {
             Call::AllocateAt { page }
             | Call::AllocateWithContentAt { page, .. }
             | Call::Deallocate { page }
             | Call::WriteU256 { page, .. }
             | Call::WriteBytes { page, .. }
-            | Call::Decode { page } => dear(page),
-            Call::Instruction { frame, .. } => dear(&frame.heap) || dear(&frame.aux),
+            | Call::Decode { page } => far(page),
+            Call::Instruction { frame, .. } => far(&frame.heap) || far(&frame.aux),
             _ => false,
-        };
-        page || model.writes(call).is_some_and(|writes| writes.chunks().end > FAR_CHUNK)
+        }
     }
 }
 

@@ -74,9 +74,9 @@ impl Shard {
         let turn = (number / SHARDS) as usize % LAYOUTS.len();
         let layout = self.options.layout.unwrap_or(LAYOUTS[turn]);
         let sort = match rng.below(1_000) {
-            0 => Sort::Top,
-            1 => Sort::Far,
-            2..12 => Sort::Large,
+            0 | 1 => Sort::Top,
+            2 => Sort::Far,
+            3..13 => Sort::Large,
             _ => Sort::Light,
         };
         let capacities = [0, 1].map(|_| capacity(&mut rng, sort));

@@ -1,5 +1,6 @@
 -- The laws that the proofs of this crate and of those above it share.
 pub mod Copies
+pub mod WordBytes
 pub mod Overs
 pub mod Kept
 pub mod Pieces

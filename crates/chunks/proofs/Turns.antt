@@ -5,9 +5,8 @@ use mathlib.Core.Bool.{Bool, true, cond}
 use mathlib.Core.List.{List}
 use Prim.Native.Nat.{ℕ, _+_, _≤_, _<_}
 use native.Mathlib.Omega.{arith}
-use lib.Dec.{ltb}
 use lib.ListN.{length, getD, take}
-use borrow.Author.Tests.{lt-ltb, le-ltb, ltb-true}
+use borrow.Author.Tests.{ltb-true}
 use Rattle.formed.proofs.Asks.{slots-asked}
 use Rattle.index.specs.Index.{seek}
 use Rattle.index.proofs.Places.{seek-hit}
@@ -18,7 +17,7 @@ use Rattle.store.proofs.Holds.{held-was}
 use Rattle.formed.specs.Parts.{keyOf, entryOf, allocated, holds}
 use Rattle.formed.specs.WellFormed.{WellFormed, keyEntry, keyChunk}
 use Rattle.formed.proofs.Keys.{key-entry, key-chunk}
-use Rattle.formed.proofs.Sense.{pool-is, holds-near}
+use Rattle.formed.proofs.Sense.{pool-is}
 use Rattle.view.specs.View.{View, viewOf, settingOf}
 use Rattle.view.specs.Steps.{missing}
 use Rattle.view.specs.Does.{Shows}
@@ -152,17 +151,3 @@ module _ (m₀ : Mem) (p k count : ℕ) (asks : HoldAsks m₀ p k count) (i : �
     };
     pages = w ∙ a .pages;
   }
-
--- ---- counting those that are missing
-module _ (m : Mem) (p k i : ℕ) (near : k + i ≤ 16777216) (s : ℕ) (at : s ≡ slotFor (m .keys) (m .words) p (k + i)) where
-  holds-now : holds m p (k + i) ≡ ltb s (slotCount (m .words))
-  holds-now = holds-near m p (k + i) near ∙ ap (λ (x : ℕ). ltb x (slotCount (m .words))) (sym at)
-
-  pub count-lack : slotCount (m .words) ≤ s → missing (holds m p) k (i + 1) ≡ missing (holds m p) k i + 1
-  count-lack l = missing-more (holds m p) k i ∙ ap (λ (b : Bool). missing (holds m p) k i + cond b 0 1) (holds-now ∙ le-ltb s (slotCount (m .words)) l)
-
-  pub count-hold : s < slotCount (m .words) → missing (holds m p) k (i + 1) ≡ missing (holds m p) k i
-  count-hold l =
-      let h = missing-more (holds m p) k i in
-      let g : _≡_ {A = ℕ} (cond (holds m p (k + i)) 0 1) 0 = ap (λ (b : Bool). cond b 0 1) (holds-now ∙ lt-ltb s (slotCount (m .words)) l) in
-      omega arith

@@ -1,39 +1,10 @@
-// Chunks: which of a range are missing, and the missing ones taken from the pool.
+// Chunks: the missing ones of a range, taken from the pool.
 ghost use mathlib.Core.Path.{_≡_};
-ghost use Prim.Native.Nat.{_+_, _≤_};
 ghost use Rattle.store.specs.Mem.{mem, entries};
 ghost use Rattle.formed.specs.Parts.{keyOf, entryOf};
-ghost use Rattle.formed.specs.WellFormed.{WellFormed};
 ghost use Rattle.view.specs.View.{settingOf, viewOf};
-ghost use Rattle.view.specs.Steps.{missing};
 ghost use Rattle.view.specs.Does.{Shows};
 ghost use Rattle.view.specs.Inner.{holding, HoldAsks};
-
-// How many of the chunks first, .., first + count - 1 the page does not hold.
-pub fn lacking(
-    bytes: &[u8],
-    keys: &[u64],
-    order: &[u32],
-    words: &[u64],
-    page: u32,
-    first: u32,
-    count: u32,
-) -> u32
-    requires { ⌜ (WellFormed (mem (now bytes) (now keys) (now order) (now words))) × (first + count ≤ 16777217) ⌝ }
-    ensures { λ r. ⌜ r ≡ missing (viewOf (mem (now (bytes .entry)) (now (keys .entry)) (now (order .entry)) (now (words .entry))) .held page) first count ⌝ }
-{
-    let c = words[6] as usize;
-    let mut n = 0;
-    let mut i = 0;
-    while i < count {
-        let s = store::place_of(keys, order, words, page, first + i);
-        if s >= c {
-            n += 1;
-        }
-        i += 1;
-    }
-    n
-}
 
 // The page, which is allocated, holds the chunk, whose key is k. Where a hint knows its slot, nothing is left to do. The pages keep their entries.
 fn hold_chunk(

@@ -1,7 +1,7 @@
 -- What giving slots back and freeing an entry leave, and what the calls ask.
 -- Assumes nothing.
 use mathlib.Core.Path.{_≡_, refl, sym, ap, _∙_, subst}
-use mathlib.Core.Logic.{_⊎_, ⊎-elim}
+use mathlib.Core.Logic.{⊎-elim}
 use mathlib.Core.Bool.{Bool, true, false, cond, not, _&&_, _||_, false≢true}
 use mathlib.Core.List.{List, _++_}
 use Prim.Native.Nat.{ℕ, _+_, _*_, _-_, _≤_, _<_}
@@ -15,7 +15,7 @@ use Rattle.index.proofs.Logic.{same-or-not, lt-or-ge, and-left, and-right, le-o
 use Rattle.index.proofs.Orders.{index-fits}
 use Rattle.index.proofs.Places.{seek-hit, find-past, find-gap}
 use Rattle.index.proofs.Meaning.{once}
-use Rattle.store.specs.Mem.{Mem, mem, layoutOf, slotCount, pageCount, heldNow, inUse, holders, entries, slotOrder, pageOrder, chunks}
+use Rattle.store.specs.Mem.{Mem, mem, layoutOf, slotCount, pageCount, heldNow, inUse, holders, entries, slotOrder, pageOrder}
 use Rattle.store.specs.Give.{within, Given}
 use Rattle.store.proofs.Parts.{rest-low, rest-high, rest-part}
 use Rattle.store.proofs.Gives.{within-yes}

@@ -34,10 +34,6 @@ module _ (m : Mem) (p k : ℕ) where
   slot-far l = rw (lt-leb k 16777216 l)
 
 -- up to the last address the view is a look into the table
-pub byte-near : (m : Mem) (p a : ℕ) → a ≤ 4294967326 → byteAt m p a ≡ getD (chunks m) (256 * seek (holders m) (keyOf (entryOf m p) (a / 256)) + a % 256) 0
-unfolding byteAt
-byte-near m p a l = rw (slot-near m p (a / 256) (omega arith))
-
 pub holds-near : (m : Mem) (p k : ℕ) → k ≤ 16777216 → holds m p k ≡ ltb (seek (holders m) (keyOf (entryOf m p) k)) (slotCount (m .words))
 unfolding holds
 holds-near m p k l = rw (slot-near m p k l)

@@ -9,13 +9,14 @@ use Rattle.page_ids.specs.Decode.{badLayout}
 use Rattle.index.specs.Index.{all, indexed}
 use Rattle.store.specs.Mem.{Mem, headLength, layoutOf, slotCount, pageCount, journalRoom, heldNow, inUse, dynamicLength, journalLength, holders, entries, slotOrder, pageOrder, chunks}
 use Rattle.formed.specs.Pages.{dynamic, group, journalCount, journalPlace}
+use Rattle.formed.specs.Buffers.{bytesFor, keysFor, orderFor, wordsFor}
 use Rattle.formed.specs.Parts.{keyOf}
 
--- the buffers' lengths b, k, o and that of w, as docs/BUFFERS.md states them, and the counts' bounds
+-- the counts are in bounds, and the lengths b, k, o of the other buffers and that of w are those for them
 unfoldable pub sized : ℕ → ℕ → ℕ → List ℕ → Bool
 sized b k o w =
     leb headLength (length w) && ((leb 1 (slotCount w) && leb (slotCount w) 65536) && ((leb 1 (pageCount w) && leb (pageCount w) 4096) && (leb (journalRoom w) 65536
-    && (eqb b (256 * slotCount w + 32 * journalCount * journalRoom w) && (eqb k (slotCount w + pageCount w + 4) && (eqb o (3 * slotCount w + pageCount w + 4) && eqb (length w) (headLength + 3 * journalCount * journalRoom w)))))))
+    && (eqb b (bytesFor (slotCount w) (journalRoom w)) && (eqb k (keysFor (slotCount w) (pageCount w)) && (eqb o (orderFor (slotCount w) (pageCount w)) && eqb (length w) (wordsFor (journalRoom w))))))))
 
 -- a number of 32 bits
 abbrev pub fits : ℕ → Bool

@@ -6,8 +6,9 @@ use mathlib.Core.Logic.{_⊎_}
 use Prim.Native.Nat.{ℕ, _+_, _*_, _-_, _/_, _%_, _<_, _≤_}
 use lib.ListN.{length, getD}
 use Rattle.index.specs.Index.{Index}
-use Rattle.store.specs.Mem.{Mem, headLength, layoutOf, slotCount, pageCount, journalRoom, heldNow, inUse, dynamicLength, journalLength, holders, entries, slotOrder, pageOrder, chunks}
+use Rattle.store.specs.Mem.{Mem, layoutOf, slotCount, pageCount, journalRoom, heldNow, inUse, dynamicLength, journalLength, holders, entries, slotOrder, pageOrder, chunks}
 use Rattle.formed.specs.Pages.{LayoutRule, fixedId, fixed, dynamic, group, journalCount, journalPlace, journalPage}
+use Rattle.formed.specs.Buffers.{bytesFor, keysFor, orderFor, wordsFor}
 use Rattle.formed.specs.Parts.{keyOf, holds, byteAt, noteAddress, noteFirst, noteLast}
 
 -- ---- chunks by slot, pages by entry: the words in which the sentence speaks of page ids and chunk numbers
@@ -57,10 +58,10 @@ pub record Lengths (m : Mem) : Type 0 where
   pub pages-lo : 1 ≤ pageCount (m .words)
   pub pages-hi : pageCount (m .words) ≤ 4096
   pub room-hi : journalRoom (m .words) ≤ 65536
-  pub in-bytes : length (m .bytes) ≡ 256 * slotCount (m .words) + 32 * journalCount * journalRoom (m .words)
-  pub in-keys : length (m .keys) ≡ slotCount (m .words) + pageCount (m .words) + 4
-  pub in-order : length (m .order) ≡ 3 * slotCount (m .words) + pageCount (m .words) + 4
-  pub in-words : length (m .words) ≡ headLength + 3 * journalCount * journalRoom (m .words)
+  pub in-bytes : length (m .bytes) ≡ bytesFor (slotCount (m .words)) (journalRoom (m .words))
+  pub in-keys : length (m .keys) ≡ keysFor (slotCount (m .words)) (pageCount (m .words))
+  pub in-order : length (m .order) ≡ orderFor (slotCount (m .words)) (pageCount (m .words))
+  pub in-words : length (m .words) ≡ wordsFor (journalRoom (m .words))
 
 -- ---- what the encoding itself asks; buffers that break it encode no memory
 -- word i of journal j: the address has 32 bits, and the slots noted hold the word's first and last chunk

@@ -32,23 +32,23 @@ use Rattle.view.proofs.Equal.{view-by}
 use Rattle.view.proofs.Dropping.{without-then, without-same, without-none}
 use Rattle.drops.specs.Drops.{EntriesBut, PageAsks}
 use Rattle.formed.proofs.Above.{dynamic-above}
-use Rattle.freeing.specs.Freeing.{emptied, told, VisitAsks, Visited, ShortenAsks}
+use Rattle.freeing.specs.Freeing.{emptied, isFrom, VisitAsks, Visited, ShortenAsks}
 
 -- ---- one entry's number
-pub not-told : (l : Layout) (n x : ℕ) → x ≡ 0 → false ≡ told l n x
+pub not-told : (l : Layout) (n x : ℕ) → x ≡ 0 → false ≡ isFrom l n x
 not-told l n x e = rw e
 
-pub told-by : (l : Layout) (n x : ℕ) → (x ≡ 0 → ⊥) → leb n (group l (x - 1)) ≡ told l n x
+pub told-by : (l : Layout) (n x : ℕ) → (x ≡ 0 → ⊥) → leb n (group l (x - 1)) ≡ isFrom l n x
 told-by l n x e = rw (ne-eqb x 0 e)
 
-told-used : (l : Layout) (n x : ℕ) → told l n x ≡ true → 0 < x
+told-used : (l : Layout) (n x : ℕ) → isFrom l n x ≡ true → 0 < x
 told-used l n x e =
     ⊎-elim (λ (z : x ≡ 0). absurd (false≢true (not-told l n x z ∙ e))) (λ (z : x ≡ 0 → ⊥). omega arith) (same-or-not x 0)
 
-told-group : (l : Layout) (n x : ℕ) → told l n x ≡ true → leb n (group l (x - 1)) ≡ true
+told-group : (l : Layout) (n x : ℕ) → isFrom l n x ≡ true → leb n (group l (x - 1)) ≡ true
 told-group l n x e = and-right (not (eqb x 0)) (leb n (group l (x - 1))) e
 
-either : (l : Layout) (n : ℕ) (b : Bool) (x : ℕ) → told l n x ≡ false → told l n (cond b 0 x) ≡ false
+either : (l : Layout) (n : ℕ) (b : Bool) (x : ℕ) → isFrom l n x ≡ false → isFrom l n (cond b 0 x) ≡ false
 either l n true x e = refl
 either l n false x e = e
 
@@ -67,7 +67,7 @@ module _ (m : Mem) (e : ℕ) (a : VisitAsks m e) where
   pub above-base : 0 < getD (entries m) e 0 → layoutOf (m .words) .base .0 < getD (entries m) e 0
   above-base p = let h = dynamic-above (layoutOf (m .words)) (getD (entries m) e 0 - 1) (right p .kind) in omega arith
 
-  module _ (n : ℕ) (t : told (layoutOf (m .words)) n (getD (entries m) e 0) ≡ true) where
+  module _ (n : ℕ) (t : isFrom (layoutOf (m .words)) n (getD (entries m) e 0) ≡ true) where
     pub used : 0 < getD (entries m) e 0
     used = told-used (layoutOf (m .words)) n (getD (entries m) e 0) t
 
@@ -85,21 +85,21 @@ module _ (m : Mem) (e : ℕ) (a : VisitAsks m e) where
       (omega arith, omega arith, λ p. let h = above-base (subst (λ (x : ℕ). 0 < x) entry-at p) in let q = entry-at in omega arith)
 
   module _ (n : ℕ) where
-    pub at-told : (b : Bool) → b ≡ told (layoutOf (m .words)) n (getD (m .keys) (slotCount (m .words) + e) 0) → b ≡ true → told (layoutOf (m .words)) n (getD (entries m) e 0) ≡ true
-    at-told b q t = ap (told (layoutOf (m .words)) n) (sym entry-at) ∙ sym q ∙ t
+    pub at-told : (b : Bool) → b ≡ isFrom (layoutOf (m .words)) n (getD (m .keys) (slotCount (m .words) + e) 0) → b ≡ true → isFrom (layoutOf (m .words)) n (getD (entries m) e 0) ≡ true
+    at-told b q t = ap (isFrom (layoutOf (m .words)) n) (sym entry-at) ∙ sym q ∙ t
 
-    pub asked-by : told (layoutOf (m .words)) n (getD (entries m) e 0) ≡ true → PageAsks m (getD (m .keys) (slotCount (m .words) + e) 0 - 1)
+    pub asked-by : isFrom (layoutOf (m .words)) n (getD (entries m) e 0) ≡ true → PageAsks m (getD (m .keys) (slotCount (m .words) + e) 0 - 1)
     asked-by t = subst (λ (x : ℕ). PageAsks m (x - 1)) (sym entry-at) (page-asked n t)
 
-    pub freed-visit : told (layoutOf (m .words)) n (getD (entries m) e 0) ≡ true → (m' : Mem)
+    pub freed-visit : isFrom (layoutOf (m .words)) n (getD (entries m) e 0) ≡ true → (m' : Mem)
         → (Shows (settingOf m) (freed (settingOf m) (getD (m .keys) (slotCount (m .words) + e) 0 - 1) (viewOf m)) m') × EntriesBut (getD (m .keys) (slotCount (m .words) + e) 0 - 1) m m' → Visited m n e m'
     freed-visit t m' d = record {
       free = λ _. subst (λ (x : ℕ). (Shows (settingOf m) (freed (settingOf m) (x - 1) (viewOf m)) m') × EntriesBut (x - 1) m m') entry-at d;
       kept = λ f. absurd (true≢false (sym t ∙ f));
     }
 
-    pub kept-visit : (b : Bool) → b ≡ told (layoutOf (m .words)) n (getD (m .keys) (slotCount (m .words) + e) 0) → b ≡ false → Visited m n e m
-    kept-visit b q f = record { free = λ t. absurd (true≢false (sym t ∙ ap (told (layoutOf (m .words)) n) (sym entry-at) ∙ sym q ∙ f)); kept = λ _. refl }
+    pub kept-visit : (b : Bool) → b ≡ isFrom (layoutOf (m .words)) n (getD (m .keys) (slotCount (m .words) + e) 0) → b ≡ false → Visited m n e m
+    kept-visit b q f = record { free = λ t. absurd (true≢false (sym t ∙ ap (isFrom (layoutOf (m .words)) n) (sym entry-at) ∙ sym q ∙ f)); kept = λ _. refl }
 
 -- ---- the loop
 -- the pages that are lost so far are those of the groups from n up that m' does not have
@@ -109,7 +109,7 @@ lost m n m' =
 
 pub record Freeing (m : Mem) (n e : ℕ) (m' : Mem) : Type 0 where
   pub shows : Shows (settingOf m) (lost m n m') m'
-  pub passed : (i : ℕ) → 4 ≤ i → i < e → told (layoutOf (m .words)) n (getD (entries m') i 0) ≡ false
+  pub passed : (i : ℕ) → 4 ≤ i → i < e → isFrom (layoutOf (m .words)) n (getD (entries m') i 0) ≡ false
 
 pub freeing-none : (m : Mem) (n : ℕ) → WellFormed m → Freeing m n 4 m
 freeing-none m n f = record {
@@ -148,16 +148,16 @@ module _ (m : Mem) (f : WellFormed m) (n e : ℕ) (m' : Mem) (i : Freeing m n e 
   pub visit-asked : e < pageCount (m .words) + 4 → VisitAsks m' e
   visit-asked l = record { formed = i .shows .formed; past-fixed = ge; in-table = let p = pages-kept in omega arith }
 
-  skip : told (layoutOf (m' .words)) n (getD (entries m') e 0) ≡ false → Freeing m n (e + 1) m'
+  skip : isFrom (layoutOf (m' .words)) n (getD (entries m') e 0) ≡ false → Freeing m n (e + 1) m'
   skip t = record {
     shows = i .shows;
     passed = λ j a b.
-        ⊎-elim (λ (q : j ≡ e). ap (λ (l : Layout). told l n (getD (entries m') j 0)) (sym layouts) ∙ ap (λ (x : ℕ). told (layoutOf (m' .words)) n (getD (entries m') x 0)) q ∙ t)
+        ⊎-elim (λ (q : j ≡ e). ap (λ (l : Layout). isFrom l n (getD (entries m') j 0)) (sym layouts) ∙ ap (λ (x : ℕ). isFrom (layoutOf (m' .words)) n (getD (entries m') x 0)) q ∙ t)
         (λ (q : j ≡ e → ⊥). i .passed j a (omega arith))
         (same-or-not j e);
   }
 
-  module _ (a : VisitAsks m' e) (t : told (layoutOf (m' .words)) n (getD (entries m') e 0) ≡ true) where
+  module _ (a : VisitAsks m' e) (t : isFrom (layoutOf (m' .words)) n (getD (entries m') e 0) ≡ true) where
     abbrev p : ℕ
     p = getD (entries m') e 0 - 1
 
@@ -195,7 +195,7 @@ module _ (m : Mem) (f : WellFormed m) (n e : ℕ) (m' : Mem) (i : Freeing m n e 
             (without-then (settingOf m) (λ q k. fromGroup (layoutOf (m .words)) n q && not (allocated m' q)) (λ q k. eqb q p) (λ q. fromGroup (layoutOf (m .words)) n q && not (allocated m' q)) (λ q. eqb q p) (viewOf m) m' m₂ (i .shows)
             (subst (λ (s : Setting). Shows s (freed s p (viewOf m')) m₂) (i .shows .setting) (done .0)));
         passed = λ j a b.
-            ap (told (layoutOf (m .words)) n) (done .1 j)
+            ap (isFrom (layoutOf (m .words)) n) (done .1 j)
             ∙ ⊎-elim (λ (q : j ≡ e). rw (eq-eqb (getD (entries m') j 0) (p + 1) (ap (λ (x : ℕ). getD (entries m') x 0) q ∙ number)))
             (λ (q : j ≡ e → ⊥). either (layoutOf (m .words)) n (eqb (getD (entries m') j 0) (p + 1)) (getD (entries m') j 0) (i .passed j a (omega arith)))
             (same-or-not j e);
@@ -203,9 +203,9 @@ module _ (m : Mem) (f : WellFormed m) (n e : ℕ) (m' : Mem) (i : Freeing m n e 
 
   -- either way
   pub visited : VisitAsks m' e → (m₂ : Mem) → Visited m' n e m₂ → Freeing m n (e + 1) m₂
-  visited a m₂ v = go (told (layoutOf (m' .words)) n (getD (entries m') e 0)) refl
+  visited a m₂ v = go (isFrom (layoutOf (m' .words)) n (getD (entries m') e 0)) refl
     where
-      go : (b : Bool) → told (layoutOf (m' .words)) n (getD (entries m') e 0) ≡ b → Freeing m n (e + 1) m₂
+      go : (b : Bool) → isFrom (layoutOf (m' .words)) n (getD (entries m') e 0) ≡ b → Freeing m n (e + 1) m₂
       go true t = more a t m₂ (v .free t)
       go false t = subst (Freeing m n (e + 1)) (sym (v .kept t)) (skip t)
 
@@ -224,7 +224,7 @@ module _ (m : Mem) (f : WellFormed m) (n e : ℕ) (m' : Mem) (i : Freeing m n e 
         let x = fixed-only (layoutOf (m' .words)) q (is-fixed (layoutOf (m' .words)) q (entryOf m' q) low (omega arith)) in
         ap (λ (l : Layout). fromGroup l n q) (sym layouts) ∙ rw x)
         (λ (high : 4 ≤ entryOf m' q).
-        let t : told (layoutOf (m .words)) n (q + 1) ≡ false = ap (told (layoutOf (m .words)) n) (sym at) ∙ i .passed (entryOf m' q) high (omega arith) in
+        let t : isFrom (layoutOf (m .words)) n (q + 1) ≡ false = ap (isFrom (layoutOf (m .words)) n) (sym at) ∙ i .passed (entryOf m' q) high (omega arith) in
         let z : q + 1 - 1 ≡ q = omega arith in
         off (dynamic (layoutOf (m .words)) q) (leb n (group (layoutOf (m .words)) q)) (ap (λ (x : ℕ). leb n (group (layoutOf (m .words)) x)) (sym z) ∙ told-by (layoutOf (m .words)) n (q + 1) (λ y. omega arith) ∙ t))
         (lt-or-ge (entryOf m' q) 4)

@@ -23,8 +23,8 @@ abbrev pub emptied : Setting → ℕ → View → View
 emptied s n v = without s (λ q k. fromGroup (s .layout) n q) (fromGroup (s .layout) n) v
 
 -- the number x of an entry that is in use tells a page of a group from n up
-abbrev pub told : Layout → ℕ → ℕ → Bool
-told l n x = not (eqb x 0) && leb n (group l (x - 1))
+abbrev pub isFrom : Layout → ℕ → ℕ → Bool
+isFrom l n x = not (eqb x 0) && leb n (group l (x - 1))
 
 -- entry e is one of those past the fixed pages'
 pub record VisitAsks (m : Mem) (e : ℕ) : Type 0 where
@@ -34,9 +34,9 @@ pub record VisitAsks (m : Mem) (e : ℕ) : Type 0 where
 
 -- its page is freed, if it is of a group from n up
 pub record Visited (m : Mem) (n e : ℕ) (m' : Mem) : Type 0 where
-  pub free : told (layoutOf (m .words)) n (getD (entries m) e 0) ≡ true
+  pub free : isFrom (layoutOf (m .words)) n (getD (entries m) e 0) ≡ true
       → (Shows (settingOf m) (freed (settingOf m) (getD (entries m) e 0 - 1) (viewOf m)) m') × EntriesBut (getD (entries m) e 0 - 1) m m'
-  pub kept : told (layoutOf (m .words)) n (getD (entries m) e 0) ≡ false → m' ≡ m
+  pub kept : isFrom (layoutOf (m .words)) n (getD (entries m) e 0) ≡ false → m' ≡ m
 
 -- no page is allocated of a group from n up
 pub record ShortenAsks (m : Mem) (n : ℕ) : Type 0 where

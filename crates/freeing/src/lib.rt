@@ -1,13 +1,13 @@
 // Pages freed, shrunk to a window, and cut off by truncation.
 ghost use mathlib.Core.Path.{_≡_};
 ghost use mathlib.Core.Bool.{_&&_};
+ghost use Rattle.outcome.specs.Outcome.{numberOf};
 ghost use Rattle.store.specs.Mem.{mem, layoutOf};
 ghost use Rattle.formed.specs.Pages.{dynamic};
 ghost use Rattle.formed.specs.WellFormed.{WellFormed};
 ghost use Rattle.view.specs.View.{settingOf, viewOf};
 ghost use Rattle.view.specs.Checks.{onMemory, freeChecks, truncateChecks};
 ghost use Rattle.view.specs.Calls.{Call, nothing, CallDoes, told};
-ghost use Rattle.room.specs.Refusals.{numberOf};
 use outcome::Answer;
 use page_ids::Address;
 use page_ids::PageId;

@@ -1,14 +1,14 @@
 // What a window and a truncation do once they are not refused.
 ghost use mathlib.Core.Path.{_≡_};
 ghost use Prim.Native.Nat.{_+_, _-_, _<_, _≤_};
-ghost use lib.ListN.{length, set};
+ghost use lib.ListN.{length};
 ghost use Rattle.store.specs.Mem.{mem, headLength, layoutOf};
 ghost use Rattle.formed.specs.WellFormed.{WellFormed};
 ghost use Rattle.view.specs.View.{settingOf, viewOf};
 ghost use Rattle.view.specs.Steps.{windowed, shortened};
 ghost use Rattle.view.specs.Does.{Shows};
 ghost use Rattle.drops.specs.Drops.{PageAsks};
-ghost use Rattle.freeing.specs.Freeing.{windowEnd, emptied, told, VisitAsks, Visited, ShortenAsks};
+ghost use Rattle.freeing.specs.Freeing.{windowEnd, emptied, isFrom, VisitAsks, Visited, ShortenAsks};
 
 // The first chunk past a window, or past the page.
 fn window_end(start: u32, length: u32) -> u32
@@ -42,7 +42,7 @@ pub fn retain_window(
 // Whether an entry's number tells a page of a group from `len` up.
 fn is_from(words: &[u64], x: u64, len: u64) -> bool
     requires { ⌜ (headLength ≤ length (now words)) × (0 < layoutOf (now words) .stride) × (0 < x → layoutOf (now words) .base .0 < x) ⌝ }
-    ensures { λ r. ⌜ r ≡ told (layoutOf (now (words .entry))) len x ⌝ }
+    ensures { λ r. ⌜ r ≡ isFrom (layoutOf (now (words .entry))) len x ⌝ }
 {
     if x == 0 {
         return false;

@@ -10,7 +10,7 @@ use native.Mathlib.Omega.{arith}
 use lib.ListN.{length, getD, take, set, length-append}
 use lib.Seq.{take-suc, take-suc-set, take-append-add, take-all, length-take-le, take-length}
 use Rattle.heaptrace.specs.declared.lines.State.{State}
-use Rattle.heaptrace.specs.Bounds.{Gathered, LineEnd, Bounded, emptied}
+use Rattle.heaptrace.specs.Bounds.{Gathered, Bounded, emptied}
 
 append-nil : (xs : List ℕ) → xs ++ [] ≡ xs
 append-nil [] = refl

@@ -1,8 +1,8 @@
 -- How an opening is answered: 1 for a bad layout, then 2 for counts that are out of their bounds or beyond the space.
 -- Assumes nothing.
-use mathlib.Core.Path.{_≡_, refl, sym, ap, _∙_}
-use mathlib.Core.Logic.{_⊎_, inl, inr, ⊎-elim}
-use mathlib.Core.Bool.{Bool, true, false, cond, not, _&&_}
+use mathlib.Core.Path.{_≡_, refl}
+use mathlib.Core.Logic.{_⊎_, ⊎-elim}
+use mathlib.Core.Bool.{Bool, true, false, cond, not, _&&_, and-false}
 use mathlib.Core.List.{List}
 use Prim.Native.Nat.{ℕ, _+_, _*_, _≤_, _<_, min, zero-le}
 use native.Mathlib.Omega.{arith}
@@ -10,21 +10,16 @@ use lib.Dec.{eqb, ltb}
 use lib.ListN.{length, take, length-take}
 use lib.Seq.{length-take-le}
 use borrow.Author.Tests.{eq-eqb, ne-eqb, le-ltb}
-use Rattle.outcome.specs.Outcome.{Outcome}
 use Rattle.outcome.specs.Outcome as outcome
 use Rattle.page_ids.specs.declared.Layout.{Layout}
 use Rattle.page_ids.specs.Decode.{badLayout}
-use Rattle.store.specs.Mem.{Mem, mem}
+use Rattle.store.specs.Mem.{Mem}
 use Rattle.view.specs.Checks.{countsRight, lengthsRight}
-use Rattle.view.specs.Calls.{Value, nothing}
+use Rattle.view.specs.Calls.{nothing}
 use Rattle.opening.specs.Opening.{setting}
-use Rattle.trace.specs.Text.{Told, done, refused}
+use Rattle.trace.specs.Text.{done, refused}
 use Rattle.heaptrace.specs.Bounds.{Within, Space}
-use Rattle.heaptrace.specs.Trace.{toldOf, openOutcome, bytesIn, keysIn, orderIn, wordsIn, parts}
-
-and-none : (t : Bool) → (t && false) ≡ false
-and-none true = refl
-and-none false = refl
+use Rattle.heaptrace.specs.Trace.{toldOf, openOutcome, bytesIn, keysIn, parts}
 
 short : (n k : ℕ) (xs : List ℕ) → n < k → length (take n xs) ≡ k → ⊥
 short n k xs l e = omega (arith, length-take n xs)
@@ -47,7 +42,7 @@ module _ (l : Layout) (x y z : ℕ) (m : Mem) where
 
   keys-short : keysIn x y < x + y + 4 → lengthsRight (setting l x y z) lent ≡ false
   keys-short h =
-      rw (ne-eqb (length (take (keysIn x y) (m .keys))) (x + y + 4) (short (keysIn x y) (x + y + 4) (m .keys) h)) (and-none (eqb (length (take (bytesIn x z) (m .bytes))) (256 * x + 64 * z)))
+      rw (ne-eqb (length (take (keysIn x y) (m .keys))) (x + y + 4) (short (keysIn x y) (x + y + 4) (m .keys) h)) (and-false (eqb (length (take (bytesIn x z) (m .bytes))) (256 * x + 64 * z)))
 
   lengths-wrong : (128 < x) ⊎ ((64 < y) ⊎ (256 < z)) → lengthsRight (setting l x y z) lent ≡ false
   lengths-wrong b = ⊎-elim (λ h. bytes-short (fewer-chunks x z h)) (λ c. ⊎-elim (λ h. keys-short (fewer-pages x y h)) (λ h. bytes-short (fewer-words x z h)) c) b
@@ -58,7 +53,7 @@ module _ (l : Layout) (x y z : ℕ) (m : Mem) where
 
   -- counts beyond the space
   pub beyond : (128 < x) ⊎ ((64 < y) ⊎ (256 < z)) → toldOf (openOutcome lent (setting l x y z)) ≡ cond (badLayout l) (refused 1) (refused 2)
-  beyond b = rw (lengths-wrong b, and-none (countsRight (setting l x y z))) (refused-two (badLayout l))
+  beyond b = rw (lengths-wrong b, and-false (countsRight (setting l x y z))) (refused-two (badLayout l))
 
   whole : (x k : ℕ) → x ≤ k → min x k ≡ x
   whole x k h = omega arith

@@ -9,14 +9,14 @@ use lib.ListN.{length, getD, take, drop}
 use lib.Seq.{take-at, drop-at, length-take-le}
 use types.Run.{OneOf}
 use denote.Enum.Declared.{tagOf}
-use Rattle.outcome.specs.Outcome.{Outcome}
+use Rattle.outcome.specs.Outcome.{Outcome, mapped, answered}
 use Rattle.store.specs.Mem.{Mem, mem}
 use Rattle.page_ids.specs.declared.Layout.{Layout}
 use Rattle.opening.specs.Opening.{setting}
 use Rattle.view.specs.View.{View, Setting}
 use Rattle.view.specs.Does.{Does}
 use Rattle.view.specs.Calls.{Value, number}
-use Rattle.reads.specs.Calls.{answered, valued, marked}
+use Rattle.reads.specs.Calls.{marked}
 use Rattle.trace.specs.declared.Kind.{Kind}
 use Rattle.trace.specs.declared.Kind.the-variants.{Unread, Open, Write, Read, Snapshot, Rollback}
 use Rattle.trace.specs.declared.text.Answered.{Answered}
@@ -31,18 +31,18 @@ use Rattle.heaptrace.specs.Trace.{toldOf, OpenTells, LineTells, bytesIn,
 pub tells : {m m' : Mem} {o said : Outcome Value} {s : Setting} {v : View} → Does m o s v said m' → (t : Told) → t ≡ toldOf said → (t ≡ toldOf o) × Does m o s v o m'
 tells d t e = (e ∙ ap toldOf (d .answer), record { answer = refl; kept = d .kept; changed = d .changed })
 
-pub word-refused : (n v : ℕ) → (n ≡ 0 → ⊥) → refused n ≡ toldOf (valued number (answered n v))
+pub word-refused : (n v : ℕ) → (n ≡ 0 → ⊥) → refused n ≡ toldOf (mapped number (answered n v))
 word-refused zero v ne = absurd (ne refl)
 word-refused (suc n) v ne = refl
 
-pub word-given : (n v : ℕ) → n ≡ 0 → word v ≡ toldOf (valued number (answered n v))
+pub word-given : (n v : ℕ) → n ≡ 0 → word v ≡ toldOf (mapped number (answered n v))
 word-given n v e = rw e
 
-pub marks-refused : (n : ℕ) (v : ℕ × ℕ) → (n ≡ 0 → ⊥) → refused n ≡ toldOf (valued marked (answered n v))
+pub marks-refused : (n : ℕ) (v : ℕ × ℕ) → (n ≡ 0 → ⊥) → refused n ≡ toldOf (mapped marked (answered n v))
 marks-refused zero v ne = absurd (ne refl)
 marks-refused (suc n) v ne = refl
 
-pub marks-given : (n h a : ℕ) → n ≡ 0 → marks h a ≡ toldOf (valued marked (answered n (h, a)))
+pub marks-given : (n h a : ℕ) → n ≡ 0 → marks h a ≡ toldOf (mapped marked (answered n (h, a)))
 marks-given n h a e = rw e
 
 pub open-of : {m m' : Mem} {t : Told} {l l' : Layout} {x y z : ℕ} → l ≡ l' → OpenTells m (setting l x y z) t m' → OpenTells m (setting l' x y z) t m'

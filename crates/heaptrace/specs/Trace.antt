@@ -2,12 +2,13 @@
 -- Assumes nothing.
 use mathlib.Core.Path.{_≡_}
 use mathlib.Core.Bool.{true, false}
-use mathlib.Core.List.{List, []}
-use Prim.Native.Nat.{ℕ, _+_, _*_, min}
+use mathlib.Core.List.{[]}
+use Prim.Native.Nat.{ℕ, min}
 use lib.ListN.{take, drop}
 use Rattle.outcome.specs.Outcome.{Outcome, firstOf}
 use Rattle.outcome.specs.Outcome as outcome
 use Rattle.store.specs.Mem.{Mem, mem}
+use Rattle.formed.specs.Buffers.{bytesFor, keysFor, orderFor, wordsFor}
 use Rattle.view.specs.View.{Setting}
 use Rattle.view.specs.Checks.{openingChecks, lengthsRight}
 use Rattle.view.specs.Calls.{Call, WriteWord, ReadWord, Snapshot, Rollback, Value, nothing, number, lengths, bytes, verdict, given, answerOf, CallDoes, OpenDoes}
@@ -50,16 +51,16 @@ LineTells m language.unread t m' = (t ≡ unread) × (m' ≡ m)
 -- ---- the same, in the leading parts of the space for 128 chunks, 64 pages and 256 journal words. Counts beyond the space get parts that are too
 -- short for them, so that an opening is refused
 abbrev pub bytesIn : (chunks room : ℕ) → ℕ
-bytesIn c j = 256 * min c 128 + 64 * min j 256
+bytesIn c j = bytesFor (min c 128) (min j 256)
 
 abbrev pub keysIn : (chunks pages : ℕ) → ℕ
-keysIn c p = min c 128 + min p 64 + 4
+keysIn c p = keysFor (min c 128) (min p 64)
 
 abbrev pub orderIn : (chunks pages : ℕ) → ℕ
-orderIn c p = 3 * min c 128 + min p 64 + 4
+orderIn c p = orderFor (min c 128) (min p 64)
 
 abbrev pub wordsIn : (room : ℕ) → ℕ
-wordsIn j = 16 + 6 * min j 256
+wordsIn j = wordsFor (min j 256)
 
 abbrev pub parts : (chunks pages room : ℕ) → Mem → Mem
 parts c p j m = mem (take (bytesIn c j) (m .bytes)) (take (keysIn c p) (m .keys)) (take (orderIn c p) (m .order)) (take (wordsIn j) (m .words))

@@ -1,7 +1,6 @@
 // What a line does to the memory. specs/Trace.antt says it; every number of a refusal is the library's own.
 ghost use mathlib.Core.Path.{_≡_};
-ghost use mathlib.Core.List.{[]};
-ghost use Prim.Native.Nat.{_≤_, min};
+ghost use Prim.Native.Nat.{min};
 ghost use lib.ListN.{getD};
 ghost use Rattle.word.specs.Value.{value};
 ghost use Rattle.store.specs.Mem.{mem};

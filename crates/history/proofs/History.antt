@@ -8,7 +8,7 @@ use native.Mathlib.Omega.{arith}
 use lib.Dec.{ltb}
 use lib.ListN.{length, getD}
 use borrow.Author.Tests.{lt-ltb, le-ltb, ltb-false, not-true, not-false}
-use Rattle.outcome.specs.Outcome.{Outcome, refused, done, firstOf, carriedOut}
+use Rattle.outcome.specs.Outcome.{Outcome, refused, done, firstOf, carriedOut, numberOf}
 use Rattle.store.specs.Mem.{Mem}
 use Rattle.formed.specs.Formed.{wellFormed}
 use Rattle.formed.proofs.Meaning.{well-formed-means}
@@ -17,7 +17,6 @@ use Rattle.view.specs.Does.{Shows}
 use Rattle.view.specs.Calls.{Call, Rollback, DeleteHistory, Value, nothing, nextOf, answerOf, CallDoes}
 use Rattle.journal.specs.Steps.{RollBackAsks}
 use Rattle.journal.proofs.Shown.{journal-long}
-use Rattle.room.specs.Refusals.{numberOf}
 use Rattle.room.proofs.Numbers.{told-number}
 
 -- ---- the two tests in their order: w the memory is well formed, h and a the marks are past the journals' lengths

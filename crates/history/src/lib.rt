@@ -1,8 +1,8 @@
 // The history of the bootloader pages: rollback to a snapshot, and deletion.
 ghost use mathlib.Core.Path.{_≡_};
+ghost use Rattle.outcome.specs.Outcome.{numberOf};
 ghost use Rattle.store.specs.Mem.{mem};
 ghost use Rattle.view.specs.Calls.{Rollback, DeleteHistory, answerOf, CallDoes, told};
-ghost use Rattle.room.specs.Refusals.{numberOf};
 use outcome::Answer;
 
 // The number with which a rollback is refused, or 0.

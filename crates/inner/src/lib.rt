@@ -1,6 +1,6 @@
 // Inner functions, exported for the benchmarks alone: no part of the library. A host must not link these, since they test nothing.
 ghost use mathlib.Core.Path.{_≡_};
-ghost use Prim.Native.Nat.{_≤_};
+ghost use Prim.Native.Nat.{_+_, _*_, _≤_};
 ghost use lib.ListN.{length};
 ghost use Rattle.store.specs.Mem.{mem};
 ghost use Rattle.formed.specs.WellFormed.{WellFormed};
@@ -40,32 +40,39 @@ pub extern "C" fn in_open(
     }
 }
 
-// Four limbs of a word, the lowest first.
-fn put(out: &mut [u64], w: Word)
-    requires { ⌜ length (now out) ≡ 4 ⌝ }
+// Four limbs of a word from place `at` on, the lowest first.
+fn put(out: &mut [u64], at: usize, w: Word)
+    requires { ⌜ at + 4 ≤ length (now out) ⌝ }
 {
     let limbs = w.limbs;
-    out[0] = limbs[0];
-    out[1] = limbs[1];
-    out[2] = limbs[2];
-    out[3] = limbs[3];
+    out[at] = limbs[0];
+    out[at + 1] = limbs[1];
+    out[at + 2] = limbs[2];
+    out[at + 3] = limbs[3];
 }
 
+// Reads a list of words, as a caller in Rattle does: a place is a page id and an address, of 32 bits each.
 #[no_mangle]
-pub extern "C" fn in_read_word(
+pub extern "C" fn in_read_words(
     bytes: &[u8],
     keys: &[u64],
     order: &[u32],
     words: &[u64],
-    page: u32,
-    address: u32,
+    places: &[u64],
     out: &mut [u64],
 )
     requires { ⌜ WellFormed (mem (now bytes) (now keys) (now order) (now words)) ⌝ }
-    requires { ⌜ length (now out) ≡ 4 ⌝ }
+    requires { ⌜ (length (now out) ≡ 4 * length (now places)) × (length (now places) ≤ 4294967296) ⌝ }
 {
-    let read = reads::read_word(bytes, keys, order, words, page, address);
-    put(out, word::from_big_endian(read));
+    let mut i: usize = 0;
+    while i < places.len() {
+        let place = places[i];
+        let page = (place / 4294967296) as u32;
+        let address = (place % 4294967296) as u32;
+        let read = reads::steps::read_word(bytes, keys, order, words, page, address);
+        put(out, 4 * i, word::from_big_endian(read));
+        i += 1;
+    }
 }
 
 #[no_mangle]
@@ -81,7 +88,7 @@ pub extern "C" fn in_read_range(
     requires { ⌜ WellFormed (mem (now bytes) (now keys) (now order) (now words)) ⌝ }
     requires { ⌜ length (now out) ≤ 4294967296 ⌝ }
 {
-    reads::read_into(bytes, keys, order, words, page, start, out);
+    reads::steps::read_into(bytes, keys, order, words, page, start, out);
 }
 
 #[no_mangle]

@@ -61,7 +61,7 @@ pub fn load(
     }
     let page = parts::page_of(frame, area);
     let address = word::low_u32(operand.word);
-    let read = reads::read_word(bytes, keys, order, words, page, address);
+    let read = reads::steps::read_word(bytes, keys, order, words, page, address);
     let word = word::from_big_endian(read);
     parts::carried_out(
         ExecutionStatus::Running,
@@ -134,7 +134,7 @@ pub fn load_pointer(
     let start = pointer.start + parts::lesser(pointer.offset, pointer.length);
     let n = parts::count(start, end);
     let page = pointer.memory_page.0;
-    let read = reads::read_padded(bytes, keys, order, words, page, start, n);
+    let read = reads::steps::read_padded(bytes, keys, order, words, page, start, n);
     let word = word::from_big_endian(read);
     parts::carried_out(ExecutionStatus::Running, word, operand, true, frame)
 }
@@ -158,7 +158,7 @@ pub fn load_static(
     }
     let page = parts::static_page(bytes, keys, order, words);
     let address = word::low_u32(operand.word);
-    let read = reads::read_word(bytes, keys, order, words, page, address);
+    let read = reads::steps::read_word(bytes, keys, order, words, page, address);
     let word = word::from_big_endian(read);
     parts::carried_out(
         ExecutionStatus::Running,

@@ -7,11 +7,11 @@ use mathlib.Core.Logic.{⊎-elim}
 use Prim.Native.Nat.{ℕ, _+_, _*_, _/_, _%_, _≤_, _<_}
 use native.Mathlib.Numerals.{add-one}
 use native.Mathlib.Omega.{arith}
-use lib.ListN.{length, getD}
+use lib.ListN.{length, getD, take}
 use borrow.Author.Tests.{eq-eqb, ne-eqb}
 use Rattle.index.specs.Index.{seek}
 use Rattle.index.proofs.Logic.{same-or-not, lt-or-ge}
-use Rattle.store.specs.Mem.{Mem, mem, layoutOf, slotCount, journalRoom, journalLength, holders}
+use Rattle.store.specs.Mem.{Mem, mem, layoutOf, slotCount, journalRoom, journalLength}
 use Rattle.formed.specs.Pages.{journalCount, journalPlace, journalPage}
 use Rattle.formed.specs.Parts.{Note, tab, holds, journal, noteAddress, noteFirst, noteLast}
 use Rattle.formed.specs.WellFormed.{WellFormed, NotedRight}
@@ -21,18 +21,33 @@ use Rattle.view.specs.View.{settingOf, viewOf}
 use Rattle.view.specs.Does.{Shows}
 use Rattle.view.specs.Inner.{noting, NoteAsks}
 use Rattle.bodies.specs.Words.{placeIn, Spread}
+use Rattle.bodies.proofs.WordBytes.{word-byte}
 use Rattle.journal.specs.Words.{numberOf, oldPlace, noteSet, NoteRoom, NotedAt}
-use Rattle.journal.specs.Steps.{noteOf}
+use Rattle.journal.specs.Steps.{noteOf, NoteSlots}
 use Rattle.formed.proofs.Same.{tab-upto}
 use Rattle.journal.proofs.Lists.{tab-snoc}
 use Rattle.journal.proofs.Numbers.{number-lt, number-apart}
 use Rattle.journal.proofs.NoteSets.{set-long, set-other, set-length, set-address, set-first, set-last}
 use Rattle.journal.proofs.Kept.{noteIn, note-same, same-setting, same-view, same-facts, journal-is, journal-same, noted-by}
 use Rattle.journal.proofs.Shown.{journal-at, journal-none, journal-long}
-use Rattle.journal.proofs.Places.{slot-there, slot-in, slot-key, word-byte}
+use Rattle.journal.proofs.Places.{slot-there, slot-in, slot-key}
+
+-- the slots that two searches find, e being the entry of the journal's page
+pub note-slots : (bytes keys order words : List ℕ) (j a : ℕ) → NoteAsks (mem bytes keys order words) j a
+    → (e : ℕ) → e ≡ journalPlace j → (s t : ℕ)
+    → s ≡ seek (take (slotCount words) keys) (e * 33554432 + 1 + a / 256)
+    → t ≡ seek (take (slotCount words) keys) (e * 33554432 + 1 + (a + 31) / 256)
+    → NoteSlots (mem bytes keys order words) j a s t
+note-slots bytes keys order words j a asks e is s t first last =
+    let m = mem bytes keys order words in
+    let small = asks .address in
+    record {
+      first = slot-there m (asks .formed) j (asks .which) (a / 256) (omega arith) s (first ∙ ap (λ (x : ℕ). seek (take (slotCount words) keys) (x * 33554432 + 1 + a / 256)) is);
+      last = slot-there m (asks .formed) j (asks .which) ((a + 31) / 256) (omega arith) t (last ∙ ap (λ (x : ℕ). seek (take (slotCount words) keys) (x * 33554432 + 1 + (a + 31) / 256)) is);
+    }
 
 module _ (bytes keys order words : List ℕ) (j a : ℕ) (asks : NoteAsks (mem bytes keys order words) j a)
-    (s t : ℕ) (es : s ≡ seek (holders (mem bytes keys order words)) (journalPlace j * 33554432 + 1 + a / 256)) (et : t ≡ seek (holders (mem bytes keys order words)) (journalPlace j * 33554432 + 1 + (a + 31) / 256)) where
+    (s t : ℕ) (slots : NoteSlots (mem bytes keys order words) j a s t) where
   abbrev m : Mem
   m = mem bytes keys order words
 
@@ -55,10 +70,10 @@ module _ (bytes keys order words : List ℕ) (j a : ℕ) (asks : NoteAsks (mem b
   nt = let h = asks .address in omega arith
 
   ls : s < slotCount words
-  ls = slot-in m w j (asks .which) (a / 256) ns s es first-held
+  ls = slot-in m w j (asks .which) (a / 256) ns s (slots .first) first-held
 
   lt : t < slotCount words
-  lt = slot-in m w j (asks .which) ((a + 31) / 256) nt t et last-held
+  lt = slot-in m w j (asks .which) ((a + 31) / 256) nt t (slots .last) last-held
 
   room : journalLength words j < journalRoom words
   room = let h = asks .room in let e = journal-long m j (asks .which) in omega arith
@@ -148,7 +163,7 @@ module _ (bytes keys order words : List ℕ) (j a : ℕ) (asks : NoteAsks (mem b
     new-right =
         noted-by bytes keys order words bytes' words' f lb long head body j (journalLength words j) a s t
         (set-address words (12 + j) N a s t small inside) (set-first words (12 + j) N a s t small inside) (set-last words (12 + j) N a s t small inside) (asks .address)
-        (slot-key m w j (asks .which) (a / 256) ns s es first-held) (slot-key m w j (asks .which) ((a + 31) / 256) nt t et last-held)
+        (slot-key m w j (asks .which) (a / 256) ns s (slots .first) first-held) (slot-key m w j (asks .which) ((a + 31) / 256) nt t (slots .last) last-held)
 
     notes : (k i : ℕ) → k < journalCount → i < journalLength words' k → NotedRight m' k i
     notes k i l li =
@@ -176,7 +191,7 @@ module _ (bytes keys order words : List ℕ) (j a : ℕ) (asks : NoteAsks (mem b
     new-note : noteIn bytes' words' (slotCount words) (journalRoom words) j (journalLength words j) ≡ newest
     new-note =
         note-same _ _ _ _ (set-address words (12 + j) N a s t small inside)
-        (λ k l. old .on k l ∙ word-byte m w j (asks .which) a s t (slot-there m w j (asks .which) (a / 256) ns s es) (slot-there m w j (asks .which) ((a + 31) / 256) nt t et) ls lt k l)
+        (λ k l. old .on k l ∙ word-byte m page a s t ls lt (slots .first) (slots .last) k l)
 
     journal-more : (k : ℕ) → k < journalCount → k ≡ j → journal m' k ≡ journal m k ++ (newest ∷ [])
     unfolding journal

@@ -1,29 +1,24 @@
--- The slots of a word of a journal's page.
+-- The slots of the chunks of a journal's page.
 -- Assumes nothing.
 use mathlib.Core.Path.{_≡_, sym, ap, _∙_}
 use mathlib.Core.Bool.{true}
 use mathlib.Core.List.{List}
-use mathlib.Core.Logic.{⊎-elim}
-use Prim.Native.Nat.{ℕ, _+_, _*_, _-_, _/_, _%_, _≤_, _<_}
+use Prim.Native.Nat.{ℕ, _+_, _*_, _≤_, _<_}
 use native.Mathlib.Omega.{arith}
 use lib.ListN.{getD}
-use lib.Seq.{getD-take}
 use borrow.Author.Tests.{ltb-true}
 use Rattle.index.specs.Index.{seek}
-use Rattle.index.proofs.Logic.{lt-or-ge}
 use Rattle.index.proofs.Places.{seek-hit}
-use Rattle.store.specs.Mem.{Mem, mem, layoutOf, slotCount, holders, entries, chunks}
+use Rattle.store.specs.Mem.{Mem, mem, layoutOf, slotCount, holders, entries}
 use Rattle.store.specs.Hold.{Indexed}
 use Rattle.formed.specs.Pages.{journalCount, journalPlace, journalPage}
-use Rattle.formed.specs.Parts.{keyOf, entryOf, slotOfChunk, holds, byteAt}
+use Rattle.formed.specs.Parts.{keyOf, entryOf, slotOfChunk, holds}
 use Rattle.formed.specs.WellFormed.{WellFormed, HeldAt, holder, keyEntry, keyChunk}
 use Rattle.formed.proofs.Sizes.{holders-long}
 use Rattle.formed.proofs.Pages.{place-lt}
 use Rattle.formed.proofs.Keys.{seek-is, key-entry, key-chunk}
 use Rattle.formed.proofs.Meaning.{slots-index, page-once}
 use Rattle.formed.proofs.Sense.{slot-near}
-use Rattle.bodies.specs.Words.{placeIn}
-use Rattle.bodies.proofs.Copies as copies
 
 pub slots-indexed : (bytes keys order words : List ℕ) → WellFormed (mem bytes keys order words) → Indexed keys order words
 slots-indexed bytes keys order words w = record {
@@ -54,38 +49,18 @@ module _ (m : Mem) (w : WellFormed m) (j : ℕ) (which : j < journalCount) where
     pub slot-is : slotOfChunk m page k ≡ seek (holders m) (keyOf (journalPlace j) k)
     slot-is = slot-near m page k near ∙ ap (λ (x : ℕ). seek (holders m) (keyOf x k)) page-entry
 
-    module _ (s : ℕ) (e : s ≡ seek (holders m) (journalPlace j * 33554432 + 1 + k)) where
-      pub slot-there : slotOfChunk m page k ≡ s
-      slot-there = slot-is ∙ ap (seek (holders m)) (let q : keyOf (journalPlace j) k ≡ journalPlace j * 33554432 + 1 + k = omega arith in q) ∙ sym e
+    -- what a search for the key finds
+    pub slot-there : (s : ℕ) → s ≡ seek (holders m) (journalPlace j * 33554432 + 1 + k) → slotOfChunk m page k ≡ s
+    slot-there s e = slot-is ∙ ap (seek (holders m)) (let q : keyOf (journalPlace j) k ≡ journalPlace j * 33554432 + 1 + k = omega arith in q) ∙ sym e
 
+    module _ (s : ℕ) (e : slotOfChunk m page k ≡ s) where
       pub slot-in : holds m page k ≡ true → s < slotCount (m .words)
       unfolding holds
-      slot-in h = let a = slot-there in let b = ltb-true (slotOfChunk m page k) (slotCount (m .words)) h in omega arith
+      slot-in h = let b = ltb-true (slotOfChunk m page k) (slotCount (m .words)) h in omega arith
 
       pub slot-key : holds m page k ≡ true → holder m s ≡ keyOf (journalPlace j) k
       slot-key h =
           let a = slot-in h in
           let l = holders-long m (w .lengths) in
-          let q : journalPlace j * 33554432 + 1 + k ≡ keyOf (journalPlace j) k = omega arith in
-          ap (holder m) e ∙ seek-hit (holders m) (journalPlace j * 33554432 + 1 + k) (omega arith) ∙ q
-
-  -- the word's bytes are those of the view
-  module _ (a s t : ℕ) (first : slotOfChunk m page (a / 256) ≡ s) (last : slotOfChunk m page ((a + 31) / 256) ≡ t) (ls : s < slotCount (m .words)) (lt : t < slotCount (m .words)) where
-    in-chunks : (x : ℕ) → x < 256 * slotCount (m .words) → getD (chunks m) x 0 ≡ getD (m .bytes) x 0
-    in-chunks x l = getD-take (256 * slotCount (m .words)) (m .bytes) x 0 l
-
-    pub word-byte : (i : ℕ) → i < 32 → getD (m .bytes) (placeIn s t (a % 256) i) 0 ≡ byteAt m page (a + i)
-    unfolding byteAt
-    word-byte i l =
-        ⊎-elim
-        (λ (lo : a % 256 + i < 256).
-        let q : (a + i) / 256 ≡ a / 256 = omega arith in
-        let e : slotOfChunk m page ((a + i) / 256) ≡ s = ap (slotOfChunk m page) q ∙ first in
-        let x : 256 * s + (a % 256 + i) ≡ 256 * slotOfChunk m page ((a + i) / 256) + (a + i) % 256 = omega arith in
-        ap (λ (y : ℕ). getD (m .bytes) y 0) (copies.place-low s t (a % 256) i lo) ∙ sym (in-chunks (256 * s + (a % 256 + i)) (omega arith)) ∙ ap (λ (y : ℕ). getD (chunks m) y 0) x)
-        (λ (hi : 256 ≤ a % 256 + i).
-        let q : (a + i) / 256 ≡ (a + 31) / 256 = omega arith in
-        let e : slotOfChunk m page ((a + i) / 256) ≡ t = ap (slotOfChunk m page) q ∙ last in
-        let x : 256 * t + (a % 256 + i - 256) ≡ 256 * slotOfChunk m page ((a + i) / 256) + (a + i) % 256 = omega arith in
-        ap (λ (y : ℕ). getD (m .bytes) y 0) (copies.place-high s t (a % 256) i hi) ∙ sym (in-chunks (256 * t + (a % 256 + i - 256)) (omega arith)) ∙ ap (λ (y : ℕ). getD (chunks m) y 0) x)
-        (lt-or-ge (a % 256 + i) 256)
+          let q : s ≡ seek (holders m) (keyOf (journalPlace j) k) = sym e ∙ slot-is in
+          ap (holder m) q ∙ seek-hit (holders m) (keyOf (journalPlace j) k) (omega arith)

@@ -9,7 +9,7 @@ use lib.ListN.{length, take, drop}
 use Rattle.page_ids.specs.declared.Layout.{Layout}
 use Rattle.store.specs.Mem.{Mem, layoutOf, journalRoom, journalLength}
 use Rattle.formed.specs.Pages.{journalCount, journalPage}
-use Rattle.formed.specs.Parts.{Note, tab}
+use Rattle.formed.specs.Parts.{Note, tab, slotOfChunk}
 use Rattle.formed.specs.WellFormed.{WellFormed}
 use Rattle.view.specs.View.{View, viewOf}
 use Rattle.view.specs.Steps.{run, undone}
@@ -18,6 +18,11 @@ use Rattle.view.specs.Steps.{run, undone}
 -- the word at address a of page p, as it is now
 abbrev pub noteOf : View → ℕ → ℕ → Note
 noteOf v p a = record { address = a; old = run v p a 32 }
+
+-- the slots s and t hold the first and the last chunk of the word at address a of journal j's page
+pub record NoteSlots (m : Mem) (j a s t : ℕ) : Type 0 where
+  pub first : slotOfChunk m (journalPage (layoutOf (m .words)) j) (a / 256) ≡ s
+  pub last : slotOfChunk m (journalPage (layoutOf (m .words)) j) ((a + 31) / 256) ≡ t
 
 -- the aligned words from number `first` on
 abbrev pub alignedFrom : View → ℕ → ℕ → ℕ → List Note

@@ -6,6 +6,7 @@ use Prim.Native.Nat.{ℕ, _+_, _*_, _%_, _<_, _≤_}
 use lib.ListN.{length, getD, set}
 use Rattle.store.specs.Mem.{headLength, slotCount, journalRoom, journalLength}
 use Rattle.formed.specs.Pages.{journalCount}
+use Rattle.formed.specs.Buffers.{bytesFor, wordsFor}
 use Rattle.bodies.specs.Words.{placeIn, Spread}
 
 -- the number of word i of journal j among those of all journals
@@ -21,8 +22,8 @@ oldPlace w j i = 256 * slotCount w + 32 * numberOf w j i
 
 -- bytes and words have the lengths of a memory
 pub record Long (bytes words : List ℕ) : Type 0 where
-  pub in-bytes : length bytes ≡ 256 * slotCount words + 32 * journalCount * journalRoom words
-  pub in-words : length words ≡ headLength + 3 * journalCount * journalRoom words
+  pub in-bytes : length bytes ≡ bytesFor (slotCount words) (journalRoom words)
+  pub in-words : length words ≡ wordsFor (journalRoom words)
   pub slots-hi : slotCount words ≤ 65536
   pub room-hi : journalRoom words ≤ 65536
 

@@ -1,6 +1,6 @@
 // The journals of the bootloader pages: words as they were before they were written. vm2: the rollback part of `Heaps`.
 ghost use mathlib.Core.Path.{_≡_};
-ghost use Prim.Native.Nat.{_+_, _*_, _<_, _≤_};
+ghost use Prim.Native.Nat.{_+_, _*_, _<_};
 ghost use Rattle.store.specs.Mem.{mem, layoutOf, journalRoom};
 ghost use Rattle.formed.specs.Pages.{journalCount, journalPlace, journalPage};
 ghost use Rattle.formed.specs.WellFormed.{WellFormed};
@@ -9,7 +9,7 @@ ghost use Rattle.view.specs.Steps.{wordNotes, marks, rolledBack, forgotten};
 ghost use Rattle.view.specs.Does.{Shows};
 ghost use Rattle.view.specs.Inner.{noting, NoteAsks};
 ghost use Rattle.journal.specs.Words.{numberOf, Numbered, NoteRoom, NotedAt, BackAsks, PutBack};
-ghost use Rattle.journal.specs.Steps.{alignedFrom, AlignedAsks, undoing, UndoAsks, RollBackAsks};
+ghost use Rattle.journal.specs.Steps.{NoteSlots, alignedFrom, AlignedAsks, undoing, UndoAsks, RollBackAsks};
 
 // The entry of journal j's page.
 fn place(j: usize) -> u64
@@ -47,22 +47,33 @@ fn note_at(bytes: &mut [u8], words: &mut [u64], j: usize, address: u32, s: usize
     words[12 + j] = i + 1;
 }
 
-// Notes the word at an address of journal j's page, which holds the word's chunks. vm2: `record_bootloader_word_rollback`.
-pub fn note(
+// Notes the word at an address of journal j's page, whose first and last chunk are held at the slots s and t. vm2: `record_bootloader_word_rollback`.
+pub fn note_found(
     bytes: &mut [u8],
     keys: &[u64],
     order: &[u32],
     words: &mut [u64],
     j: usize,
     address: u32,
+    s: usize,
+    t: usize,
 )
+    requires { ⌜ NoteAsks (mem (now bytes) (now keys) (now order) (now words)) j address ⌝ }
+    requires { ⌜ NoteSlots (mem (now bytes) (now keys) (now order) (now words)) j address s t ⌝ }
+    ensures { λ _. ⌜ Shows (settingOf (mem (now (bytes .entry)) (now (keys .entry)) (now (order .entry)) (now (words .entry)))) (noting j (wordNotes (viewOf (mem (now (bytes .entry)) (now (keys .entry)) (now (order .entry)) (now (words .entry)))) (journalPage (layoutOf (now (words .entry))) j) address) (viewOf (mem (now (bytes .entry)) (now (keys .entry)) (now (order .entry)) (now (words .entry))))) (mem (now (bytes .exit)) (now (keys .entry)) (now (order .entry)) (now (words .exit))) ⌝ }
+{
+    note_at(bytes, words, j, address, s, t);
+}
+
+// The same, where the slots are searched for.
+fn note(bytes: &mut [u8], keys: &[u64], order: &[u32], words: &mut [u64], j: usize, address: u32)
     requires { ⌜ NoteAsks (mem (now bytes) (now keys) (now order) (now words)) j address ⌝ }
     ensures { λ _. ⌜ Shows (settingOf (mem (now (bytes .entry)) (now (keys .entry)) (now (order .entry)) (now (words .entry)))) (noting j (wordNotes (viewOf (mem (now (bytes .entry)) (now (keys .entry)) (now (order .entry)) (now (words .entry)))) (journalPage (layoutOf (now (words .entry))) j) address) (viewOf (mem (now (bytes .entry)) (now (keys .entry)) (now (order .entry)) (now (words .entry))))) (mem (now (bytes .exit)) (now (keys .entry)) (now (order .entry)) (now (words .exit))) ⌝ }
 {
     let k = place(j) * 33554432 + 1;
     let s = store::slot_of(keys, order, words, k + (address / 256) as u64);
     let t = store::slot_of(keys, order, words, k + (address as u64 + 31) / 256);
-    note_at(bytes, words, j, address, s, t);
+    note_found(bytes, keys, order, words, j, address, s, t);
 }
 
 // Empties the journals. vm2: `delete_history`.

@@ -20,7 +20,8 @@ use Rattle.freeing.proofs.Groups.{shortened-shows}
 use Rattle.freeing.proofs.Calls.{free-refusals, free-passed, truncate-refusals, truncate-passed, shorten-asked, truncated-shows}
 use Rattle.lists.proofs.Reach.{Reached}
 use Rattle.lists.proofs.Thins.{without-there}
-use Rattle.lists.proofs.Inhabited.{ref, Goes, goes}
+use Rattle.lists.specs.Goes.{Goes}
+use Rattle.lists.proofs.Inhabited.{ref, goes}
 use Rattle.lists.specs.Steps.{did-free, did-window, did-truncate}
 
 -- ---- the memories that they leave

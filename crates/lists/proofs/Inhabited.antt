@@ -4,7 +4,7 @@
 use mathlib.Core.Path.{_≡_, refl, sym, ap, _∙_, subst}
 use mathlib.Core.Bool.{Bool, true, false, cond, not, _&&_, true≢false}
 use mathlib.Core.List.{List, [], _∷_}
-use Prim.Native.Nat.{ℕ, zero, suc, _+_, _-_, _<_, _≤_}
+use Prim.Native.Nat.{ℕ, zero, suc, _+_, _*_, _-_, _/_, _%_, _^_, _<_, _≤_}
 use native.Mathlib.Omega.{arith}
 use lib.Dec.{ltb, eqb}
 use lib.ListN.{length, set}
@@ -12,7 +12,7 @@ use borrow.Author.Tests.{eqb-true}
 use denote.Ref.{RefT}
 use Rattle.formed.proofs.Same.{tab-long}
 use Rattle.outcome.specs.Outcome as outcomes
-use Rattle.outcome.specs.Outcome.{Outcome, refused, panicked, done, carriedOut}
+use Rattle.outcome.specs.Outcome.{Outcome, refused, panicked, done, carriedOut, answered, numberOf}
 use Rattle.outcome.specs.declared.Answer.{Answer}
 use Rattle.outcome.specs.declared.Answer.the-variants.{Done, Refused}
 use Rattle.word.specs.Value.{value, bigEndian}
@@ -33,7 +33,7 @@ use Rattle.reads.proofs.Calls.{word-call, partial-call, range-call, byte-call, 
 use Rattle.view.specs.Does.{Shows, Does}
 use Rattle.formed.proofs.Meaning.{well-formed-means}
 use Rattle.page_ids.specs.Decode.{badLayout}
-use Rattle.opening.specs.Opening.{openingOutcome, numbered, OpenAsks}
+use Rattle.opening.specs.Opening.{openingOutcome, OpenAsks}
 use Rattle.opening.proofs.Starts.{head-width}
 use Rattle.opening.proofs.Refusals.{open-asks, calldata-asks, open-refused, open-done}
 use Rattle.journal.proofs.Cuts.{forget-shows}
@@ -43,6 +43,7 @@ use Rattle.refusals.proofs.Passed.{Refusals, next, room-refusals, refused-does,
 use Rattle.lists.proofs.Writing.{word-there, bytes-there, contents-there}
 use Rattle.lists.proofs.Reach.{Reached, started-there, calldata-there, rolled-there}
 use Rattle.lists.specs.Steps.{Step, did-read-word, did-read-partial, did-read-range, did-read-byte, did-dynamic-length, did-lookup, did-lookup-check, did-snapshot, did-open, did-write-word, did-write-bytes, did-allocate, did-allocate-with, did-rollback, did-delete-history}
+use Rattle.lists.specs.Goes.{Goes, Narrow}
 
 -- every memory has a step of c, which leaves it as it is
 abbrev pub Answers : Call → Type 0
@@ -73,32 +74,33 @@ module _ {A : Type 0} (m : Mem) (a : A) where
       go true false = tt
       go false c = omega arith
 
--- the number n, in the lowest limb
-abbrev pub limbs : ℕ → List ℕ
-limbs n = n ∷ 0 ∷ 0 ∷ 0 ∷ []
+-- the number n in four limbs of 64 bits, the lowest first; what is past 256 bits stays in the highest
+abbrev B : ℕ
+B = 2 ^ 64
+
+unfoldable pub limbs : ℕ → List ℕ
+limbs n = n % B ∷ n / B % B ∷ n / B / B % B ∷ n / B / B / B ∷ []
+
+limb : (n : ℕ) → n % B + B * (n / B) ≡ n
+limb n = omega arith
 
 pub value-is : (n : ℕ) → value (limbs n) ≡ n
-unfolding value
-value-is n = omega arith
-
-abbrev numberOf : {A : Type 0} → Outcome A → ℕ
-numberOf (refused n) = n
-numberOf (panicked a) = 0
-numberOf (done a) = 0
+unfolding value limbs
+value-is n = ap (λ (x : ℕ). n % B + B * (n / B % B + B * x)) (limb (n / B / B)) ∙ (ap (λ (x : ℕ). n % B + B * x) (limb (n / B)) ∙ limb n)
 
 abbrev valueOf : {A : Type 0} → A → Outcome A → A
 valueOf z (refused n) = z
 valueOf z (panicked a) = z
 valueOf z (done a) = a
 
-read-does : {A : Type 0} (z : A) (o : Outcome A) → Right o → ReadDoes o (reads.answered (numberOf o) (valueOf z o)) (valueOf z o) z
+read-does : {A : Type 0} (z : A) (o : Outcome A) → Right o → ReadDoes o (answered (numberOf o) (valueOf z o)) (valueOf z o) z
 read-does z (refused zero) l = absurd (omega (arith, l))
 read-does z (refused (suc n)) l = record { answer = refl; zero = λ _. refl }
 read-does z (panicked a) l = absurd l
 read-does z (done a) l = record { answer = refl; zero = λ e. absurd (true≢false e) }
 
-word-does : (o : Outcome ℕ) → Right o → ReadDoes o (reads.answered (numberOf o) (value (limbs (valueOf 0 o)))) (value (limbs (valueOf 0 o))) 0
-word-does o r = subst (λ (x : ℕ). ReadDoes o (reads.answered (numberOf o) x) x 0) (sym (value-is (valueOf 0 o))) (read-does 0 o r)
+word-does : (o : Outcome ℕ) → Right o → ReadDoes o (answered (numberOf o) (value (limbs (valueOf 0 o)))) (value (limbs (valueOf 0 o))) 0
+word-does o r = subst (λ (x : ℕ). ReadDoes o (answered (numberOf o) x) x 0) (sym (value-is (valueOf 0 o))) (read-does 0 o r)
 
 abbrev answerTo : {A : Type 0} → Outcome A → Answer
 answerTo (refused n) = Refused n
@@ -300,11 +302,6 @@ can-check p k z m =
     right = right-check m tt (not (eqb (length z) 256 && zeros z))
 
 -- ---- calls that change the memory
--- a memory has a step of c, with this outcome
-pub record Goes (m : Mem) (c : Call) (o : Outcome Value) : Type 0 where
-  pub after : Mem
-  pub step : Step m c o after
-
 -- the lent buffers keep their lengths
 pub record Same (m m' : Mem) : Type 0 where
   pub bytes : length (m' .bytes) ≡ length (m .bytes)
@@ -349,9 +346,9 @@ module _ (heap aux : ℕ) (m : Mem) where
       })
 
   pub can-roll-back : Goes m (Rollback heap aux) (answerOf m (Rollback heap aux))
-  can-roll-back = go (refusals.numberOf (answerOf m (Rollback heap aux))) refl
+  can-roll-back = go (numberOf (answerOf m (Rollback heap aux))) refl
     where
-      go : (n : ℕ) → n ≡ refusals.numberOf (answerOf m (Rollback heap aux)) → Goes m (Rollback heap aux) (answerOf m (Rollback heap aux))
+      go : (n : ℕ) → n ≡ numberOf (answerOf m (Rollback heap aux)) → Goes m (Rollback heap aux) (answerOf m (Rollback heap aux))
       go zero e =
           let asks = rollback-asks m heap aux 0 e refl in
           let t = rolled-there m heap aux asks in
@@ -395,12 +392,12 @@ module _ (m : Mem) (c : Call) (checks : List (Check Value)) (tests : Refusals ch
     (step : (r : Answer) (m' : Mem) → Same m m' → CallDoes m c (told r) m' → Step m c (told r) m')
     (there : (WellFormed m) × (refusals.number checks ≡ 0) → Reached (settingOf m) (nextOf (settingOf m) c (viewOf m))) where
   pub goes : Goes m c (answerOf m c)
-  goes = go (refusals.numberOf (onMemory m checks nothing)) refl
+  goes = go (numberOf (onMemory m checks nothing)) refl
     where
       turned : {m' : Mem} {o : Outcome Value} → Does m (onMemory m checks nothing) (settingOf m) (nextOf (settingOf m) c (viewOf m)) o m' → CallDoes m c o m'
       turned {m'} {o} d = subst (λ (x : Outcome Value). Does m x (settingOf m) (nextOf (settingOf m) c (viewOf m)) o m') (sym is) d
 
-      go : (n : ℕ) → n ≡ refusals.numberOf (onMemory m checks nothing) → Goes m c (answerOf m c)
+      go : (n : ℕ) → n ≡ numberOf (onMemory m checks nothing) → Goes m c (answerOf m c)
       go zero e =
           let f = passed-formed m checks (settingOf m) (viewOf m) (sym e) in
           let t = there f in
@@ -480,25 +477,17 @@ module _ (p : ℕ) (page : p ≤ 4294967295) where
       (contents-there m p page [])
 
 -- ---- opening: the numbers of a layout have 32 bits, as the code's have
-pub record Narrow (s : Setting) : Type 0 where
-  pub statics : s .layout .«static_memory» .0 ≤ 4294967295
-  pub calldata : s .layout .calldata .0 ≤ 4294967295
-  pub heap : s .layout .«bootloader_heap» .0 ≤ 4294967295
-  pub aux : s .layout .«bootloader_aux» .0 ≤ 4294967295
-  pub base : s .layout .base .0 ≤ 4294967295
-  pub stride : s .layout .stride ≤ 4294967295
-
 module _ (s : Setting) (calldata : List ℕ) (narrow : Narrow s) (m : Mem) where
   abbrev result : Outcome Value
   result = openingOutcome s m (length calldata)
 
-  number-is : numbered (refusals.numberOf result) nothing ≡ result
+  number-is : answered (numberOf result) nothing ≡ result
   number-is = go (badLayout (s .layout)) (countsRight s && lengthsRight s m) (ltb (s .chunks) (touchedCount 0 (length calldata)))
     where
       out : Bool → Bool → Bool → Outcome Value
       out x y z = cond x (refused 1) (cond (not y) (refused 2) (cond z (refused 10) (done nothing)))
 
-      go : (x y z : Bool) → numbered (refusals.numberOf (out x y z)) nothing ≡ out x y z
+      go : (x y z : Bool) → answered (numberOf (out x y z)) nothing ≡ out x y z
       go true y z = refl
       go false false z = refl
       go false true true = refl
@@ -534,9 +523,9 @@ module _ (s : Setting) (calldata : List ℕ) (narrow : Narrow s) (m : Mem) where
       record { bytes = omega arith; keys = omega arith; order = omega arith; words = omega arith }
 
   pub can-open : Goes m (Open s calldata) result
-  can-open = go (refusals.numberOf result) number-is
+  can-open = go (numberOf result) number-is
     where
-      go : (n : ℕ) → numbered n nothing ≡ result → Goes m (Open s calldata) result
+      go : (n : ℕ) → answered n nothing ≡ result → Goes m (Open s calldata) result
       go zero e =
           let asks = open-asks nothing s m (length calldata) 0 e refl in
           let t = started-there s m asks (head-width s (m .words) (narrow .statics) (narrow .calldata) (narrow .heap) (narrow .aux) (narrow .base) (narrow .stride)) in

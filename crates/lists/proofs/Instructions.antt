@@ -32,7 +32,8 @@ use Rattle.instructions.specs.Executions.{operandOf, hookOf, stopOf, givenBy, t
 use Rattle.lists.specs.Steps.{Step, did-load, did-store, did-load-pointer, did-load-static, did-store-static}
 use Rattle.lists.proofs.Reach.{Reached}
 use Rattle.lists.proofs.Writing.{word-there}
-use Rattle.lists.proofs.Inhabited.{Answers, Goes, Same, same, setting-same, ref, limbs, value-is}
+use Rattle.lists.specs.Goes.{Goes}
+use Rattle.lists.proofs.Inhabited.{Answers, Same, same, setting-same, ref, limbs, value-is}
 
 -- ---- an answer for each outcome that an instruction can have; a panic stops nothing
 data Ran : Outcome Value → Type 0 where
@@ -56,7 +57,7 @@ answer-ran m c r = first-ran ((not (wellFormed m), refused 3) ∷ []) (is-refuse
 write-ran : (s : Setting) (v : View) (p a : ℕ) (rest : List (Check Value)) → AllRan rest → AllRan (wordWriteChecks s v p a ++ rest)
 write-ran s v p a rest r = (is-refused 4, (is-refused 9, (is-refused 10, (is-refused 11, r))))
 
--- words with their number in the lowest limb
+-- words by their number
 abbrev wordFor : ℕ → Word
 wordFor n = record { limbs = limbs n }
 

@@ -1,9 +1,8 @@
--- Contracts: what the contracts say of a step. Theorem: the demand, with no hypothesis left. Next: after every list every call can come next,
--- by Inhabited, Frees and Comparing: every call has a step.
+-- Contracts: what the contracts say of a step. Next: lists begin and go on, by Inhabited, Frees, Comparing and Instructions: every call has a step.
+-- Theorem: the demand, with no hypothesis left.
 
 pub mod Compares
 pub mod Contracts
-pub mod Theorem
 pub mod Inserts
 pub mod Reach
 pub mod Writing
@@ -14,3 +13,4 @@ pub mod Frees
 pub mod Comparing
 pub mod Instructions
 pub mod Next
+pub mod Theorem

@@ -1,57 +1,31 @@
--- After every list every call can come next, with the outcome that the setting and the plain map give: the claim speaks of all lists of calls, and
--- no contract stops one.
+-- The claim is not empty: an opening that no condition refuses has a step, which begins a list, and after every list every call can come next, with the
+-- outcome that the setting and the plain map give. No contract stops one.
 -- Assumes nothing.
-use mathlib.Core.Path.{_≡_, ap, _∙_, subst}
+use mathlib.Core.Path.{_≡_, refl, sym, ap, _∙_, subst}
 use mathlib.Core.Bool.{Bool, true, cond, not}
-use mathlib.Core.List.{[]}
-use Prim.Native.Nat.{ℕ, _≤_}
+use mathlib.Core.List.{List, []}
+use Prim.Native.Nat.{ℕ, _*_, _≤_}
+use native.Mathlib.Omega.{arith}
 use lib.ListN.{length, replicate, length-replicate}
 use Rattle.outcome.specs.Outcome.{Outcome, refused, done, firstOf}
-use Rattle.store.specs.Mem.{Mem}
+use Rattle.store.specs.Mem.{Mem, mem}
 use Rattle.formed.specs.Formed.{wellFormed}
 use Rattle.formed.proofs.Meaning.{well-formed-passes}
 use Rattle.view.specs.View.{View, Setting, settingOf, viewOf}
-use Rattle.view.specs.Checks.{openingChecks, lengthsRight}
+use Rattle.view.specs.Checks.{openingChecks, lengthsRight, bytesLength, keysLength, orderLength, wordsLength}
 use Rattle.view.specs.Does.{Shows}
 use Rattle.view.specs.Calls.{Call, Value, Open, Allocate, ReadWord, ReadPartial, ReadRange, ReadByte, DynamicLength, WriteWord, WriteBytes, Lookup, LookupCheck, Free, Window, Truncate, CompareLeft, CompareRight, CompareBoth, Snapshot, Rollback, DeleteHistory, nothing, bytes, shown, sameLengths, outcomeOf, answerOf, Load, Store, LoadPointer, LoadStatic, StoreStatic}
-use Rattle.view.specs.Instructions.{heapOf}
-use Rattle.plain.specs.Plain.{Plain, seen}
-use Rattle.plain.specs.Claim.{Started, Run, Any}
+use Rattle.opening.specs.Opening.{OpenAsks, layoutFrom, setting}
+use Rattle.opening.proofs.Refusals.{sizes-test, refused-not}
+use Rattle.plain.specs.Claim.{by-opening}
+use Rattle.plain.proofs.Theorem.{claim}
 use Rattle.lists.specs.Steps.{Step}
-use Rattle.lists.proofs.Theorem.{theorem}
-use Rattle.lists.proofs.Inhabited.{Answers, Goes, Narrow, can-open, can-allocate-with, can-read-word, can-read-partial, can-read-range, can-read-byte, can-tell-length, can-write-word, can-write-bytes, can-look-up, can-check, can-snapshot, can-roll-back, can-delete}
+use Rattle.lists.specs.Goes.{Narrow, Fits, Goes, Begins, NotEmpty}
+use Rattle.lists.proofs.Contracts.{contracts}
+use Rattle.lists.proofs.Inhabited.{Answers, can-open, can-allocate-with, can-read-word, can-read-partial, can-read-range, can-read-byte, can-tell-length, can-write-word, can-write-bytes, can-look-up, can-check, can-snapshot, can-roll-back, can-delete}
 use Rattle.lists.proofs.Frees.{can-free, can-window, can-truncate}
 use Rattle.lists.proofs.Comparing.{can-compare-left, can-compare-right, can-compare-both}
 use Rattle.lists.proofs.Instructions.{can-load, can-store, can-load-pointer, can-load-static, can-store-static}
-
--- what the types of the code's arguments ask of an opening, an allocation, a write or a store: pages, addresses and a layout's numbers have 32 bits.
--- The other calls go on with any arguments
-abbrev pub Fits : Call → Type 0
-Fits (Open s calldata) = Narrow s
-Fits (Allocate p bs) = p ≤ 4294967295
-Fits (ReadWord p a) = Unit {0}
-Fits (ReadPartial p x y) = Unit {0}
-Fits (ReadRange p x y n) = Unit {0}
-Fits (ReadByte p a) = Unit {0}
-Fits DynamicLength = Unit {0}
-Fits (WriteWord p a n) = (p ≤ 4294967295) × (a ≤ 4294967295)
-Fits (WriteBytes p a bs) = (p ≤ 4294967295) × (a ≤ 4294967295)
-Fits (Lookup p k z) = Unit {0}
-Fits (LookupCheck p k z) = Unit {0}
-Fits (Free p) = Unit {0}
-Fits (Window p start n) = Unit {0}
-Fits (Truncate n) = Unit {0}
-Fits (CompareLeft other) = Unit {0}
-Fits (CompareRight other) = Unit {0}
-Fits CompareBoth = Unit {0}
-Fits Snapshot = Unit {0}
-Fits (Rollback heap aux) = Unit {0}
-Fits DeleteHistory = Unit {0}
-Fits (Load area f x) = Unit {0}
-Fits (Store area f x n h) = heapOf f area ≤ 4294967295
-Fits (LoadPointer f x) = Unit {0}
-Fits (LoadStatic f x) = Unit {0}
-Fits (StoreStatic f x n) = Unit {0}
 
 module _ {s : Setting} {v : View} {m : Mem} (h : Shows s v m) where
   formed : wellFormed m ≡ true
@@ -106,5 +80,43 @@ module _ {s : Setting} {v : View} {m : Mem} (h : Shows s v m) where
   goes-on (LoadStatic g x) f = reads (LoadStatic g x) (can-load-static g x)
   goes-on (StoreStatic g x n) f = changes (StoreStatic g x n) (can-store-static g x n m)
 
-pub next : {s : Setting} {start m : Mem} {p₀ p : Plain} → Started Step s start p₀ → Run Step Any s start p₀ m p → (c : Call) → Fits c → Goes m c (outcomeOf s c (seen s p))
-next b r c f = goes-on (theorem .lists b r .shows) c f
+-- an opening that no condition refuses begins a list
+begins : {m : Mem} {s : Setting} {calldata : List ℕ} → Narrow s → OpenAsks s m → length calldata ≤ 256 * s .chunks → Begins m s calldata
+begins {m} {s} {calldata} narrow asks room =
+    let g = can-open s calldata narrow m in
+    let e = sym (refused-not nothing s m (length calldata) (asks .layout) (sizes-test s m (asks .sizes)) room) in
+    let step = subst (λ (o : Outcome Value). Step m (Open s calldata) o (g .after)) e (g .step) in
+    record { start = g .after; step = step; started = by-opening step }
+
+-- the smallest memory, of one chunk and one page beside the fixed ones
+abbrev small : Setting
+small = setting (layoutFrom 0 1 2 3 4 4) 1 1 0
+
+abbrev buffers : Mem
+buffers = mem (replicate (bytesLength small) 0) (replicate (keysLength small) 0) (replicate (orderLength small) 0) (replicate (wordsLength small) 0)
+
+small-narrow : Narrow small
+small-narrow = record { statics = omega arith; calldata = omega arith; heap = omega arith; aux = omega arith; base = omega arith; stride = omega arith }
+
+small-asks : OpenAsks small buffers
+small-asks = record {
+  layout = refl;
+  sizes = record {
+    chunks-lo = omega arith;
+    chunks-hi = omega arith;
+    pages-lo = omega arith;
+    pages-hi = omega arith;
+    room-hi = omega arith;
+    in-bytes = length-replicate {A = ℕ} (bytesLength small) 0;
+    in-keys = length-replicate {A = ℕ} (keysLength small) 0;
+    in-order = length-replicate {A = ℕ} (orderLength small) 0;
+    in-words = length-replicate {A = ℕ} (wordsLength small) 0;
+  };
+}
+
+pub not-empty : NotEmpty
+not-empty = record {
+  begins = λ narrow asks room. begins narrow asks (omega arith);
+  one = (buffers, small, begins small-narrow small-asks (omega arith));
+  goes-on = λ b r c f. goes-on (claim Step contracts .lists b r .shows) c f;
+}

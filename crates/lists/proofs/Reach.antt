@@ -32,7 +32,7 @@ use Rattle.pages.proofs.Listing.{listed-already, entry-asks, listed-now}
 use Rattle.journal.specs.Words.{numberOf, oldPlace, noteSet}
 use Rattle.journal.specs.Steps.{alignedFrom, AlignedAsks, restoring, undoing, UndoAsks, RollBackAsks}
 use Rattle.journal.proofs.Numbers.{number-lt}
-use Rattle.journal.proofs.Notes.{note-room, note-shows}
+use Rattle.journal.proofs.Notes.{note-slots, note-room, note-shows}
 use Rattle.journal.proofs.Aligned.{aligned-none, aligned-asks, aligned-more}
 use Rattle.journal.proofs.Undos.{back-asks, back-slots, back-more, back-none, undo-shows, heap-asks, aux-asks, rolled}
 use Rattle.formed.proofs.Keys.{le-or-gt}
@@ -199,14 +199,15 @@ module _ (m : Mem) (j a : ℕ) (asks : NoteAsks m j a) where
 
   pub noted-there : Reached (settingOf m) (noting j (wordNotes (viewOf m) (journalPage (layoutOf (m .words)) j) a) (viewOf m))
   noted-there =
-      let r = note-room (m .bytes) (m .keys) (m .order) (m .words) j a asks first last refl refl in
+      let slots = note-slots (m .bytes) (m .keys) (m .order) (m .words) j a asks (journalPlace j) refl first last refl refl in
+      let r = note-room (m .bytes) (m .keys) (m .order) (m .words) j a asks first last slots in
       let q = r .room in
       let l = number-lt (journalRoom (m .words)) j (journalLength (m .words) j) journalCount (asks .which) q in
       let b = r .long .in-bytes in
       let t = copy (oldPlace (m .words) j (journalLength (m .words) j)) 32 (λ k. getD (m .bytes) (placeIn first last (a % 256) k) 0) (m .bytes) (omega arith) in
       record {
         memory = mem (t .now) (m .keys) (m .order) (noteSet (m .words) (12 + j) (numberOf (m .words) j (journalLength (m .words) j)) a first last);
-        shows = note-shows (m .bytes) (m .keys) (m .order) (m .words) j a asks first last refl refl (t .now) _ (t .long) (record { words-are = refl; old = t .spread });
+        shows = note-shows (m .bytes) (m .keys) (m .order) (m .words) j a asks first last slots (t .now) _ (t .long) (record { words-are = refl; old = t .spread });
       }
 
 -- .. and the aligned words of a range

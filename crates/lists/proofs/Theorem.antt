@@ -29,6 +29,7 @@ use Rattle.plain.proofs.Theorem.{claim}
 use Rattle.lists.specs.Steps.{Step}
 use Rattle.lists.specs.Demand.{Demand}
 use Rattle.lists.proofs.Contracts.{contracts}
+use Rattle.lists.proofs.Next.{not-empty}
 
 pub theorem : Claim Step
 theorem = claim Step contracts
@@ -61,4 +62,5 @@ demand = record {
   «load_static» = λ {M}. load-static-met.met {M = M};
   «store_static» = λ {M}. store-static-met.met {M = M};
   claim = theorem;
+  not-empty = not-empty;
 }

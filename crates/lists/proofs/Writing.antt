@@ -16,10 +16,11 @@ use Rattle.formed.specs.WellFormed.{WellFormed}
 use Rattle.view.specs.View.{View, settingOf, viewOf}
 use Rattle.view.specs.Steps.{touchedCount, alignedCount, wordNotes, alignedNotes, written, wordWritten, bytesWritten, contentsAllocated}
 use Rattle.view.specs.Checks.{wordWriteChecks, byteWriteChecks, allocateChecks}
-use Rattle.view.specs.Inner.{listing, holding, noting, journalling}
+use Rattle.view.specs.Inner.{listing, holding, noting, journalling, putting}
 use Rattle.room.specs.Refusals.{number}
 use Rattle.refusals.proofs.Passed.{bytes-passed}
 use Rattle.writes.specs.Asks.{JournalAsks}
+use Rattle.bodies.proofs.Puts.{shows-then}
 use Rattle.writes.proofs.Chains.{list-asks, hold-asks, prepared, Cleared, word-cleared, bytes-cleared, contents-cleared, contents-unjournalled, prepare-asks, journal-asks, journal-own, journal-none, note-asks, aligned-asks, word-notes-same, aligned-notes-same, plain-asks, plain-done, put-asks, write-done}
 use Rattle.lists.proofs.Reach.{Reached, held-there, listed-there, put-there, noted-there, aligned-there}
 
@@ -59,7 +60,7 @@ module _ (m : Mem) (p a : ℕ) (bs : List ℕ) (w : ℕ) (c : Cleared m p a (len
       let q = journal-asks m p a (length bs) w k c (h .memory) (h .shows) in
       let j = journalled-there (h .memory) p a (length bs) w q (notes (viewOf (h .memory))) (note (h .memory) q) in
       let t = put-there (j .memory) p a bs (put-asks m p a bs w k c (h .memory) (h .shows) (λ v. notes v p) same (j .memory) (j .shows)) in
-      record { memory = t .memory; shows = write-done m p a bs w k c (h .memory) (h .shows) (λ v. notes v p) same (j .memory) (j .shows) (t .memory) (t .shows) }
+      record { memory = t .memory; shows = write-done m p a bs w k c (h .memory) (h .shows) (λ v. notes v p) same (t .memory) (shows-then (putting p a bs) (j .shows) (t .shows)) }
 
 module _ (m : Mem) (p a : ℕ) (page : p ≤ 4294967295) (address : a ≤ 4294967295) where
   pub word-there : (n : ℕ) → (WellFormed m) × (number (wordWriteChecks (settingOf m) (viewOf m) p a) ≡ 0) → Reached (settingOf m) (wordWritten (layoutOf (m .words)) p a (wordBytes n) (viewOf m))

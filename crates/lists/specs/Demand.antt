@@ -1,5 +1,5 @@
--- THE DEMAND in one type: each public function meets its contract, for every model of the logic, and the claim holds of every list of
--- calls that those contracts allow.
+-- THE DEMAND in one type: each public function meets its contract, for every model of the logic, the claim holds of every list of
+-- calls that those contracts allow, and there are such lists.
 -- Assumes nothing.
 use Rattle.opening.proofs.open.Statement as open-says
 use Rattle.reads.proofs.read_u256.Statement as word-says
@@ -27,6 +27,7 @@ use Rattle.instructions.proofs.load_static.Statement as load-static-says
 use Rattle.instructions.proofs.store_static.Statement as store-static-says
 use Rattle.plain.specs.Claim.{Claim}
 use Rattle.lists.specs.Steps.{Step}
+use Rattle.lists.specs.Goes.{NotEmpty}
 
 pub record Demand : Type 2 where
   pub «open» : {M : Type 1} → open-says.statement M
@@ -54,3 +55,4 @@ pub record Demand : Type 2 where
   pub «load_static» : {M : Type 1} → load-static-says.statement M
   pub «store_static» : {M : Type 1} → store-static-says.statement M
   pub claim : Claim Step
+  pub not-empty : NotEmpty

@@ -12,12 +12,12 @@ use denote.Triple.Clauses.{Lasts, AtExit, atExit}
 use denote.Triple.Walked.{Fit}
 use denote.Ref.{RefT, now}
 use Rattle.outcome.specs.Outcome as outcomes
-use Rattle.outcome.specs.Outcome.{Outcome, done}
+use Rattle.outcome.specs.Outcome.{Outcome, done, mapped}
 use Rattle.store.specs.Mem.{Mem, mem}
 use Rattle.word.specs.Value.{value}
 use Rattle.view.specs.Calls.{Call, Value, Open, Allocate, WriteWord, WriteBytes, ReadWord, ReadPartial, ReadRange, ReadByte, DynamicLength, Lookup, LookupCheck, Free, Window, Truncate, CompareLeft, CompareRight, CompareBoth, Snapshot, Rollback, DeleteHistory, nothing, number, bytes, told, Load, Store, LoadPointer, LoadStatic, StoreStatic}
 use Rattle.opening.specs.Opening.{setting}
-use Rattle.reads.specs.Calls.{toldByte, toldLength, toldMarks, valued, marked}
+use Rattle.reads.specs.Calls.{toldByte, toldLength, toldMarks, marked}
 use Rattle.reads.specs.Calls as reads
 use Rattle.compare.specs.Verdict as compares
 use Rattle.opening.proofs.open.Kinds as open-kinds
@@ -71,8 +71,10 @@ use Rattle.instructions.proofs.load_static.Reads as load-static-reads
 use Rattle.instructions.proofs.store_static.Kinds as store-static-kinds
 use Rattle.instructions.proofs.store_static.Reads as store-static-reads
 
--- a call of a function that takes ps and answers an r, asks P and tells Q: the logic's own record `borrow.Author.Called`, which a
--- caller's proof is handed, without the caller's locals
+-- A call of a function that takes ps and answers an r, asks P and tells Q: what the logic's record `borrow.Author.Called` hands a caller's proof,
+-- with the arguments and what is asked of them in place of the caller's locals, and without its field `ok`, the range of the result's numbers.
+-- So a step is a call in the contract's own terms, its numbers of any size: each call of the code is one, and not each is a call of the code. What
+-- is claimed of all steps is the stronger for it; that there is a step (Goes) is said in these terms, and no more
 pub record Went {n : ℕ} (ps : List (PK n)) (r : RK n) (P : In n ps) (Q : Out n ps r) : Type 0 where
   pub lifetimes : Lfts n
   pub args : Dens lifetimes ps
@@ -111,14 +113,14 @@ pub data Step : Mem → Call → Outcome Value → Mem → Type 0 where
       Step
       (lent (w .args))
       (ReadWord (rest (w .args) .0 .0) (rest (w .args) .1 .0 .0))
-      (valued number (reads.told (w .result)))
+      (mapped number (reads.told (w .result)))
       (lent (exits w))
   did-read-partial :
       (w : Went partial-kinds.ps partial-kinds.r partial-reads.Asked partial-reads.Learnt) →
       Step
       (lent (w .args))
       (ReadPartial (rest (w .args) .0 .0) (rest (w .args) .1 .0 .0) (rest (w .args) .1 .1 .0 .0))
-      (valued number (reads.told (w .result)))
+      (mapped number (reads.told (w .result)))
       (lent (exits w))
   -- the value is what the output holds after the call
   did-read-range :
@@ -126,21 +128,21 @@ pub data Step : Mem → Call → Outcome Value → Mem → Type 0 where
       Step
       (lent (w .args))
       (ReadRange (rest (w .args) .0 .0) (rest (w .args) .1 .0 .0) (rest (w .args) .1 .1 .0 .0) (length (now (rest (w .args) .1 .1 .1 .0))))
-      (valued (λ _. bytes (now (rest (exits w) .1 .1 .1 .0))) (outcomes.told (w .result)))
+      (mapped (λ _. bytes (now (rest (exits w) .1 .1 .1 .0))) (outcomes.told (w .result)))
       (lent (exits w))
   did-read-byte :
       (w : Went byte-kinds.ps byte-kinds.r byte-reads.Asked byte-reads.Learnt) →
       Step
       (lent (w .args))
       (ReadByte (rest (w .args) .0 .0) (rest (w .args) .1 .0 .0))
-      (valued number (toldByte (w .result)))
+      (mapped number (toldByte (w .result)))
       (lent (exits w))
   did-dynamic-length :
       (w : Went length-kinds.ps length-kinds.r length-reads.Asked length-reads.Learnt) →
       Step
       (lent (w .args))
       DynamicLength
-      (valued number (toldLength (w .result)))
+      (mapped number (toldLength (w .result)))
       (lent (exits w))
   -- a lookup shows a part, and its check says whether it is refused
   did-lookup :
@@ -155,14 +157,14 @@ pub data Step : Mem → Call → Outcome Value → Mem → Type 0 where
       Step
       (lent (w .args))
       (LookupCheck (rest (w .args) .0 .0) (rest (w .args) .1 .0) (now (rest (w .args) .1 .1 .0)))
-      (valued (λ _. nothing) (outcomes.told (w .result)))
+      (mapped (λ _. nothing) (outcomes.told (w .result)))
       (lent (exits w))
   did-snapshot :
       (w : Went snapshot-kinds.ps snapshot-kinds.r snapshot-reads.Asked snapshot-reads.Learnt) →
       Step
       (lent (w .args))
       Snapshot
-      (valued marked (toldMarks (w .result)))
+      (mapped marked (toldMarks (w .result)))
       (lent (exits w))
   did-write-word :
       (w : Went write-kinds.ps write-kinds.r write-reads.Asked write-reads.Learnt) →

@@ -8,7 +8,6 @@ use native.Mathlib.Omega.{arith}
 use lib.Dec.{leb, ltb, eqb}
 use lib.ListN.{length}
 use borrow.Author.Tests.{lt-ltb, le-ltb, le-leb, eq-eqb, eqb-true}
-use Rattle.page_ids.specs.Decode.{page}
 use Rattle.page_ids.specs.declared.Layout.{Layout}
 use Rattle.store.specs.Mem.{Mem, layoutOf, slotCount}
 use Rattle.formed.specs.Pages.{LayoutRule, fixed, group, journalCount, journalPage}

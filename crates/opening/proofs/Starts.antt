@@ -12,7 +12,7 @@ use lib.ListN.{length, getD, set, take, drop, replicate, length-append, length-d
 use lib.Seq.{length-take-le, getD-drop}
 use borrow.Author.Tests.{le-ltb}
 use Rattle.index.proofs.Logic.{both-ways}
-use Rattle.store.specs.Mem.{Mem, mem, chunks}
+use Rattle.store.specs.Mem.{Mem, mem}
 use Rattle.store.proofs.Parts.{sub-zero, take-front, drop-front, put-long, rest-part}
 use Rattle.formed.specs.Pages.{LayoutRule, fixed, journalCount}
 use Rattle.formed.specs.Parts.{tab, byteAt, slotOfChunk, holds, allocated, journal}
@@ -25,7 +25,7 @@ use Rattle.view.specs.View.{Setting, viewOf}
 use Rattle.view.specs.Steps.{fresh}
 use Rattle.view.specs.Does.{Shows}
 use Rattle.view.proofs.Equal.{view-by}
-use Rattle.opening.specs.Opening.{setting, headed, OpenAsks, FixedAsks, FirstPages}
+use Rattle.opening.specs.Opening.{headed, OpenAsks, FixedAsks, FirstPages}
 use Rattle.opening.proofs.Fixed.{getD-zeros, take-zeros, empty-index}
 
 -- ---- the head: 14 stores

@@ -3,12 +3,12 @@
 use mathlib.Core.Path.{_≡_}
 use mathlib.Core.Bool.{Bool, true, false, _&&_}
 use mathlib.Core.List.{List, _∷_}
-use Prim.Native.Nat.{ℕ, zero, suc, _+_, _*_, _<_, _≤_}
+use Prim.Native.Nat.{ℕ, _+_, _*_, _<_, _≤_}
 use lib.ListN.{length, getD, drop}
 use Rattle.index.specs.Index.{indexed}
 use Rattle.page_ids.specs.declared.Layout.{Layout}
 use Rattle.page_ids.specs.Decode.{badLayout}
-use Rattle.outcome.specs.Outcome.{Outcome, refused, done, firstOf}
+use Rattle.outcome.specs.Outcome.{Outcome, done, firstOf}
 use Rattle.store.specs.Mem.{Mem, layoutOf, slotCount}
 use Rattle.view.specs.View.{Setting, settingOf}
 use Rattle.view.specs.Steps.{fresh}
@@ -76,11 +76,6 @@ pub record FirstPages (ws ks os : List ℕ) (n : ℕ) : Type 0 where
 -- with n bytes of calldata
 abbrev pub openingOutcome : Setting → Mem → ℕ → Outcome Value
 openingOutcome s m n = firstOf (openingChecks s (lengthsRight s m) n) (done nothing)
-
--- a refusal by its number; 0 is none
-abbrev pub numbered : {A : Type 0} → ℕ → A → Outcome A
-numbered zero a = done a
-numbered (suc n) a = refused (suc n)
 
 -- what n bytes of calldata ask: a memory just started, its calldata page, and chunks for them all
 pub record CalldataAsks (m : Mem) (p n : ℕ) : Type 0 where

@@ -2,13 +2,14 @@
 ghost use mathlib.Core.Path.{_≡_};
 ghost use Prim.Native.Nat.{_≤_};
 ghost use lib.ListN.{length, replicate};
+ghost use Rattle.outcome.specs.Outcome.{answered};
 ghost use Rattle.store.specs.Mem.{mem, headLength};
 ghost use Rattle.view.specs.View.{settingOf};
 ghost use Rattle.view.specs.Steps.{fresh, opened};
 ghost use Rattle.view.specs.Calls.{nothing, told, OpenDoes};
 ghost use Rattle.view.specs.Does.{Shows};
 ghost use Rattle.page_ids.specs.declared.Layout.{Layout};
-ghost use Rattle.opening.specs.Opening.{layoutFrom, setting, headed, sizesRight, OpenAsks, FixedAsks, FirstPages, openingOutcome, numbered, CalldataAsks};
+ghost use Rattle.opening.specs.Opening.{layoutFrom, setting, headed, sizesRight, OpenAsks, FixedAsks, FirstPages, openingOutcome, CalldataAsks};
 use outcome::Answer;
 use page_ids::Layout;
 
@@ -210,7 +211,7 @@ fn open_refusal(
     room: u32,
     calldata: &[u8],
 ) -> u32
-    ensures { λ r. let s = setting layout chunks pages room in ⌜ numbered r nothing ≡ openingOutcome s (mem (now (bytes .entry)) (now (keys .entry)) (now (order .entry)) (now (words .entry))) (length (now (calldata .entry))) ⌝ }
+    ensures { λ r. let s = setting layout chunks pages room in ⌜ answered r nothing ≡ openingOutcome s (mem (now (bytes .entry)) (now (keys .entry)) (now (order .entry)) (now (words .entry))) (length (now (calldata .entry))) ⌝ }
 {
     if page_ids::bad_layout(layout) {
         return 1;

@@ -2,7 +2,7 @@
 -- Assumes nothing.
 use mathlib.Core.Bool.{Bool, true, false, cond}
 use mathlib.Core.List.{List, [], _∷_}
-use Prim.Native.Nat.{ℕ}
+use Prim.Native.Nat.{ℕ, zero, suc}
 use Rattle.outcome.specs.declared.Answer.{Answer}
 use Rattle.outcome.specs.declared.Answer.the-variants.{Done, Refused}
 
@@ -17,6 +17,22 @@ abbrev pub carriedOut : {A : Type 0} → Outcome A → Bool
 carriedOut (refused n) = false
 carriedOut (panicked a) = false
 carriedOut (done a) = true
+
+-- the same outcome, its answer told by f
+abbrev pub mapped : {A B : Type 0} → (A → B) → Outcome A → Outcome B
+mapped f (refused n) = refused n
+mapped f (panicked a) = panicked (f a)
+mapped f (done a) = done (f a)
+
+-- the number of a refusal, 0 where there is none; and back, beside an answer
+abbrev pub numberOf : {A : Type 0} → Outcome A → ℕ
+numberOf (refused n) = n
+numberOf (panicked a) = 0
+numberOf (done a) = 0
+
+abbrev pub answered : {A : Type 0} → ℕ → A → Outcome A
+answered zero a = done a
+answered (suc n) a = refused (suc n)
 
 -- The value beside the first condition that holds, or `otherwise` where none does.
 -- 01's 'table order is check order' is a list of conditions, each with its refusal, and the answer as the value otherwise.

@@ -4,6 +4,7 @@ use mathlib.Core.List.{[], _∷_}
 use Prim.Native.Nat.{ℕ, _+_, _-_, _^_}
 use lib.Dec.{leb, ltb}
 use Rattle.outcome.specs.Outcome.{Outcome, refused, done, firstOf}
+use Rattle.page_ids.specs.declared.Layout.{Layout}
 use Rattle.page_ids.specs.declared.PageAnswer.{PageAnswer}
 use Rattle.page_ids.specs.declared.PageAnswer.the-variants as page
 use Rattle.page_ids.specs.declared.BaseAnswer.{BaseAnswer}
@@ -18,6 +19,14 @@ toldPage (page.Page p) = done (p .0)
 abbrev pub toldBase : BaseAnswer → Outcome ℕ
 toldBase (base.Refused n) = refused n
 toldBase (base.Base b) = done (b .0)
+
+-- the code page of a base page has the base's own number
+abbrev pub codePage : ℕ → ℕ
+codePage base = base
+
+-- the base page of the first dynamic group is the layout's base
+abbrev pub firstBase : Layout → ℕ
+firstBase layout = layout .base .0
 
 abbrev pub sum : ℕ → ℕ → Outcome ℕ
 sum a b = firstOf ((leb (2 ^ 32) (a + b), refused 4) ∷ []) (done (a + b))

@@ -1,8 +1,7 @@
 // Page ids, base pages and byte addresses, and what a page id stands for.
 // vm2: page_ids.rs, and `DecodedPage` of heap.rs. Its constants are the six numbers of a `Layout` here.
 ghost use mathlib.Core.Path.{_≡_};
-ghost use Prim.Native.Nat.{_+_};
-ghost use Rattle.page_ids.specs.Arithmetic.{toldPage, toldBase, sum, difference};
+ghost use Rattle.page_ids.specs.Arithmetic.{toldPage, toldBase, codePage, firstBase, sum, difference};
 ghost use Rattle.page_ids.specs.Decode.{badLayout, pageOf, told, byRemainder, decoded, decoding};
 
 pub struct PageId(pub u32);
@@ -163,7 +162,7 @@ pub fn aux_heap_page_from_base(base: BasePage) -> PageAnswer
 }
 
 pub fn code_page_from_base(base: BasePage) -> PageId
-    ensures { λ r. ⌜ r .0 ≡ base .0 ⌝ }
+    ensures { λ r. ⌜ r .0 ≡ codePage (base .0) ⌝ }
 {
     PageId(base.0)
 }
@@ -179,7 +178,7 @@ pub fn base_page_from_heap(heap: PageId) -> BaseAnswer
 }
 
 pub fn first_dynamic_base_page(layout: Layout) -> BasePage
-    ensures { λ r. ⌜ r .0 ≡ layout .base .0 ⌝ }
+    ensures { λ r. ⌜ r .0 ≡ firstBase layout ⌝ }
 {
     BasePage(layout.base.0)
 }

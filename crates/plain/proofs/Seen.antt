@@ -20,12 +20,12 @@ use Rattle.page_ids.specs.Decode.{Page, none, page, decoded}
 use Rattle.formed.specs.Pages.{fixedId, isFixed, isDynamic, fixed, dynamic}
 use Rattle.formed.specs.Parts.{Note}
 use Rattle.view.specs.View.{View, Setting}
-use Rattle.view.specs.Steps.{touchedCount, needs, written, count, pairs, without, shortened, opened, fresh as blank}
+use Rattle.view.specs.Steps.{touchedCount, needs, written, count, pairs, without, shortened, opened, fresh as blank, fromGroup}
 use Rattle.view.specs.Checks.{Check, isNone, undecodable, wordWriteChecks, byteWriteChecks, allocateChecks, freeChecks}
 use Rattle.view.specs.Instructions.{Operand, Hook, heapOf, staticOf, hooked, storeChecks, stored, staticStoreChecks, staticStored}
 use Rattle.view.specs.Calls.{Call, Open, Allocate, ReadWord, ReadPartial, ReadRange, ReadByte, DynamicLength, WriteWord, WriteBytes, Lookup, LookupCheck, Free, Window, Truncate, CompareLeft, CompareRight, CompareBoth, Snapshot, Rollback, DeleteHistory, Load, Store, LoadPointer, LoadStatic, StoreStatic, Value, nothing, given, outcomeOf, nextOf}
 use Rattle.view.proofs.Counts.{fixed-only}
-use Rattle.plain.specs.Plain.{Plain, has, member, put, putWord, dropping, fromUp, follow, fresh, seen}
+use Rattle.plain.specs.Plain.{Plain, has, member, put, putWord, dropping, follow, fresh, seen}
 use Rattle.plain.proofs.Tests.{Clear, clear}
 use Rattle.plain.proofs.Held.{has-hold, length-hold, missing-le, has-list, length-list, list-fits}
 use Rattle.plain.proofs.Others.{length-others, has-others, allocated-others, pairs-left, listedDynamic, pages-left}
@@ -180,7 +180,7 @@ window-loose l p q b f =
     (λ (n : q ≡ p → ⊥). rw (ne-eqb q p n))
     (same-or-not q p)
 
-pub truncate-loose : (l : Layout) (n q : ℕ) → fixed l q ≡ true → fromUp l n q ≡ false
+pub truncate-loose : (l : Layout) (n q : ℕ) → fixed l q ≡ true → fromGroup l n q ≡ false
 truncate-loose l n q f = rw (fixed-only l q f)
 
 -- ---- each call
@@ -199,7 +199,7 @@ module _ (s : Setting) (m : Plain) where
   seen-follow (LookupCheck p j z) e k = refl
   seen-follow (Free p) e k = seen-drop s m _ (λ q. eqb q p) (m .dynamicLength) k (free-loose s (seen s m) p e)
   seen-follow (Window p start n) e k = seen-drop s m _ (λ q. false) (m .dynamicLength) k (λ q f. refl)
-  seen-follow (Truncate n) e k = seen-drop s m _ (fromUp (s .layout) n) n k (truncate-loose (s .layout) n)
+  seen-follow (Truncate n) e k = seen-drop s m _ (fromGroup (s .layout) n) n k (truncate-loose (s .layout) n)
   seen-follow (CompareLeft other) e k = refl
   seen-follow (CompareRight other) e k = refl
   seen-follow CompareBoth e k = refl

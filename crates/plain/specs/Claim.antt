@@ -6,16 +6,14 @@ use mathlib.Core.Bool.{true, false}
 use mathlib.Core.List.{List}
 use Prim.Native.Nat.{ℕ, _+_, _≤_, _<_}
 use lib.ListN.{length}
-use Rattle.outcome.specs.Outcome.{Outcome, done, carriedOut, firstOf}
+use Rattle.outcome.specs.Outcome.{Outcome, done, carriedOut}
 use Rattle.store.specs.Mem.{Mem, slotCount}
 use Rattle.formed.specs.Pages.{journalCount, journalPage}
 use Rattle.formed.specs.Parts.{byteAt, holds, allocated, pool}
 use Rattle.formed.specs.WellFormed.{Pooled, slotByte}
 use Rattle.view.specs.View.{View, Setting}
-use Rattle.view.specs.Steps.{opened}
-use Rattle.view.specs.Checks.{openingChecks, lengthsRight}
 use Rattle.view.specs.Does.{Shows, Does}
-use Rattle.view.specs.Calls.{Call, Value, Open, Snapshot, Rollback, DeleteHistory, nothing, lengths, outcomeOf, nextOf}
+use Rattle.view.specs.Calls.{Call, Value, Open, Snapshot, Rollback, DeleteHistory, nothing, lengths, outcomeOf, nextOf, OpenDoes}
 use Rattle.plain.specs.Plain.{Plain, fresh, feed, seen}
 
 -- a relation of this kind
@@ -25,8 +23,7 @@ Steps = Mem → Call → Outcome Value → Mem → Type 0
 -- ---- what the contracts of the code say of S
 pub record Contracts (S : Steps) : Type 0 where
   -- an opening, on any buffers
-  pub opens : {m m' : Mem} {s : Setting} {calldata : List ℕ} {o : Outcome Value} → S m (Open s calldata) o m'
-      → Does m (firstOf (openingChecks s (lengthsRight s m) (length calldata)) (done nothing)) s (opened s calldata) o m'
+  pub opens : {m m' : Mem} {s : Setting} {calldata : List ℕ} {o : Outcome Value} → S m (Open s calldata) o m' → OpenDoes m s calldata o m'
   -- any other call, on a memory of setting s and view v
   pub calls : {m m' : Mem} {c : Call} {o : Outcome Value} {s : Setting} {v : View} → ((t : Setting) (calldata : List ℕ) → c ≡ Open t calldata → ⊥)
       → S m c o m' → Shows s v m → Does m (outcomeOf s c v) s (nextOf s c v) o m'

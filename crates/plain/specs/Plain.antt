@@ -11,7 +11,7 @@ use Rattle.formed.specs.Pages.{fixed, dynamic, group, journalCount}
 use Rattle.formed.specs.Parts.{Note, tab}
 use Rattle.page_ids.specs.declared.Layout.{Layout}
 use Rattle.view.specs.View.{View, Setting}
-use Rattle.view.specs.Steps.{max, over, touchedCount, touches, alignedCount, journalled, rolledBytes, marks}
+use Rattle.view.specs.Steps.{max, over, fromGroup, touchedCount, touches, alignedCount, journalled, rolledBytes, marks}
 use Rattle.view.specs.Instructions.{heapOf, staticOf}
 use Rattle.view.specs.Calls.{Call, Value, Open, Allocate, ReadWord, ReadPartial, ReadRange, ReadByte, DynamicLength, WriteWord, WriteBytes, Lookup, LookupCheck, Free, Window, Truncate, CompareLeft, CompareRight, CompareBoth, Snapshot, Rollback, DeleteHistory, Load, Store, LoadPointer, LoadStatic, StoreStatic}
 
@@ -76,10 +76,6 @@ dropping dropped free n m = record {
   journal = m .journal;
 }
 
--- a dynamic page of a group from n up
-abbrev pub fromUp : Layout → ℕ → ℕ → Bool
-fromUp l n p = dynamic l p && leb n (group l p)
-
 abbrev pub follow : Layout → Call → Plain → Plain
 follow l (Open t calldata) m = m
 follow l (Allocate p bs) m = put l p 0 bs [] m
@@ -95,7 +91,7 @@ follow l (LookupCheck p k z) m = m
 -- free drops its page's chunks, a window those of its dynamic page that it does not overlap, truncation to n those of dynamic pages of groups from n up
 follow l (Free p) m = dropping (λ q k. eqb q p) (λ q. eqb q p) (m .dynamicLength) m
 follow l (Window p start n) m = dropping (λ q k. (eqb q p && dynamic l p) && not (touches start n k)) (λ q. false) (m .dynamicLength) m
-follow l (Truncate n) m = dropping (λ q k. fromUp l n q) (fromUp l n) n m
+follow l (Truncate n) m = dropping (λ q k. fromGroup l n q) (fromGroup l n) n m
 follow l (CompareLeft other) m = m
 follow l (CompareRight other) m = m
 follow l CompareBoth m = m

@@ -17,6 +17,8 @@ use Rattle.formed.specs.Formed.{zeros}
 use Rattle.formed.specs.WellFormed.{WellFormed}
 use Rattle.formed.proofs.Same.{tab-is, tab-upto}
 use Rattle.formed.proofs.Sizes.{chunks-long}
+use Rattle.bodies.specs.Words.{placeIn}
+use Rattle.bodies.proofs.WordBytes.{word-byte}
 use Rattle.reads.specs.Reading.{Put}
 use Rattle.reads.proofs.Puts.{put-by, put-on}
 
@@ -76,10 +78,12 @@ module _ (m : Mem) (f : WellFormed m) (p : ℕ) where
       pub part-none : slotCount (m .words) ≤ s → Put (λ i. 0) pos n o d → Put (λ i. byteAt m p (a + i)) pos n o d
       part-none l w = put-by (λ i. 0) pos o (λ i. byteAt m p (a + i)) n d (λ i h. byte-none (a / 256) s is l (a + i) (omega arith)) w
 
-  -- a word that lies in one chunk
-  pub word-held : (a s : ℕ) → a % 256 ≤ 224 → s ≡ slotOfChunk m p (a / 256) → s < slotCount (m .words)
-      → tab 32 (λ i. getD (m .bytes) (256 * s + a % 256 + i) 0) ≡ tab 32 (λ i. byteAt m p (a + i))
-  word-held a s r is l = tab-upto 32 (λ i. getD (m .bytes) (256 * s + a % 256 + i) 0) (λ i. byteAt m p (a + i)) (run-held a 32 s (omega arith) is l)
+  -- a word in the slots that hold its chunks
+  pub word-held : (a s t : ℕ) → a ≤ 4294967295 → s ≡ slotFor (m .keys) (m .words) p (a / 256) → t ≡ slotFor (m .keys) (m .words) p ((a + 31) / 256) → s < slotCount (m .words) → t < slotCount (m .words)
+      → tab 32 (λ i. getD (m .bytes) (placeIn s t (a % 256) i) 0) ≡ tab 32 (λ i. byteAt m p (a + i))
+  word-held a s t small first last ls lt =
+      tab-upto 32 (λ i. getD (m .bytes) (placeIn s t (a % 256) i) 0) (λ i. byteAt m p (a + i))
+      (word-byte m p a s t ls lt (sym (first ∙ slot-near m p (a / 256) (omega arith))) (sym (last ∙ slot-near m p ((a + 31) / 256) (omega arith))))
 
   -- the bytes from `start` on, part by part
   pub part-on : (start pos n : ℕ) (o d : List ℕ) → ((i : ℕ) → i < pos → getD o i 0 ≡ byteAt m p (start + i))

@@ -6,7 +6,7 @@ use mathlib.Core.List.{List, [], _∷_}
 use Prim.Native.Nat.{ℕ, _-_}
 use lib.Dec.{ltb, eqb}
 use lib.ListN.{length}
-use Rattle.outcome.specs.Outcome.{Outcome, refused, done, carriedOut, firstOf}
+use Rattle.outcome.specs.Outcome.{Outcome, refused, done, carriedOut, firstOf, mapped}
 use Rattle.word.specs.Value.{bigEndian}
 use Rattle.store.specs.Mem.{Mem}
 use Rattle.formed.specs.Formed.{zeros, wellFormed}
@@ -15,20 +15,20 @@ use Rattle.view.specs.View.{settingOf, viewOf}
 use Rattle.view.specs.Steps.{run, padded}
 use Rattle.view.specs.Checks.{onMemory, partialChecks, rangeChecks, lookupChecks}
 use Rattle.view.specs.Calls.{Call, Value, ReadWord, ReadPartial, ReadRange, ReadByte, DynamicLength, Lookup, LookupCheck, Snapshot, nothing, number, bytes, shown, outcomeOf, nextOf, answerOf, CallDoes}
-use Rattle.reads.specs.Calls.{valued, marked, RangeDoes}
+use Rattle.reads.specs.Calls.{marked, RangeDoes}
 
 module _ {A : Type 0} (f : A → Value) (m : Mem) (a : A) where
-  valued-plain : valued f (onMemory m [] a) ≡ firstOf ((not (wellFormed m), refused 3) ∷ []) (done (f a))
+  valued-plain : mapped f (onMemory m [] a) ≡ firstOf ((not (wellFormed m), refused 3) ∷ []) (done (f a))
   valued-plain = go (wellFormed m)
     where
-      go : (b : Bool) → valued f (cond (not b) (refused 3) (done a)) ≡ cond (not b) (refused 3) (done (f a))
+      go : (b : Bool) → mapped f (cond (not b) (refused 3) (done a)) ≡ cond (not b) (refused 3) (done (f a))
       go true = refl
       go false = refl
 
-  valued-check : (t : Bool) (n : ℕ) → valued f (onMemory m ((t, refused n) ∷ []) a) ≡ firstOf ((not (wellFormed m), refused 3) ∷ []) (firstOf ((t, refused n) ∷ []) (done (f a)))
+  valued-check : (t : Bool) (n : ℕ) → mapped f (onMemory m ((t, refused n) ∷ []) a) ≡ firstOf ((not (wellFormed m), refused 3) ∷ []) (firstOf ((t, refused n) ∷ []) (done (f a)))
   valued-check t n = go (wellFormed m) t
     where
-      go : (b c : Bool) → valued f (cond (not b) (refused 3) (cond c (refused n) (done a))) ≡ cond (not b) (refused 3) (cond c (refused n) (done (f a)))
+      go : (b c : Bool) → mapped f (cond (not b) (refused 3) (cond c (refused n) (done a))) ≡ cond (not b) (refused 3) (cond c (refused n) (done (f a)))
       go true true = refl
       go true false = refl
       go false c = refl
@@ -47,27 +47,27 @@ only-reads m c o same e = record {
 
 module _ (m : Mem) where
   module _ (p : ℕ) where
-    pub word-call : (a : ℕ) (t : Outcome ℕ) → t ≡ onMemory m [] (bigEndian (run (viewOf m) p a 32)) → CallDoes m (ReadWord p a) (valued number t) m
-    word-call a t e = only-reads m (ReadWord p a) (valued number t) refl (ap (valued number) e ∙ valued-plain number m (bigEndian (run (viewOf m) p a 32)))
+    pub word-call : (a : ℕ) (t : Outcome ℕ) → t ≡ onMemory m [] (bigEndian (run (viewOf m) p a 32)) → CallDoes m (ReadWord p a) (mapped number t) m
+    word-call a t e = only-reads m (ReadWord p a) (mapped number t) refl (ap (mapped number) e ∙ valued-plain number m (bigEndian (run (viewOf m) p a 32)))
 
-    pub byte-call : (a : ℕ) (t : Outcome ℕ) → t ≡ onMemory m [] (viewOf m .bytes p a) → CallDoes m (ReadByte p a) (valued number t) m
-    byte-call a t e = only-reads m (ReadByte p a) (valued number t) refl (ap (valued number) e ∙ valued-plain number m (viewOf m .bytes p a))
+    pub byte-call : (a : ℕ) (t : Outcome ℕ) → t ≡ onMemory m [] (viewOf m .bytes p a) → CallDoes m (ReadByte p a) (mapped number t) m
+    byte-call a t e = only-reads m (ReadByte p a) (mapped number t) refl (ap (mapped number) e ∙ valued-plain number m (viewOf m .bytes p a))
 
     module _ (x y : ℕ) where
-      pub partial-call : (t : Outcome ℕ) → t ≡ onMemory m (partialChecks x y) (bigEndian (padded (run (viewOf m) p x (y - x)))) → CallDoes m (ReadPartial p x y) (valued number t) m
+      pub partial-call : (t : Outcome ℕ) → t ≡ onMemory m (partialChecks x y) (bigEndian (padded (run (viewOf m) p x (y - x)))) → CallDoes m (ReadPartial p x y) (mapped number t) m
       partial-call t e =
-          only-reads m (ReadPartial p x y) (valued number t) refl
-          (ap (valued number) e ∙ valued-check number m (bigEndian (padded (run (viewOf m) p x (y - x)))) (ltb 32 (y - x)) 8)
+          only-reads m (ReadPartial p x y) (mapped number t) refl
+          (ap (mapped number) e ∙ valued-check number m (bigEndian (padded (run (viewOf m) p x (y - x)))) (ltb 32 (y - x)) 8)
 
       -- the output d is the value
       pub range-call : (l d : List ℕ) (t : Outcome (Unit {0})) → RangeDoes (onMemory m (rangeChecks x y (length l)) tt) t (run (viewOf m) p x (y - x)) l d
-          → CallDoes m (ReadRange p x y (length l)) (valued (λ _. bytes d) t) m
+          → CallDoes m (ReadRange p x y (length l)) (mapped (λ _. bytes d) t) m
       range-call l d t r =
-          only-reads m (ReadRange p x y (length l)) (valued (λ _. bytes d) t) refl
-          (ap (valued (λ _. bytes d)) (r .answer) ∙ go (wellFormed m) (not (eqb (length l) (y - x))) (r .read))
+          only-reads m (ReadRange p x y (length l)) (mapped (λ _. bytes d) t) refl
+          (ap (mapped (λ _. bytes d)) (r .answer) ∙ go (wellFormed m) (not (eqb (length l) (y - x))) (r .read))
         where
           go : (b c : Bool) → (carriedOut {A = Unit {0}} (cond (not b) (refused 3) (cond c (refused 8) (done tt))) ≡ true → d ≡ run (viewOf m) p x (y - x))
-              → valued (λ _. bytes d) (cond {A = Outcome (Unit {0})} (not b) (refused 3) (cond c (refused 8) (done tt))) ≡ cond (not b) (refused 3) (cond c (refused 8) (done (bytes (run (viewOf m) p x (y - x)))))
+              → mapped (λ _. bytes d) (cond {A = Outcome (Unit {0})} (not b) (refused 3) (cond c (refused 8) (done tt))) ≡ cond (not b) (refused 3) (cond c (refused 8) (done (bytes (run (viewOf m) p x (y - x)))))
           go true true h = refl
           go true false h = ap (λ (b : List ℕ). done (bytes b)) (h refl)
           go false c h = refl
@@ -80,11 +80,11 @@ module _ (m : Mem) where
           (ap (λ (b : List ℕ). done (bytes b)) (e ∙ ap (λ (b : Bool). cond b (shown (viewOf m) p k z) []) f)
           ∙ sym (ap (λ (b : Bool). cond (not b) (refused 3) (done (bytes (shown (viewOf m) p k z)))) f))
 
-      pub check-call : (t : Outcome (Unit {0})) → t ≡ onMemory m (lookupChecks z) tt → CallDoes m (LookupCheck p k z) (valued (λ _. nothing) t) m
-      check-call t e = only-reads m (LookupCheck p k z) (valued (λ _. nothing) t) refl (ap (valued (λ _. nothing)) e ∙ valued-check (λ _. nothing) m tt (not (eqb (length z) 256 && zeros z)) 8)
+      pub check-call : (t : Outcome (Unit {0})) → t ≡ onMemory m (lookupChecks z) tt → CallDoes m (LookupCheck p k z) (mapped (λ _. nothing) t) m
+      check-call t e = only-reads m (LookupCheck p k z) (mapped (λ _. nothing) t) refl (ap (mapped (λ _. nothing)) e ∙ valued-check (λ _. nothing) m tt (not (eqb (length z) 256 && zeros z)) 8)
 
-  pub length-call : (t : Outcome ℕ) → t ≡ onMemory m [] (viewOf m .dynamicLength) → CallDoes m DynamicLength (valued number t) m
-  length-call t e = only-reads m DynamicLength (valued number t) refl (ap (valued number) e ∙ valued-plain number m (viewOf m .dynamicLength))
+  pub length-call : (t : Outcome ℕ) → t ≡ onMemory m [] (viewOf m .dynamicLength) → CallDoes m DynamicLength (mapped number t) m
+  length-call t e = only-reads m DynamicLength (mapped number t) refl (ap (mapped number) e ∙ valued-plain number m (viewOf m .dynamicLength))
 
-  pub marks-call : (t : Outcome (ℕ × ℕ)) → t ≡ onMemory m [] (length (viewOf m .journal 0), length (viewOf m .journal 1)) → CallDoes m Snapshot (valued marked t) m
-  marks-call t e = only-reads m Snapshot (valued marked t) refl (ap (valued marked) e ∙ valued-plain marked m (length (viewOf m .journal 0), length (viewOf m .journal 1)))
+  pub marks-call : (t : Outcome (ℕ × ℕ)) → t ≡ onMemory m [] (length (viewOf m .journal 0), length (viewOf m .journal 1)) → CallDoes m Snapshot (mapped marked t) m
+  marks-call t e = only-reads m Snapshot (mapped marked t) refl (ap (mapped marked) e ∙ valued-plain marked m (length (viewOf m .journal 0), length (viewOf m .journal 1)))

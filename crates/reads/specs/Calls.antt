@@ -3,8 +3,8 @@
 use mathlib.Core.Path.{_≡_}
 use mathlib.Core.Bool.{true, false}
 use mathlib.Core.List.{List}
-use Prim.Native.Nat.{ℕ, zero, suc}
-use Rattle.outcome.specs.Outcome.{Outcome, refused, panicked, done, carriedOut}
+use Prim.Native.Nat.{ℕ}
+use Rattle.outcome.specs.Outcome.{Outcome, carriedOut, answered}
 use Rattle.word.specs.Value.{value}
 use Rattle.view.specs.Calls.{Value, lengths}
 use Rattle.reads.specs.declared.WordRead.{WordRead}
@@ -12,11 +12,7 @@ use Rattle.reads.specs.declared.ByteRead.{ByteRead}
 use Rattle.reads.specs.declared.LengthRead.{LengthRead}
 use Rattle.reads.specs.declared.Marks.{Marks}
 
--- a read gives a number of 01's table beside its value a; 0 is none, and says that it was carried out
-abbrev pub answered : {A : Type 0} → ℕ → A → Outcome A
-answered zero a = done a
-answered (suc n) a = refused (suc n)
-
+-- A read gives a number of 01's table beside its value; 0 is none, and says that it was carried out
 -- the number of the word
 abbrev pub told : WordRead → Outcome ℕ
 told r = answered (r .refusal) (value (r .word .limbs))
@@ -42,11 +38,6 @@ pub record RangeDoes {A : Type 0} (outcome told : Outcome A) (bytes o d : List �
   pub kept : carriedOut outcome ≡ false → d ≡ o
   pub read : carriedOut outcome ≡ true → d ≡ bytes
 
--- ---- the same outcomes among those of all calls, where a value is one of `Value`
-abbrev pub valued : {A : Type 0} → (A → Value) → Outcome A → Outcome Value
-valued f (refused n) = refused n
-valued f (panicked a) = panicked (f a)
-valued f (done a) = done (f a)
-
+-- the same, among the values of all calls
 abbrev pub marked : ℕ × ℕ → Value
 marked x = lengths (x .0) (x .1)

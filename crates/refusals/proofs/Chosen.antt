@@ -8,7 +8,7 @@ use native.Mathlib.Omega.{arith}
 use lib.Dec.{ltb}
 use lib.ListN.{length}
 use borrow.Author.Tests.{lt-ltb, le-ltb}
-use Rattle.outcome.specs.Outcome.{refused}
+use Rattle.outcome.specs.Outcome.{refused, numberOf}
 use Rattle.page_ids.specs.Decode.{Page, decoded}
 use Rattle.store.specs.Mem.{Mem, headLength}
 use Rattle.formed.specs.Pages.{isFixed, fixed}
@@ -17,9 +17,9 @@ use Rattle.formed.specs.WellFormed.{WellFormed}
 use Rattle.formed.proofs.Sizes.{narrow-test}
 use Rattle.view.specs.View.{View, Setting}
 use Rattle.view.specs.Steps.{touchedCount, alignedCount}
-use Rattle.view.specs.Checks.{Check, isNone, undecodable, room, onMemory, byteWriteChecks, allocateChecks}
+use Rattle.view.specs.Checks.{Check, isNone, undecodable, room, onMemory, byteWriteChecks, allocateChecks, roomFor}
 use Rattle.view.specs.Calls.{Value, nothing}
-use Rattle.room.specs.Refusals.{numberOf, number, roomFor}
+use Rattle.room.specs.Refusals.{number}
 use Rattle.room.proofs.Numbers.{first-holds, first-fails}
 
 -- ---- 3

@@ -9,7 +9,7 @@ use native.Mathlib.Omega.{arith}
 use lib.Dec.{ltb, eqb}
 use lib.ListN.{length}
 use borrow.Author.Tests.{lt-ltb, lt-leb, le-leb, ltb-false, eq-eqb}
-use Rattle.outcome.specs.Outcome.{refused, done, carriedOut, firstOf}
+use Rattle.outcome.specs.Outcome.{refused, done, carriedOut, firstOf, numberOf}
 use Rattle.index.proofs.Logic.{lt-or-ge}
 use Rattle.page_ids.specs.Decode.{Page, none, page, decoded}
 use Rattle.store.specs.Mem.{Mem}
@@ -22,7 +22,7 @@ use Rattle.view.specs.Steps.{needs, alignedCount}
 use Rattle.view.specs.Checks.{Check, isNone, undecodable, overfull, room, onMemory, wordWriteChecks, byteWriteChecks, allocateChecks}
 use Rattle.view.specs.Does.{Does, Shows}
 use Rattle.view.specs.Calls.{Value, nothing}
-use Rattle.room.specs.Refusals.{numberOf, number}
+use Rattle.room.specs.Refusals.{number}
 use Rattle.room.proofs.Numbers.{none-first, told-number}
 
 -- ---- a list of refusals

@@ -1,12 +1,13 @@
 // Which refusal a write or an allocation gets, or 0: the tests in the order of 01's table.
 ghost use mathlib.Core.Path.{_≡_};
+ghost use Rattle.outcome.specs.Outcome.{numberOf};
 ghost use Rattle.page_ids.specs.Decode.{pageOf, decoded};
 ghost use Rattle.store.specs.Mem.{mem, layoutOf};
 ghost use Rattle.formed.specs.WellFormed.{WellFormed};
 ghost use Rattle.view.specs.View.{settingOf, viewOf};
 ghost use Rattle.view.specs.Checks.{onMemory, wordWriteChecks, byteWriteChecks, allocateChecks};
 ghost use Rattle.view.specs.Calls.{nothing};
-ghost use Rattle.room.specs.Refusals.{numberOf, number};
+ghost use Rattle.room.specs.Refusals.{number};
 use page_ids::DecodedPage;
 use page_ids::PageId;
 

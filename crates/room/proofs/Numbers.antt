@@ -6,13 +6,13 @@ use mathlib.Core.List.{List, [], _∷_}
 use Prim.Native.Nat.{ℕ, suc}
 use native.Mathlib.Omega.{arith}
 use lib.Dec.{ltb, eqb}
-use Rattle.outcome.specs.Outcome.{Outcome, refused, panicked, done}
+use Rattle.outcome.specs.Outcome.{Outcome, refused, panicked, done, numberOf}
 use Rattle.formed.specs.Pages.{journalCount}
 use Rattle.view.specs.View.{View, Setting}
 use Rattle.view.specs.Steps.{missing}
-use Rattle.view.specs.Checks.{Check, overfull}
+use Rattle.view.specs.Checks.{Check, overfull, roomFor}
 use Rattle.view.specs.Calls.{Value}
-use Rattle.room.specs.Refusals.{numberOf, number, roomFor}
+use Rattle.room.specs.Refusals.{number}
 
 -- a check that holds gives its number; one that does not leaves it to the rest
 pub first-holds : (b : Bool) (n : ℕ) (rest : List (Check Value)) → b ≡ true → n ≡ number ((b, refused n) ∷ rest)

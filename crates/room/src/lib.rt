@@ -10,8 +10,8 @@ ghost use Rattle.formed.specs.Pages.{journalCount, isFixed};
 ghost use Rattle.formed.specs.WellFormed.{WellFormed};
 ghost use Rattle.view.specs.View.{settingOf, viewOf};
 ghost use Rattle.view.specs.Steps.{missing, touchedCount, alignedCount};
-ghost use Rattle.view.specs.Checks.{isNone, overfull};
-ghost use Rattle.room.specs.Refusals.{number, roomFor, lacksAt};
+ghost use Rattle.view.specs.Checks.{isNone, overfull, roomFor};
+ghost use Rattle.room.specs.Refusals.{number, lacksAt};
 use page_ids::DecodedPage;
 
 // How many chunks n bytes at an address touch.

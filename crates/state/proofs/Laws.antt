@@ -9,12 +9,12 @@ use native.Mathlib.Nat.{mod-eq-of-lt}
 use lib.Dec.{leb}
 use lib.ListN.{length, getD, drop}
 use lib.Seq.{drop-cons, drop-length}
-use Rattle.state.specs.Access.{newBound, used}
+use Rattle.state.specs.Access.{lastAddress, newBound, used}
 use Rattle.state.specs.Quote.{higher, highest}
 use Rattle.state.specs.declared.Gas.{Gas}
 
 -- the operand limit excludes a wrap
-pub no-wrap : (address : ℕ) → address ≤ 4294967263 → newBound address ≡ address + 32
+pub no-wrap : (address : ℕ) → address ≤ lastAddress → newBound address ≡ address + 32
 no-wrap address l = mod-eq-of-lt (omega arith)
 
 is-paid : (t : Bool) (x y : ℕ) → cond {A = Gas} t (record { left = x; paid = true }) (record { left = y; paid = false }) .paid ≡ t

@@ -1,6 +1,6 @@
 -- What an access pays: the one definition that loads, stores, `grow_heap` and the quote cite.
 -- Assumes nothing.
-use mathlib.Core.Bool.{true, false, cond}
+use mathlib.Core.Bool.{Bool, true, false, cond}
 use mathlib.Core.List.{[], _∷_}
 use Prim.Native.Nat.{ℕ, _+_, _-_, _%_, _^_}
 use lib.Dec.{leb}
@@ -12,6 +12,11 @@ use Rattle.state.specs.declared.Step.{Step}
 use Rattle.state.specs.declared.Area.{Area}
 use Rattle.state.specs.declared.Area.the-variants.{Heap, Aux}
 
+-- the last address to which 32 can be added within 32 bits: the operand limit of loads and stores, which the quote skips past
+-- (word/specs/Value.antt has it for words; neither crate stands on the other)
+abbrev pub lastAddress : ℕ
+lastAddress = 4294967263
+
 -- the new bound is the address plus 32, taken as a wrapping sum
 abbrev pub newBound : ℕ → ℕ
 newBound address = (address + 32) % 2 ^ 32
@@ -20,18 +25,20 @@ newBound address = (address + 32) % 2 ^ 32
 abbrev pub due : ℕ → ℕ → ℕ
 due bound new = new - bound
 
--- the gas after an amount is used; too little gas is emptied
-abbrev pub used : ℕ → ℕ → Gas
-used gas amount = cond (leb amount gas) (record { left = gas - amount; paid = true }) (record { left = 0; paid = false })
+-- an amount is paid from gas; too little gas is emptied. `tell` is given what is left and whether it was paid
+abbrev pub paying : {A : Type 0} → ℕ → ℕ → (ℕ → Bool → A) → A
+paying gas amount tell = cond (leb amount gas) (tell (gas - amount) true) (tell 0 false)
 
--- if the new bound exceeds the bound, the difference is paid from gas and the bound set; too little gas empties it and keeps the bound
+-- the gas after an amount is used
+abbrev pub used : ℕ → ℕ → Gas
+used gas amount = paying gas amount (λ left paid. record { left = left; paid = paid })
+
+-- if the new bound exceeds the bound, the difference is paid and the bound set; where gas is short the bound is kept
 abbrev pub grown : ℕ → ℕ → ℕ → Growth
 grown gas bound new =
     firstOf
-    ((leb new bound, record { gas = gas; bound = bound; paid = true })
-    ∷ (leb (due bound new) gas, record { gas = gas - due bound new; bound = new; paid = true })
-    ∷ [])
-    (record { gas = 0; bound = bound; paid = false })
+    ((leb new bound, record { gas = gas; bound = bound; paid = true }) ∷ [])
+    (paying gas (due bound new) (λ left paid. record { gas = left; bound = cond paid new bound; paid = paid }))
 
 -- the frame after it: its gas and the one bound alone change
 abbrev pub accessed : Frame → Area → ℕ → Step

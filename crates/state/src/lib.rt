@@ -125,3 +125,15 @@ pub fn grow_heap(frame: &mut Frame, area: Area, new: u32) -> bool
     *frame = after.frame;
     after.paid
 }
+
+// `grow_heap` for a caller that has the frame by value: a copy is lent to it, and given back.
+pub fn grow_frame(frame: Frame, area: Area, new: u32) -> Step
+    ensures { λ r. ⌜ r ≡ accessed frame area new ⌝ }
+{
+    let mut lent = frame;
+    let paid = grow_heap(&mut lent, area, new);
+    Step {
+        frame: lent,
+        paid: paid,
+    }
+}

@@ -1,21 +1,24 @@
 // The quote: what a list of accesses to one area would pay for its growth.
 ghost use mathlib.Core.Path.{_≡_};
 ghost use Rattle.state.specs.Quote.{higher, highest, told, quoted};
+use crate::new_bound;
+use page_ids::Address;
 
 pub enum Quoted {
     Refused(u32),
     Due(u32),
 }
 
-// The higher of an address's bound and `bound`.
+// The higher of the bound that an access at `address` asks for and `bound`.
 fn higher_of(address: u32, bound: u32) -> u32
     ensures { λ r. ⌜ r ≡ higher address bound ⌝ }
 {
     if address > 4294967263 {
         return bound;
     }
-    if bound < address + 32 {
-        return address + 32;
+    let new = new_bound(Address(address));
+    if bound < new {
+        return new;
     }
     bound
 }

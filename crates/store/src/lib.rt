@@ -1,7 +1,7 @@
 // Slots of chunks, in the lent buffers of a memory.
 ghost use mathlib.Core.Path.{_≡_};
 ghost use mathlib.Core.Bool.{true};
-ghost use Prim.Native.Nat.{ℕ, _+_, _*_, _<_, _≤_};
+ghost use Prim.Native.Nat.{ℕ, _+_, _*_, _/_, _<_, _≤_};
 ghost use lib.ListN.{length, getD, take, drop};
 ghost use Rattle.index.specs.Index.{seek, usedCount, freeCount};
 ghost use Rattle.store.specs.Find.{slotFor, Findable, Names, Learnt};
@@ -137,6 +137,42 @@ pub fn place_of(keys: &[u64], order: &[u32], words: &[u64], page: u32, chunk: u3
     }
     let e = entry_of(keys, order, words, page);
     slot_of(keys, order, words, e as u64 * 33554432 + chunk as u64 + 1)
+}
+
+// The slot of the last chunk of the word at an address, whose first chunk's slot is s, if a hint knows it, or the number of slots.
+pub fn hinted_last(
+    keys: &[u64],
+    order: &[u32],
+    words: &[u64],
+    page: u32,
+    address: u32,
+    s: usize,
+) -> usize
+    requires { ⌜ (Findable (now keys) (now order) (now words)) × (s ≡ slotFor (now keys) (now words) page (address / 256)) ⌝ }
+    ensures { λ r. ⌜ (r < slotCount (now (words .entry)) → r ≡ slotFor (now (keys .entry)) (now (words .entry)) page ((address + 31) / 256)) ⌝ }
+{
+    if address % 256 <= 224 {
+        return s;
+    }
+    hinted(keys, order, words, page, address / 256 + 1)
+}
+
+// The same, by search where no hint knows it.
+pub fn place_of_last(
+    keys: &[u64],
+    order: &[u32],
+    words: &[u64],
+    page: u32,
+    address: u32,
+    s: usize,
+) -> usize
+    requires { ⌜ (Findable (now keys) (now order) (now words)) × (s ≡ slotFor (now keys) (now words) page (address / 256)) ⌝ }
+    ensures { λ r. ⌜ r ≡ slotFor (now (keys .entry)) (now (words .entry)) page ((address + 31) / 256) ⌝ }
+{
+    if address % 256 <= 224 {
+        return s;
+    }
+    place_of(keys, order, words, page, address / 256 + 1)
 }
 
 // Notes where a chunk of a page was found, for the next search.

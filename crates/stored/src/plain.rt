@@ -123,9 +123,9 @@ pub fn frame(gas: u32, heap: u32, aux: u32, heap_bound: u32, aux_bound: u32) -> 
     }
 }
 
-// Pays for a bound. The library's `grow_heap` does this to a frame that it is lent.
+// Pays for a bound, by the library's `grow_heap` on a frame that it is lent.
 fn grow(before: Frame, area: Area, new: u32) -> Got {
-    let step = state::access(before, area, new);
+    let step = state::grow_frame(before, area, new);
     let frame = step.frame;
     four(
         told(step.paid),

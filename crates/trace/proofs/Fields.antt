@@ -2,14 +2,14 @@
 -- Assumes nothing.
 use mathlib.Core.Path.{_≡_, refl, sym, ap, _∙_}
 use mathlib.Core.Logic.{_⊎_, inl, inr, ⊎-elim}
-use mathlib.Core.Bool.{Bool, true, false, cond, _&&_}
+use mathlib.Core.Bool.{Bool, true, false, cond, _&&_, and-false}
 use mathlib.Core.List.{List, [], _∷_}
-use Prim.Native.Nat.{ℕ, zero, suc, _+_, _-_, _≤_, _<_, zero-le, suc-le-suc}
+use Prim.Native.Nat.{ℕ, suc, _+_, _-_, _≤_, _<_, zero-le, suc-le-suc}
 use native.Mathlib.Decide.{ℕ-discrete, decLt}
 use native.Mathlib.Nat.{le-of-suc-le-suc, lt-of-not-le}
 use native.Mathlib.Numerals.{add-one}
 use native.Mathlib.Omega.{arith}
-use lib.Dec.{eqb, leb, leb·suc-suc, eqb·suc-suc}
+use lib.Dec.{eqb, leb, leb·suc-suc}
 use lib.ListN.{length, getD, take, drop, length-drop}
 use lib.Seq.{drop-cons, drop-drop, drop-length}
 use borrow.Author.Tests.{eq-eqb, ne-eqb, le-leb, lt-leb}
@@ -120,20 +120,12 @@ field-at s at l =
 pub from-past : (s : List ℕ) (at : ℕ) → length s < at → fieldsFrom s at ≡ []
 from-past s at l = rw (lt-leb at (length s) l)
 
--- a field ends within its line
-pub space-within : (s : List ℕ) (at : ℕ) → at ≤ length s → at + spaceAt (drop at s) ≤ length s
-space-within s at l = omega (arith, space-le (drop at s), length-drop at s)
-
 -- ---- the same bytes
 pub same-lengths : (a b : List ℕ) → (length a ≡ length b → ⊥) → false ≡ same a b
 same-lengths [] [] n = absurd (n refl)
 same-lengths [] (c ∷ cs) n = refl
 same-lengths (b ∷ bs) [] n = refl
 same-lengths (b ∷ bs) (c ∷ cs) n = rw (sym (same-lengths bs cs (λ e. n (ap suc e)))) (sym (and-false (eqb b c)))
-  where
-    and-false : (t : Bool) → (t && false) ≡ false
-    and-false true = refl
-    and-false false = refl
 
 same-cons : (a b : List ℕ) (i : ℕ) → i < length a → i < length b → same (drop i a) (drop i b) ≡ (eqb (getD a i 0) (getD b i 0) && same (drop (suc i) a) (drop (suc i) b))
 same-cons a b i l m = rw (drop-cons a i 0 l, drop-cons b i 0 m)

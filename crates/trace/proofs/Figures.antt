@@ -1,17 +1,17 @@
 -- Digits and numbers, one byte after the other.
 -- Assumes nothing.
-use mathlib.Core.Path.{_≡_, refl, sym, ap, _∙_}
-use mathlib.Core.Bool.{Bool, true, false, cond, not, _&&_}
+use mathlib.Core.Path.{_≡_, refl}
+use mathlib.Core.Bool.{true, false, not, and-false}
 use mathlib.Core.List.{List, [], _∷_}
-use mathlib.Core.Option.{Option, none, some}
-use Prim.Native.Nat.{ℕ, zero, suc, _+_, _*_, _-_, _≤_, _<_, _^_}
+use mathlib.Core.Option.{none, some}
+use Prim.Native.Nat.{ℕ, _+_, _*_, _-_, _≤_, _<_, _^_}
 use native.Mathlib.Nat.{le-refl, le-trans, pow-suc, pow-le-pow-right, lt-of-lt-of-le}
 use native.Mathlib.Numerals.{add-one}
 use native.Mathlib.Omega.{arith}
-use lib.Dec.{eqb, leb, ltb}
+use lib.Dec.{eqb}
 use lib.ListN.{length, getD, drop}
 use lib.Seq.{drop-cons, drop-length}
-use borrow.Author.Tests.{lt-ltb, le-ltb, le-leb, lt-leb, eq-eqb, ne-eqb}
+use borrow.Author.Tests.{lt-ltb, le-ltb, le-leb, lt-leb}
 use Rattle.trace.specs.Language.{digit, digital, numberAfter, numberOf, ledWell, decimal, hexadecimal}
 
 -- ---- a digit
@@ -85,21 +85,17 @@ led-more (b ∷ []) n m = absurd (m refl)
 led-more (b ∷ c ∷ bs) n m = refl
 
 -- ---- fields as numbers
-and-no-right : (t : Bool) → (t && false) ≡ false
-and-no-right true = refl
-and-no-right false = refl
-
 pub decimal-led : (f : List ℕ) → ledWell f ≡ false → none ≡ decimal f
 unfolding decimal
 decimal-led f e = rw e
 
 pub decimal-digit : (f : List ℕ) → digital 10 f ≡ false → none ≡ decimal f
 unfolding decimal
-decimal-digit f e = rw (e, and-no-right (ledWell f))
+decimal-digit f e = rw (e, and-false (ledWell f))
 
 pub decimal-wide : (f : List ℕ) → 4294967295 < numberOf 10 f → none ≡ decimal f
 unfolding decimal
-decimal-wide f l = rw (lt-leb (numberOf 10 f) 4294967295 l, and-no-right (digital 10 f), and-no-right (ledWell f))
+decimal-wide f l = rw (lt-leb (numberOf 10 f) 4294967295 l, and-false (digital 10 f), and-false (ledWell f))
 
 pub decimal-is : (f : List ℕ) (n : ℕ) → ledWell f ≡ true → digital 10 f ≡ true → numberOf 10 f ≡ n → n ≤ 4294967295 → some n ≡ decimal f
 unfolding decimal
@@ -111,11 +107,11 @@ hexadecimal-led f e = rw e
 
 pub hexadecimal-digit : (f : List ℕ) → digital 16 f ≡ false → none ≡ hexadecimal f
 unfolding hexadecimal
-hexadecimal-digit f e = rw (e, and-no-right (ledWell f))
+hexadecimal-digit f e = rw (e, and-false (ledWell f))
 
 pub hexadecimal-long : (f : List ℕ) → 64 < length f → none ≡ hexadecimal f
 unfolding hexadecimal
-hexadecimal-long f l = rw (lt-leb (length f) 64 l, and-no-right (digital 16 f), and-no-right (ledWell f))
+hexadecimal-long f l = rw (lt-leb (length f) 64 l, and-false (digital 16 f), and-false (ledWell f))
 
 pub hexadecimal-is : (f : List ℕ) (n : ℕ) → ledWell f ≡ true → digital 16 f ≡ true → numberOf 16 f ≡ n → length f ≤ 64 → some n ≡ hexadecimal f
 unfolding hexadecimal

@@ -4,16 +4,16 @@ use mathlib.Core.Path.{_≡_, refl, sym, ap, _∙_}
 use mathlib.Core.Bool.{Bool, true, false}
 use mathlib.Core.List.{List, [], _∷_, _++_, append-assoc}
 use mathlib.Core.Option.{Option, none, some}
-use Prim.Native.Nat.{ℕ, zero, suc, _+_, _-_, _≤_, _<_}
+use Prim.Native.Nat.{ℕ, suc, _+_, _-_, _≤_, _<_}
 use native.Mathlib.Numerals.{add-one}
 use native.Mathlib.Omega.{arith}
-use lib.ListN.{length, getD, take, drop, set, replicate, length-take, length-drop, List·getD-eq-default, List·getD-append}
-use lib.Seq.{take-suc-set, getD-take, take-all, length-take-le, getD-at, getD-append-add}
+use lib.ListN.{length, getD, take, drop, set, replicate, length-drop, List·getD-eq-default, List·getD-append}
+use lib.Seq.{take-suc-set, getD-take, take-all, length-take-le, getD-at}
 use Rattle.trace.specs.declared.Kind.{Kind}
 use Rattle.trace.specs.declared.Kind.the-variants.{Unread, Open, Write, Read, Snapshot, Rollback}
-use Rattle.trace.specs.Language.{Line, unread, writes, decimal, hexadecimal, same, kindOf, numbers, also, lineOf, lineIf, commandLine, formOf, lineOfFields, meaning}
+use Rattle.trace.specs.Language.{unread, writes, decimal, hexadecimal, same, kindOf, numbers, also, lineOf, lineIf, commandLine, formOf, lineOfFields, meaning}
 use Rattle.trace.specs.Reading.{spaceAt, fieldsFrom, ahead, numberIf, countOf, afterOf}
-use Rattle.trace.proofs.Fields.{field-at, first-field, from-past, space-le}
+use Rattle.trace.proofs.Fields.{field-at, first-field, from-past}
 
 abbrev Form : Type 0
 Form = List ℕ → Option ℕ

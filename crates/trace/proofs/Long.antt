@@ -2,21 +2,20 @@
 -- Assumes nothing.
 use mathlib.Core.Path.{_≡_, refl, sym, ap, _∙_}
 use mathlib.Core.Logic.{⊎-elim}
-use mathlib.Core.Bool.{Bool, true, false, not, _&&_}
+use mathlib.Core.Bool.{false}
 use mathlib.Core.List.{List, [], _∷_}
 use mathlib.Core.Option.{Option, none, some}
-use Prim.Native.Nat.{ℕ, zero, suc, _+_, _*_, _-_, _≤_, _<_, _^_}
-use native.Mathlib.Nat.{le-refl, le-trans, lt-of-lt-of-le, pow-succ', pow-le-pow-right, mul-le-mul-right, mul-assoc}
+use Prim.Native.Nat.{ℕ, _+_, _*_, _≤_, _<_, _^_}
+use native.Mathlib.Nat.{le-trans, pow-succ', pow-le-pow-right, mul-le-mul-right, mul-assoc}
 use native.Mathlib.Omega.{arith}
-use lib.Dec.{eqb, leb, ltb}
 use lib.ListN.{length, take}
 use lib.Seq.{take-all, length-take-le}
-use borrow.Author.Tests.{eq-eqb, ne-eqb, lt-ltb, le-ltb, ltb-true}
+use borrow.Author.Tests.{eq-eqb, ne-eqb}
 use Rattle.trace.specs.declared.Kind.{Kind}
 use Rattle.trace.specs.declared.Kind.the-variants.{Unread, Open, Write, Read, Snapshot, Rollback}
-use Rattle.trace.specs.Language.{Line, unread, fields, onFirst, digit, digital, numberAfter, numberOf, ledWell, decimal, hexadecimal, same, kindOf, formOf, also, numbers, lineOf, lineIf, lineOfFields, meaning}
-use Rattle.trace.proofs.Fields.{same-or-not, lt-or-ge, same-lengths, first-field}
-use Rattle.trace.proofs.Figures.{decimal-led, decimal-digit, decimal-wide, hexadecimal-long, digit-low, digit-figure, digit-gap, digit-letter, digit-high}
+use Rattle.trace.specs.Language.{unread, fields, onFirst, digit, numberAfter, numberOf, ledWell, decimal, hexadecimal, kindOf, formOf, numbers, lineIf, lineOfFields, meaning}
+use Rattle.trace.proofs.Fields.{same-or-not, lt-or-ge, same-lengths}
+use Rattle.trace.proofs.Figures.{decimal-led, decimal-wide, hexadecimal-long, digit-low, digit-figure, digit-gap, digit-letter, digit-high}
 use Rattle.trace.proofs.Lines.{kind-none, also-none}
 
 -- ---- a decimal has ten digits at most

@@ -8,8 +8,8 @@ use mathlib.Core.List.{List, [], _∷_, _++_, append-assoc}
 use Prim.Native.Nat.{ℕ, zero, suc, _+_, _*_, _-_, _/_, _%_, _≤_, _<_, _^_, zero-le}
 use native.Mathlib.Numerals.{add-one}
 use native.Mathlib.Omega.{arith}
-use lib.ListN.{length, getD, take, drop, set, length-append, length-drop, length-take}
-use lib.Seq.{drop-cons, drop-set-lt, getD-set-same, drop-length, take-suc, take-suc-set, take-length, take-all}
+use lib.ListN.{length, getD, take, drop, set, length-append, length-drop}
+use lib.Seq.{drop-length, take-suc, take-suc-set, take-length, take-all}
 use borrow.Author.Tests.{lt-ltb, le-ltb, ne-eqb}
 use Rattle.word.specs.Value.{limbsValue}
 use Rattle.trace.specs.Text.{glyph, numeral, decimalText, Told, unread, done, word, marks, refused, textOf, Wrote}
@@ -126,9 +126,6 @@ not-zero v l = sym (ne-eqb v 0 (λ e. omega arith))
 -- the part of a text from a place on
 pub part-text : (text t : List ℕ) (from : ℕ) → length text ≡ 64 → drop from text ≡ t → take (64 - from) (drop from text) ≡ t
 part-text text t from e q = take-all (64 - from) (drop from text) (omega (arith, length-drop from text)) ∙ q
-
-pub part-short : (text t : List ℕ) (from : ℕ) → length t ≤ 64 → drop from text ≡ t → length (take (64 - from) (drop from text)) ≤ 64
-part-short text t from l q = omega (arith, length-take (64 - from) (drop from text), ap length q)
 
 pub put-start : (o : List ℕ) (at : ℕ) → take (at + 0) o ≡ take at o ++ []
 put-start o at = let z : at + 0 ≡ at = omega arith in rw (z, append-nil (take at o))

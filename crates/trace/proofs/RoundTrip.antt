@@ -1,15 +1,14 @@
 -- A number that is written is read back.
 -- Assumes nothing.
-use mathlib.Core.Path.{_≡_, refl, sym, ap, _∙_, subst}
-use mathlib.Core.Logic.{⊎-elim, _↔_}
+use mathlib.Core.Path.{_≡_, refl, sym, ap, _∙_}
+use mathlib.Core.Logic.{⊎-elim}
 use mathlib.Core.Bool.{Bool, true, false, _&&_, false≢true}
 use mathlib.Core.List.{List, [], _∷_, _++_}
 use mathlib.Core.Option.{some}
 use Prim.Native.Nat.{ℕ, zero, suc, _+_, _*_, _-_, _/_, _%_, _≤_, _<_, _^_}
-use native.Mathlib.Nat.{zero-mul, pow-zero, pow-suc, div-lt-iff-lt-mul, div-add-mod', mod-lt, lt-of-lt-of-le, lt-of-le-of-lt}
+use native.Mathlib.Nat.{zero-mul, pow-zero, pow-suc, div-lt-iff-lt-mul, div-add-mod', mod-lt, lt-of-le-of-lt}
 use native.Mathlib.Omega.{arith}
-use lib.Dec.{eqb, ltb, lit<}
-use lib.ListN.{length}
+use lib.Dec.{ltb, lit<}
 use borrow.Author.Tests.{lt-ltb, ne-eqb}
 use Rattle.trace.specs.Language.{digit, digital, numberAfter, numberOf, ledWell, decimal, hexadecimal}
 use Rattle.trace.specs.Text.{glyph, numeral, decimalText, hexadecimalText}

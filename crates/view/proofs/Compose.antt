@@ -1,7 +1,7 @@
 -- A write is made of the inner steps: the page is allocated, its chunks held, the words journalled, the bytes put.
 -- Assumes nothing.
 use mathlib.Core.Path.{_≡_, refl, sym, ap, _∙_}
-use mathlib.Core.Bool.{Bool, true, false, cond, _&&_}
+use mathlib.Core.Bool.{Bool, true, false, cond, _&&_, and-false}
 use mathlib.Core.List.{List, [], _++_, append-nil}
 use mathlib.Core.Logic.{⊎-elim}
 use Prim.Native.Nat.{ℕ, zero, suc, _+_, _-_, _/_, _<_, _≤_, zero-le}
@@ -17,10 +17,6 @@ use Rattle.view.specs.View.{View}
 use Rattle.view.specs.Steps.{over, touches, touchedCount, missing, journalled, written}
 use Rattle.view.specs.Inner.{holding, noting, journalling, putting}
 use Rattle.view.proofs.Equal.{view-by}
-
-and-none : (b : Bool) → (b && false) ≡ false
-and-none true = refl
-and-none false = refl
 
 -- no bytes touch no chunk
 untouched : (k : ℕ) → touches 0 0 k ≡ false
@@ -52,7 +48,7 @@ module _ (l : Layout) (p : ℕ) (v : View) where
   listed = written l p 0 [] [] v
 
   pub listed-held : (q k : ℕ) → listed .held q k ≡ v .held q k
-  listed-held q k = rw (untouched k, and-none (eqb q p)) refl
+  listed-held q k = rw (untouched k, and-false (eqb q p)) refl
 
   pub listed-pool : listed .pool ≡ v .pool
   unfolding missing

@@ -10,7 +10,7 @@ use Rattle.store.specs.Find.{Learnt}
 use Rattle.formed.specs.Pages.{journalCount}
 use Rattle.formed.specs.Parts.{Note, slotOfChunk, holds, allocated, byteAt, journal}
 use Rattle.formed.proofs.Hints.{learnt-formed}
-use Rattle.view.specs.View.{View, Setting, settingOf, viewOf}
+use Rattle.view.specs.View.{View, Setting, viewOf}
 use Rattle.view.specs.Does.{Shows}
 use Rattle.view.proofs.Equal.{view-by}
 

@@ -1,7 +1,7 @@
 -- The calls, with their arguments and without the lent memory; what each answers, what it does to the view, and the contract that all of them share.
 -- Assumes nothing.
-use mathlib.Core.Bool.{Bool, cond, not, _&&_}
-use mathlib.Core.List.{List, [], _∷_}
+use mathlib.Core.Bool.{Bool, cond, _&&_}
+use mathlib.Core.List.{List, []}
 use Prim.Native.Nat.{ℕ, _*_, _-_}
 use lib.Dec.{eqb}
 use lib.ListN.{length}
@@ -12,11 +12,11 @@ use Rattle.outcome.specs.declared.Answer.the-variants.{Done, Refused}
 use Rattle.state.specs.declared.Frame.{Frame}
 use Rattle.state.specs.declared.Area.{Area}
 use Rattle.store.specs.Mem.{Mem, layoutOf}
-use Rattle.formed.specs.Formed.{zeros, wellFormed}
+use Rattle.formed.specs.Formed.{zeros}
 use Rattle.view.specs.View.{View, Setting, settingOf, viewOf}
 use Rattle.view.specs.Steps.{run, padded, wordWritten, bytesWritten, contentsAllocated, freed, windowed, truncated, alike, marks, rolledBack, forgotten, opened}
 use Rattle.view.specs.Does.{Does}
-use Rattle.view.specs.Checks.{wordWriteChecks, byteWriteChecks, allocateChecks, partialChecks, rangeChecks, lookupChecks, freeChecks, truncateChecks, compareChecks, rollbackChecks, openingChecks, lengthsRight, bytesLength, keysLength, orderLength, wordsLength}
+use Rattle.view.specs.Checks.{ifFormed, wordWriteChecks, byteWriteChecks, allocateChecks, partialChecks, rangeChecks, lookupChecks, freeChecks, truncateChecks, compareChecks, rollbackChecks, openingChecks, lengthsRight, bytesLength, keysLength, orderLength, wordsLength}
 use Rattle.view.specs.Instructions.{Operand, Hook, Given, heapOf, staticOf, accessChecks, loaded, storeChecks, stored, pointerChecks, pointed, staticChecks, staticLoaded, staticStoreChecks, staticStored}
 
 pub data Call : Type 0 where
@@ -133,9 +133,8 @@ nextOf s (LoadStatic f x) v = v
 nextOf s (StoreStatic f x n) v = wordWritten (s .layout) (staticOf (s .layout)) (x .word) (wordBytes n) v
 
 -- ---- THE CONTRACT
--- 3 is tested first by every call that is lent a memory
 abbrev pub answerOf : Mem → Call → Outcome Value
-answerOf m c = firstOf ((not (wellFormed m), refused 3) ∷ []) (outcomeOf (settingOf m) c (viewOf m))
+answerOf m c = ifFormed m (outcomeOf (settingOf m) c (viewOf m))
 
 -- call c on the buffers m has the outcome o and leaves the buffers m'
 abbrev pub CallDoes : Mem → Call → Outcome Value → Mem → Type 0
@@ -143,7 +142,7 @@ CallDoes m c o m' = Does m (answerOf m c) (settingOf m) (nextOf (settingOf m) c 
 
 -- a comparison of two memories, neither of which has to be well formed
 abbrev pub comparisonOf : Mem → Mem → Outcome Value
-comparisonOf m n = firstOf ((not (wellFormed m), refused 3) ∷ compareChecks (layoutOf (m .words)) n) (done (verdict (alike (viewOf m) (viewOf n))))
+comparisonOf m n = ifFormed m (firstOf (compareChecks (layoutOf (m .words)) n) (done (verdict (alike (viewOf m) (viewOf n)))))
 
 -- an opening, on any buffers
 abbrev pub OpenDoes : Mem → Setting → List ℕ → Outcome Value → Mem → Type 0

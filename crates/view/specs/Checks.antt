@@ -2,25 +2,29 @@
 -- Assumes nothing.
 use mathlib.Core.Bool.{Bool, true, false, not, _&&_, _||_}
 use mathlib.Core.List.{List, [], _∷_}
-use Prim.Native.Nat.{ℕ, zero, suc, _+_, _*_, _-_, _^_}
+use Prim.Native.Nat.{ℕ, zero, suc, _+_, _-_, _/_, _^_}
 use lib.Dec.{ltb, leb, eqb}
 use lib.ListN.{length}
 use Rattle.outcome.specs.Outcome.{Outcome, refused, done, firstOf}
 use Rattle.page_ids.specs.Decode.{Page, none, page, badLayout, decoded}
 use Rattle.page_ids.specs.declared.Layout.{Layout}
-use Rattle.store.specs.Mem.{Mem, headLength, layoutOf}
+use Rattle.store.specs.Mem.{Mem, layoutOf}
 use Rattle.formed.specs.Pages.{fixed, journalCount}
+use Rattle.formed.specs.Buffers.{bytesFor, keysFor, orderFor, wordsFor}
 use Rattle.formed.specs.Formed.{wellFormed, zeros}
 use Rattle.view.specs.View.{View, Setting}
-use Rattle.view.specs.Steps.{needs, touchedCount, alignedCount, journalled}
+use Rattle.view.specs.Steps.{missing, touchedCount, alignedCount, journalled}
 
 -- a condition and the refusal that it means
 abbrev pub Check : Type 0 → Type 0
 Check A = Bool × Outcome A
 
--- 3: the lent memory is not well formed; every later call lent a memory tests it first
+-- 3: the lent memory is not well formed; every later call lent a memory tests it first, and has the outcome o where it is
+abbrev pub ifFormed : {A : Type 0} → Mem → Outcome A → Outcome A
+ifFormed m o = firstOf ((not (wellFormed m), refused 3) ∷ []) o
+
 abbrev pub onMemory : {A : Type 0} → Mem → List (Check A) → A → Outcome A
-onMemory m checks a = firstOf ((not (wellFormed m), refused 3) ∷ checks) (done a)
+onMemory m checks a = ifFormed m (firstOf checks (done a))
 
 -- 4: the page is undecodable
 abbrev pub isNone : Page → Bool
@@ -35,13 +39,17 @@ unfoldable pub overfull : Setting → View → ℕ → ℕ → ℕ → Bool
 overfull s v p w zero = false
 overfull s v p w (suc n) = (journalled (s .layout) p n && ltb (s .room) (length (v .journal n) + w)) || overfull s v p w n
 
--- 9, 10, 11: room for n bytes at address a of page p, and for w journal words
-abbrev pub room : {A : Type 0} → Setting → View → ℕ → ℕ → ℕ → ℕ → List (Check A)
-room s v p a n w =
+-- 9, 10, 11: room for `count` chunks of page p from number k on, and for w journal words
+abbrev pub roomFor : {A : Type 0} → Setting → View → ℕ → ℕ → ℕ → ℕ → List (Check A)
+roomFor s v p k count w =
     (not (v .allocated p) && eqb (v .entries) 0, refused 9)
-    ∷ (ltb (v .pool) (needs v p a n), refused 10)
+    ∷ (ltb (v .pool) (missing (v .held p) k count), refused 10)
     ∷ (overfull s v p w journalCount, refused 11)
     ∷ []
+
+-- for n bytes at address a
+abbrev pub room : {A : Type 0} → Setting → View → ℕ → ℕ → ℕ → ℕ → List (Check A)
+room s v p a n w = roomFor s v p (a / 256) (touchedCount a n) w
 
 abbrev pub wordWriteChecks : {A : Type 0} → Setting → View → ℕ → ℕ → List (Check A)
 wordWriteChecks s v p a = (undecodable s p, refused 4) ∷ room s v p a 32 1
@@ -96,18 +104,18 @@ compareChecks l other = (not (wellFormed other), refused 3) ∷ (not (sameLayout
 abbrev pub countsRight : Setting → Bool
 countsRight s = (leb 1 (s .chunks) && leb (s .chunks) 65536) && ((leb 1 (s .pages) && leb (s .pages) 4096) && leb (s .room) 65536)
 
--- the lengths of docs/BUFFERS.md
+-- the lengths that they ask for
 abbrev pub bytesLength : Setting → ℕ
-bytesLength s = 256 * s .chunks + 32 * journalCount * s .room
+bytesLength s = bytesFor (s .chunks) (s .room)
 
 abbrev pub keysLength : Setting → ℕ
-keysLength s = s .chunks + s .pages + 4
+keysLength s = keysFor (s .chunks) (s .pages)
 
 abbrev pub orderLength : Setting → ℕ
-orderLength s = 3 * s .chunks + s .pages + 4
+orderLength s = orderFor (s .chunks) (s .pages)
 
 abbrev pub wordsLength : Setting → ℕ
-wordsLength s = headLength + 3 * journalCount * s .room
+wordsLength s = wordsFor (s .room)
 
 -- the lent buffers have these lengths
 abbrev pub lengthsRight : Setting → Mem → Bool

@@ -1,15 +1,14 @@
 -- The round trips. A word's number fixes its limbs, and a number of 32 bytes fixes the bytes: so
 -- `from_big_endian (to_big_endian w)` is w, and `to_big_endian (from_big_endian b)` is b.
 -- Assumes nothing.
-use mathlib.Core.Path.{_≡_, refl, sym, _∙_, subst}
+use mathlib.Core.Path.{_≡_, sym, _∙_, subst}
 use mathlib.Core.List.{List}
-use mathlib.Core.Logic.{_⊎_, ⊎-elim}
-use Prim.Native.Nat.{ℕ, zero, suc, _+_, _*_, _%_, _<_, _≤_, _^_}
+use mathlib.Core.Logic.{⊎-elim}
+use Prim.Native.Nat.{ℕ, zero, suc, _+_, _*_, _<_, _^_}
 use native.Mathlib.Omega.{arith}
-use native.Mathlib.Nat.{not-suc-le-zero, mod-eq-of-lt, lt-of-lt-of-le}
+use native.Mathlib.Nat.{not-suc-le-zero}
 use lib.ListN.{length, getD}
-use borrow.Author.Tests.{ltb-true}
-use Rattle.word.specs.Value.{value, bytesAt, bigEndian, lastAddress}
+use Rattle.word.specs.Value.{value, bytesAt, bigEndian}
 use Rattle.word.proofs.Digits.{Small, last?, same}
 
 limb : (a h b k : ℕ) → a < 2 ^ 64 → b < 2 ^ 64 → a + 2 ^ 64 * h ≡ b + 2 ^ 64 * k → (a ≡ b) × (h ≡ k)
@@ -63,10 +62,3 @@ limbs-again l b m j k f g to from = limbs-same m l k j g f (from ∙ to)
 pub bytes-again : (b l c : List ℕ) → length b ≡ 32 → length c ≡ 32 → Small b → Small c
     → value l ≡ bigEndian b → bigEndian c ≡ value l → c ≡ b
 bytes-again b l c j k f g from to = bytes-same c b k j g f (to ∙ from)
-
-small : (v : ℕ) → v ≤ lastAddress → v + 32 < 2 ^ 32
-small v l = omega arith
-
--- the incremented operand of an accepted access does not wrap
-pub plus-32-small : (l m : List ℕ) → value l ≤ lastAddress → value m ≡ (value l + 32) % 2 ^ 256 → value m ≡ value l + 32
-plus-32-small l m k e = e ∙ mod-eq-of-lt (lt-of-lt-of-le (small (value l) k) (ltb-true 4294967295 (2 ^ 256) refl))

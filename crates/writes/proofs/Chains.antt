@@ -246,24 +246,23 @@ module _ (m : Mem) (p a : ℕ) (bs : List ℕ) (w k : ℕ) (c : Cleared m p a (l
   plain-done notes n m₄ put = shows-view (shows-then (putting p a bs) now put) (plain-write (layoutOf (m .words)) p (viewOf m) a bs notes n)
 
   -- a page that may have one
-  module _ (notes : View → List Note) (same : (v w : View) → ((b : ℕ) → v .bytes p b ≡ w .bytes p b) → notes v ≡ notes w)
-      (m₃ : Mem) (noted : Shows (settingOf m₂) (journalling (layoutOf (m₂ .words)) p (notes (viewOf m₂)) (viewOf m₂)) m₃) where
-    pub put-asks : PutAsks m₃ p a (length bs)
-    put-asks = record { formed = noted .formed; held = λ x l. ap (λ (v : View). v .held p ((a + x) / 256)) (noted .view) ∙ held x l; top = c .end }
+  module _ (notes : View → List Note) (same : (v w : View) → ((b : ℕ) → v .bytes p b ≡ w .bytes p b) → notes v ≡ notes w) where
+    pub put-asks : (m₃ : Mem) → Shows (settingOf m₂) (journalling (layoutOf (m₂ .words)) p (notes (viewOf m₂)) (viewOf m₂)) m₃ → PutAsks m₃ p a (length bs)
+    put-asks m₃ noted = record { formed = noted .formed; held = λ x l. ap (λ (v : View). v .held p ((a + x) / 256)) (noted .view) ∙ held x l; top = c .end }
 
-    pub write-done : (m₄ : Mem) → Shows (settingOf m₃) (putting p a bs (viewOf m₃)) m₄ → Shows (settingOf m) (written (layoutOf (m .words)) p a bs (notes (viewOf m)) (viewOf m)) m₄
+    pub write-done : (m₄ : Mem) → Shows (settingOf m₂) (putting p a bs (journalling (layoutOf (m₂ .words)) p (notes (viewOf m₂)) (viewOf m₂))) m₄ → Shows (settingOf m) (written (layoutOf (m .words)) p a bs (notes (viewOf m)) (viewOf m)) m₄
     write-done m₄ put =
         let L = layoutOf (m .words) in
         let H : View = holding p (a / 256) (touchedCount a (length bs)) (listing m p) in
         let e : layoutOf (m₂ .words) ≡ L = ap (λ (s : Setting). s .layout) (now .setting) in
         let q : notes (viewOf m₂) ≡ notes (viewOf m) = ap notes (now .view) ∙ same H (viewOf m) (λ b. over-none p 0 (viewOf m .bytes) p b) in
-        let n₃ : Shows (settingOf m) (journalling L p (notes (viewOf m)) H) m₃ =
+        let v : journalling (layoutOf (m₂ .words)) p (notes (viewOf m₂)) (viewOf m₂) ≡ journalling L p (notes (viewOf m)) H =
+        ap (λ (t : Layout). journalling t p (notes (viewOf m₂)) (viewOf m₂)) e ∙ ap (λ (ns : List Note). journalling L p ns (viewOf m₂)) q ∙ ap (journalling L p (notes (viewOf m))) (now .view) in
         record {
-          formed = noted .formed;
-          setting = noted .setting ∙ now .setting;
-          view = noted .view ∙ ap (λ (t : Layout). journalling t p (notes (viewOf m₂)) (viewOf m₂)) e ∙ ap (λ (ns : List Note). journalling L p ns (viewOf m₂)) q ∙ ap (journalling L p (notes (viewOf m))) (now .view);
-        } in
-        shows-view (shows-then (putting p a bs) n₃ put) (written-is L p (viewOf m) a bs (notes (viewOf m)))
+          formed = put .formed;
+          setting = put .setting ∙ now .setting;
+          view = put .view ∙ ap (putting p a bs) v ∙ written-is L p (viewOf m) a bs (notes (viewOf m));
+        }
 
 -- the bytes of a word, as written
 pub word-shown : (m : Mem) (p a n : ℕ) (bs : List ℕ) → bs ≡ wordBytes n → (m' : Mem) → Shows (settingOf m) (wordWritten (layoutOf (m .words)) p a bs (viewOf m)) m' → Shows (settingOf m) (wordWritten (layoutOf (m .words)) p a (wordBytes n) (viewOf m)) m'

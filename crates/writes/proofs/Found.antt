@@ -1,22 +1,20 @@
--- A word whose chunks are held already, on a page without a journal: the write is the put alone.
+-- A word whose chunks are held already: nothing is left to do before it is journalled and put.
 -- Assumes nothing.
 use mathlib.Core.Path.{_≡_, refl, sym, ap, _∙_, subst}
 use mathlib.Core.Bool.{true, false, _&&_, _||_, true≢false, false≢true}
 use mathlib.Core.List.{List}
 use mathlib.Core.Logic.{⊎-elim}
-use Prim.Native.Nat.{ℕ, zero, suc, _+_, _-_, _/_, _%_, _≤_, _<_}
+use Prim.Native.Nat.{ℕ, zero, suc, _+_, _-_, _/_, _≤_, _<_}
 use native.Mathlib.Omega.{arith}
 use lib.Dec.{leb, ltb, eqb}
-use lib.ListN.{length, getD}
+use lib.ListN.{length}
 use borrow.Author.Tests.{le-leb, lt-leb, lt-ltb, le-ltb, eq-eqb, ne-eqb}
 use Rattle.index.proofs.Logic.{same-or-not, lt-or-ge}
 use Rattle.index.proofs.Places.{seek-upto}
-use Rattle.store.specs.Mem.{Mem, mem, layoutOf, slotCount, pageCount, entries}
+use Rattle.store.specs.Mem.{Mem, layoutOf, slotCount, pageCount, entries}
 use Rattle.store.specs.Find.{slotFor}
-use Rattle.formed.specs.Pages.{journalPage}
 use Rattle.formed.specs.Parts.{entryOf, holds}
 use Rattle.formed.specs.WellFormed.{HeldAt, WellFormed, holder, keyEntry}
-use Rattle.formed.proofs.Same.{tab-is}
 use Rattle.formed.proofs.Sizes.{entries-long}
 use Rattle.formed.proofs.Keys.{in-table}
 use Rattle.formed.proofs.Hints.{slot-found}
@@ -25,18 +23,15 @@ use Rattle.view.specs.View.{View, settingOf, viewOf}
 use Rattle.view.specs.Steps.{touchedCount, missing, wordNotes, wordWritten}
 use Rattle.view.specs.Checks.{wordWriteChecks}
 use Rattle.view.specs.Does.{Shows}
-use Rattle.view.specs.Inner.{listing, holding, putting}
+use Rattle.view.specs.Inner.{listing, holding}
 use Rattle.view.proofs.Compose.{listed-held}
 use Rattle.view.proofs.Equal.{view-by}
 use Rattle.room.specs.Refusals.{number}
 use Rattle.pages.proofs.Listing.{listed-already}
-use Rattle.bodies.specs.Words.{placeIn, Spread, InSlots}
-use Rattle.bodies.proofs.Kept.{withBytes}
 use Rattle.bodies.proofs.Pieces.{held-here}
 use Rattle.bodies.proofs.Puts.{shows-view}
-use Rattle.bodies.proofs.Words.{put-shows}
-use Rattle.writes.specs.Asks.{PutOrLeft}
-use Rattle.writes.proofs.Chains.{word-cleared, prepare-asks, list-asks, no-journal, plain-done}
+use Rattle.writes.specs.Asks.{WordAsks, wordPut, WrittenOrLeft}
+use Rattle.writes.proofs.Chains.{word-cleared, prepare-asks, list-asks, word-notes-same, write-done}
 
 -- chunks that are held already
 module _ (p k n : ℕ) (v : View) (all : (i : ℕ) → k ≤ i → i < k + n → v .held p i ≡ true) where
@@ -90,12 +85,6 @@ module _ (m : Mem) (p a : ℕ) (page : p ≤ 4294967295) (small : a ≤ 42949672
   at-last : HeldAt m t p ((a + 31) / 256)
   at-last = found t ((a + 31) / 256) lt (omega arith) last
 
-  pub found-slots : InSlots (m .bytes) s t (a % 256)
-  found-slots =
-      let b = f .lengths .in-bytes in
-      let c = f .lengths .slots-hi in
-      record { offset = omega arith; first-few = omega arith; last-few = omega arith; first = omega arith; last = omega arith }
-
   all-held : (i : ℕ) → a / 256 ≤ i → i < a / 256 + touchedCount a 32 → listing m p .held p i ≡ true
   all-held i lo hi =
       listed-held (layoutOf (m .words)) p (viewOf m) p i
@@ -110,30 +99,31 @@ module _ (m : Mem) (p a : ℕ) (page : p ≤ 4294967295) (small : a ≤ 42949672
       (listed-already m p (list-asks m p (a / 256) (touchedCount a 32) (prepare-asks m p a 32 1 (touchedCount a 32) (word-cleared m p a (touchedCount a 32) page small asks refl 32 refl))) (entry-there m f s p (a / 256) at-first))
       (holding-same p (a / 256) (touchedCount a 32) (listing m p) all-held)
 
-  module _ (no-heap : p ≡ journalPage (layoutOf (m .words)) 0 → ⊥) (no-aux : p ≡ journalPage (layoutOf (m .words)) 1 → ⊥) (ws : List ℕ) (wide : length ws ≡ 32)
-      (bytes' : List ℕ) (long : length bytes' ≡ length (m .bytes)) (d : Spread (placeIn s t (a % 256)) (λ i. getD ws i 0) 32 (m .bytes) bytes') where
-    put : Shows (settingOf m) (putting p a ws (viewOf m)) (mem bytes' (m .keys) (m .order) (m .words))
-    put =
-        shows-view (put-shows m f p a s t small at-first at-last (λ i. getD ws i 0) bytes' long d)
-        (ap (λ (x : List ℕ). putting p a x (viewOf m)) (sym (tab-is 32 (λ i. getD ws i 0) ws wide (λ i l. refl))))
+  -- what writing it asks, and what that leaves
+  pub found-asks : WordAsks m p a s t
+  found-asks = record {
+    formed = f;
+    first = sym (first ∙ slot-found m f p (a / 256) (omega arith));
+    last = sym (last ∙ slot-found m f p ((a + 31) / 256) (omega arith));
+    first-in = ls;
+    last-in = lt;
+    room = word-cleared m p a (touchedCount a 32) page small asks refl 32 refl .room .words;
+  }
 
-    found-shows : Shows (settingOf m) (wordWritten (layoutOf (m .words)) p a ws (viewOf m)) (mem bytes' (m .keys) (m .order) (m .words))
-    found-shows =
-        plain-done m p a ws 1 (touchedCount a 32) (word-cleared m p a (touchedCount a 32) page small asks refl (length ws) wide) m ready
-        (wordNotes (viewOf m) p a) (no-journal (layoutOf (m .words)) p no-heap no-aux) (mem bytes' (m .keys) (m .order) (m .words)) put
-
-    pub found-put : PutOrLeft m p a ws true bytes'
-    found-put = record { put = λ e. found-shows; left = λ e. absurd (true≢false e) }
+  pub found-written : (ws : List ℕ) → length ws ≡ 32 → (m' : Mem) → Shows (settingOf m) (wordPut (layoutOf (m .words)) p a ws (viewOf m)) m' → WrittenOrLeft m p a ws true m'
+  found-written ws wide m' put = record {
+    written = λ e. write-done m p a ws 1 (touchedCount a 32) (word-cleared m p a (touchedCount a 32) page small asks refl (length ws) wide) m ready (λ (v : View). wordNotes v p a) (λ v w. word-notes-same v w p a) m' put;
+    left = λ e. absurd (true≢false e);
+  }
 
 -- a word that is left
 module _ (m : Mem) (p a : ℕ) where
-  pub found-left : (ws : List ℕ) → PutOrLeft m p a ws false (m .bytes)
-  found-left ws = record { put = λ e. absurd (false≢true e); left = λ e. refl }
+  pub found-left : (ws : List ℕ) → WrittenOrLeft m p a ws false m
+  found-left ws = record { written = λ e. absurd (false≢true e); left = λ e. refl }
 
-  module _ (bytes' : List ℕ) (e : bytes' ≡ m .bytes) where
-    pub left-asks : (WellFormed m) × (number (wordWriteChecks (settingOf m) (viewOf m) p a) ≡ 0)
-        → (WellFormed (withBytes m bytes')) × (number (wordWriteChecks (settingOf m) (viewOf (withBytes m bytes')) p a) ≡ 0)
-    left-asks asks = subst (λ (b : List ℕ). (WellFormed (withBytes m b)) × (number (wordWriteChecks (settingOf m) (viewOf (withBytes m b)) p a) ≡ 0)) (sym e) asks
+  module _ (m₁ : Mem) (e : m₁ ≡ m) where
+    pub left-asks : (WellFormed m) × (number (wordWriteChecks (settingOf m) (viewOf m) p a) ≡ 0) → (WellFormed m₁) × (number (wordWriteChecks (settingOf m₁) (viewOf m₁) p a) ≡ 0)
+    left-asks asks = subst (λ (x : Mem). (WellFormed x) × (number (wordWriteChecks (settingOf x) (viewOf x) p a) ≡ 0)) (sym e) asks
 
-    pub left-shown : (ws : List ℕ) (m' : Mem) → Shows (settingOf m) (wordWritten (layoutOf (m .words)) p a ws (viewOf (withBytes m bytes'))) m' → Shows (settingOf m) (wordWritten (layoutOf (m .words)) p a ws (viewOf m)) m'
-    left-shown ws m' shown = subst (λ (b : List ℕ). Shows (settingOf m) (wordWritten (layoutOf (m .words)) p a ws (viewOf (withBytes m b))) m') e shown
+    pub left-shown : (ws : List ℕ) (m' : Mem) → Shows (settingOf m₁) (wordWritten (layoutOf (m₁ .words)) p a ws (viewOf m₁)) m' → Shows (settingOf m) (wordWritten (layoutOf (m .words)) p a ws (viewOf m)) m'
+    left-shown ws m' shown = subst (λ (x : Mem). Shows (settingOf x) (wordWritten (layoutOf (x .words)) p a ws (viewOf x)) m') e shown

@@ -1,9 +1,8 @@
 // What a write or an allocation does once it is not refused: the page is allocated, its chunks are held, the words journalled, the bytes put.
 ghost use mathlib.Core.Path.{_≡_};
-ghost use Prim.Native.Nat.{_+_, _/_, _<_, _≤_, _^_};
+ghost use Prim.Native.Nat.{_+_, _≤_, _^_};
 ghost use lib.ListN.{length};
-ghost use Rattle.store.specs.Mem.{mem, layoutOf, slotCount};
-ghost use Rattle.store.specs.Find.{slotFor, Findable};
+ghost use Rattle.store.specs.Mem.{mem, layoutOf};
 ghost use Rattle.formed.specs.WellFormed.{WellFormed};
 ghost use Rattle.view.specs.View.{settingOf, viewOf};
 ghost use Rattle.view.specs.Steps.{alignedCount, wordNotes, alignedNotes, wordWritten, bytesWritten, contentsAllocated};
@@ -11,7 +10,7 @@ ghost use Rattle.view.specs.Checks.{wordWriteChecks, byteWriteChecks, allocateC
 ghost use Rattle.view.specs.Does.{Shows};
 ghost use Rattle.view.specs.Inner.{listing, holding, journalling};
 ghost use Rattle.room.specs.Refusals.{number};
-ghost use Rattle.writes.specs.Asks.{PrepareAsks, JournalAsks, PutOrLeft};
+ghost use Rattle.writes.specs.Asks.{PrepareAsks, JournalAsks, WordAsks, wordPut, WrittenOrLeft};
 
 // The page is allocated and holds the chunks first, .., first + count - 1.
 fn prepare(
@@ -30,24 +29,26 @@ fn prepare(
     chunks::hold_chunks(bytes, keys, order, words, page, first, count);
 }
 
-// The word at an address is journalled, if its page has a journal.
-fn journal_word(
+// The word at an address, whose chunks are held at the slots s and t, is journalled, if its page has a journal.
+fn journal_found(
     bytes: &mut [u8],
     keys: &[u64],
     order: &[u32],
     words: &mut [u64],
     page: u32,
     address: u32,
+    s: usize,
+    t: usize,
 )
-    requires { ⌜ JournalAsks (mem (now bytes) (now keys) (now order) (now words)) page address 32 1 ⌝ }
+    requires { ⌜ WordAsks (mem (now bytes) (now keys) (now order) (now words)) page address s t ⌝ }
     ensures { λ _. ⌜ Shows (settingOf (mem (now (bytes .entry)) (now (keys .entry)) (now (order .entry)) (now (words .entry)))) (journalling (layoutOf (now (words .entry))) page (wordNotes (viewOf (mem (now (bytes .entry)) (now (keys .entry)) (now (order .entry)) (now (words .entry)))) page address) (viewOf (mem (now (bytes .entry)) (now (keys .entry)) (now (order .entry)) (now (words .entry))))) (mem (now (bytes .exit)) (now (keys .entry)) (now (order .entry)) (now (words .exit))) ⌝ }
 {
     if page as u64 == words[2] {
-        journal::note(bytes, keys, order, words, 0, address);
+        journal::note_found(bytes, keys, order, words, 0, address, s, t);
         return;
     }
     if page as u64 == words[3] {
-        journal::note(bytes, keys, order, words, 1, address);
+        journal::note_found(bytes, keys, order, words, 1, address, s, t);
         return;
     }
 }
@@ -76,54 +77,67 @@ fn journal_range(
     }
 }
 
-// The slot of the last chunk of the word at an address, whose first chunk's slot is s, if a hint knows it, or the number of slots.
-fn last_found(
-    keys: &[u64],
-    order: &[u32],
-    words: &[u64],
-    page: u32,
-    address: u32,
-    s: usize,
-) -> usize
-    requires { ⌜ (Findable (now keys) (now order) (now words)) × (s ≡ slotFor (now keys) (now words) page (address / 256)) ⌝ }
-    ensures { λ r. ⌜ (r < slotCount (now (words .entry)) → r ≡ slotFor (now (keys .entry)) (now (words .entry)) page ((address + 31) / 256)) ⌝ }
-{
-    if address % 256 <= 224 {
-        return s;
-    }
-    store::hinted(keys, order, words, page, address / 256 + 1)
-}
-
-// A word whose chunks are found by their hints, on a page without a journal, is put at once. Any other is left.
-fn put_found(
+// The word at an address, whose chunks are held at the slots s and t, is journalled, if its page has a journal, and another put in its place.
+fn write_at(
     bytes: &mut [u8],
     keys: &[u64],
     order: &[u32],
-    words: &[u64],
+    words: &mut [u64],
+    page: u32,
+    address: u32,
+    s: usize,
+    t: usize,
+    value: [u8; 32],
+)
+    requires { ⌜ WordAsks (mem (now bytes) (now keys) (now order) (now words)) page address s t ⌝ }
+    ensures { λ _. ⌜ Shows (settingOf (mem (now (bytes .entry)) (now (keys .entry)) (now (order .entry)) (now (words .entry)))) (wordPut (layoutOf (now (words .entry))) page address value (viewOf (mem (now (bytes .entry)) (now (keys .entry)) (now (order .entry)) (now (words .entry))))) (mem (now (bytes .exit)) (now (keys .entry)) (now (order .entry)) (now (words .exit))) ⌝ }
+{
+    journal_found(bytes, keys, order, words, page, address, s, t);
+    bodies::put_word(bytes, s, t, (address % 256) as usize, value);
+}
+
+// A word whose chunks are found by their hints is written at once. Any other is left.
+fn write_found(
+    bytes: &mut [u8],
+    keys: &[u64],
+    order: &[u32],
+    words: &mut [u64],
     page: u32,
     address: u32,
     value: [u8; 32],
 ) -> bool
     requires { ⌜ (WellFormed (mem (now bytes) (now keys) (now order) (now words))) × (number (wordWriteChecks (settingOf (mem (now bytes) (now keys) (now order) (now words))) (viewOf (mem (now bytes) (now keys) (now order) (now words))) page address) ≡ 0) ⌝ }
-    ensures { λ r. ⌜ PutOrLeft (mem (now (bytes .entry)) (now (keys .entry)) (now (order .entry)) (now (words .entry))) page address value r (now (bytes .exit)) ⌝ }
+    ensures { λ r. ⌜ WrittenOrLeft (mem (now (bytes .entry)) (now (keys .entry)) (now (order .entry)) (now (words .entry))) page address value r (mem (now (bytes .exit)) (now (keys .entry)) (now (order .entry)) (now (words .exit))) ⌝ }
 {
-    if page as u64 == words[2] {
-        return false;
-    }
-    if page as u64 == words[3] {
-        return false;
-    }
     let c = words[6] as usize;
     let s = store::hinted(keys, order, words, page, address / 256);
     if s >= c {
         return false;
     }
-    let t = last_found(keys, order, words, page, address, s);
+    let t = store::hinted_last(keys, order, words, page, address, s);
     if t >= c {
         return false;
     }
-    bodies::put_word(bytes, s, t, (address % 256) as usize, value);
+    write_at(bytes, keys, order, words, page, address, s, t, value);
     true
+}
+
+// A word is written to a page that holds its chunks.
+fn write_held(
+    bytes: &mut [u8],
+    keys: &[u64],
+    order: &[u32],
+    words: &mut [u64],
+    page: u32,
+    address: u32,
+    value: [u8; 32],
+)
+    requires { ⌜ JournalAsks (mem (now bytes) (now keys) (now order) (now words)) page address 32 1 ⌝ }
+    ensures { λ _. ⌜ Shows (settingOf (mem (now (bytes .entry)) (now (keys .entry)) (now (order .entry)) (now (words .entry)))) (wordPut (layoutOf (now (words .entry))) page address value (viewOf (mem (now (bytes .entry)) (now (keys .entry)) (now (order .entry)) (now (words .entry))))) (mem (now (bytes .exit)) (now (keys .entry)) (now (order .entry)) (now (words .exit))) ⌝ }
+{
+    let s = store::place_of(keys, order, words, page, address / 256);
+    let t = store::place_of_last(keys, order, words, page, address, s);
+    write_at(bytes, keys, order, words, page, address, s, t, value);
 }
 
 // A word is written whether or not its page is allocated, its chunks are held and its page has a journal.
@@ -141,8 +155,7 @@ fn write_new(
 {
     let count = room::touched(address, 32) as u32;
     prepare(bytes, keys, order, words, page, address / 256, count);
-    journal_word(bytes, keys, order, words, page, address);
-    bodies::write_from(bytes, keys, order, words, page, address, &value);
+    write_held(bytes, keys, order, words, page, address, value);
 }
 
 pub fn write_word(
@@ -157,7 +170,7 @@ pub fn write_word(
     requires { ⌜ (WellFormed (mem (now bytes) (now keys) (now order) (now words))) × (number (wordWriteChecks (settingOf (mem (now bytes) (now keys) (now order) (now words))) (viewOf (mem (now bytes) (now keys) (now order) (now words))) page address) ≡ 0) ⌝ }
     ensures { λ _. ⌜ Shows (settingOf (mem (now (bytes .entry)) (now (keys .entry)) (now (order .entry)) (now (words .entry)))) (wordWritten (layoutOf (now (words .entry))) page address value (viewOf (mem (now (bytes .entry)) (now (keys .entry)) (now (order .entry)) (now (words .entry))))) (mem (now (bytes .exit)) (now (keys .exit)) (now (order .exit)) (now (words .exit))) ⌝ }
 {
-    if put_found(bytes, keys, order, words, page, address, value) {
+    if write_found(bytes, keys, order, words, page, address, value) {
         return;
     }
     write_new(bytes, keys, order, words, page, address, value);

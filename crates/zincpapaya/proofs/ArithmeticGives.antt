@@ -6,8 +6,7 @@ use mathlib.Core.List.{List, [], _∷_}
 use Prim.Native.Nat.{ℕ, suc, _+_, _^_}
 use lib.Dec.{leb, ltb}
 use lib.ListN.{length}
-use Rattle.outcome.specs.Outcome.{Outcome, refused, done}
-use Rattle.reads.specs.Calls.{answered}
+use Rattle.outcome.specs.Outcome.{Outcome, refused, done, answered, mapped, numberOf}
 use Rattle.zincpapaya.specs.Interface.{Gives}
 use Rattle.page_ids.specs.declared.Layout.{Layout}
 use Rattle.page_ids.specs.declared.DynamicPageKind.{DynamicPageKind}
@@ -17,8 +16,8 @@ use Rattle.page_ids.specs.Arithmetic.{sum, difference}
 use Rattle.page_ids.specs.Decode.{badLayout, pageOf, decoding}
 use Rattle.state.specs.declared.Step.{Step}
 use Rattle.state.specs.Quote.{quoted}
-use Rattle.zincpapaya.specs.Executing.{bit, frameNumbers}
-use Rattle.zincpapaya.specs.Numbers.{mapped, kindOf, groupOf, statusOf, outAfter, Tells, Grows}
+use Rattle.zincpapaya.specs.Executing.{bit, grownNumbers}
+use Rattle.zincpapaya.specs.Numbers.{kindOf, groupOf, outAfter, Tells, Grows}
 
 -- ---- an outcome that a status can tell: no panic, and no refusal with 0
 pub data Plain {A : Type 0} : Outcome A → Type 0 where
@@ -79,7 +78,7 @@ quoted-plain list bound = either (ltb 4096 (length list)) refuses answers
 
 -- ---- what the parts tell
 pub done-told : {A : Type 0} {numbers : A → List ℕ} {o : Outcome A} {a : A} → o ≡ done a → {out : List ℕ} {r : ℕ} {out' : List ℕ} → r ≡ 0 → out' ≡ numbers a → Tells numbers o out r out'
-done-told {numbers = numbers} q {out} {r} {out'} z e = record { status = z ∙ sym (ap statusOf q); out-is = e ∙ sym (ap (λ (x : Outcome _). outAfter numbers x out) q) }
+done-told {numbers = numbers} q {out} {r} {out'} z e = record { status = z ∙ sym (ap numberOf q); out-is = e ∙ sym (ap (λ (x : Outcome _). outAfter numbers x out) q) }
 
 -- the kind of a dynamic page does not hang on its group
 pub any-group : (kind : DynamicPageKind) (g : ℕ) → kindOf (pageOf (Dynamic kind 0)) ≡ kindOf (pageOf (Dynamic kind g))
@@ -97,8 +96,8 @@ module _ (frame out : List ℕ) (step : Step) where
   pub grow-unfit : ((length frame ≡ 6) × (length out ≡ 1) → ⊥) → Grows frame out step 102 frame out
   grow-unfit h = record { unfit = λ _. (refl, (refl, refl)); answer = λ a b. absurd (h (a, b)) }
 
-  pub grows : length frame ≡ 6 → length out ≡ 1 → {s : Step} → s ≡ step → {r b : ℕ} {frame' out' : List ℕ} → r ≡ 0 → frame' ≡ frameNumbers (s .frame) → out' ≡ b ∷ [] → b ≡ bit (s .paid) → Grows frame out step r frame' out'
+  pub grows : length frame ≡ 6 → length out ≡ 1 → {s : Step} → s ≡ step → {r b : ℕ} {frame' out' : List ℕ} → r ≡ 0 → frame' ≡ grownNumbers frame (s .frame) → out' ≡ b ∷ [] → b ≡ bit (s .paid) → Grows frame out step r frame' out'
   grows a b q z e d g = record {
     unfit = λ h. absurd (h (a, b));
-    answer = λ _ _. (z, (e ∙ ap (λ (x : Step). frameNumbers (x .frame)) q, d ∙ ap (λ (x : ℕ). x ∷ []) g ∙ ap (λ (x : Step). bit (x .paid) ∷ []) q));
+    answer = λ _ _. (z, (e ∙ ap (λ (x : Step). grownNumbers frame (x .frame)) q, d ∙ ap (λ (x : ℕ). x ∷ []) g ∙ ap (λ (x : Step). bit (x .paid) ∷ []) q));
   }

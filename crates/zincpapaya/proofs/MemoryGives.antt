@@ -9,11 +9,10 @@ use native.Mathlib.Omega.{arith}
 use lib.ListN.{length, getD, set}
 use lib.Seq.{getD-set-same, getD-set-other}
 use Rattle.index.proofs.Logic.{same-or-not}
-use Rattle.outcome.specs.Outcome.{Outcome, refused, done}
+use Rattle.outcome.specs.Outcome.{Outcome, refused, done, mapped, answered}
 use Rattle.word.specs.Value.{value}
 use Rattle.formed.proofs.Same.{tab-is}
 use Rattle.view.specs.Calls.{Value, verdict}
-use Rattle.reads.specs.Calls.{answered, valued}
 use Rattle.zincpapaya.specs.Interface.{Gives, pairIn, verdictOf, verdictIn}
 
 module _ {A : Type 0} (n : ℕ) (means : List ℕ → A) (out : List ℕ) where
@@ -36,14 +35,14 @@ module _ {A : Type 0} (n : ℕ) (means : List ℕ → A) (out : List ℕ) where
 
 -- a value of a helper is one of `Value`, and its outcome that of a call
 pub gives-as : {A : Type 0} (f : A → Value) {n r : ℕ} {o : Outcome A} {means : List ℕ → A} {out out' : List ℕ} {w : Outcome Value}
-    → Gives n o means r out out' → valued f o ≡ w → Gives n w (λ x. f (means x)) r out out'
+    → Gives n o means r out out' → mapped f o ≡ w → Gives n w (λ x. f (means x)) r out out'
 gives-as {A} f {n} {r} {o} {means} {out} {out'} g e = record {
   unfit = g .unfit;
-  answer = λ l. go r (means out') ∙ ap (valued f) (g .answer l) ∙ e;
+  answer = λ l. go r (means out') ∙ ap (mapped f) (g .answer l) ∙ e;
   kept = g .kept;
 }
   where
-    go : (k : ℕ) (a : A) → answered k (f a) ≡ valued f (answered k a)
+    go : (k : ℕ) (a : A) → answered k (f a) ≡ mapped f (answered k a)
     go zero a = refl
     go (suc k) a = refl
 

@@ -8,7 +8,7 @@ use native.Mathlib.Omega.{arith}
 use lib.Dec.{eqb}
 use lib.ListN.{length}
 use Rattle.outcome.specs.Outcome as outcomes
-use Rattle.outcome.specs.Outcome.{Outcome, refused, panicked, done, carriedOut, firstOf}
+use Rattle.outcome.specs.Outcome.{Outcome, refused, panicked, done, carriedOut, firstOf, mapped, answered}
 use Rattle.outcome.specs.declared.Answer.{Answer}
 use Rattle.outcome.specs.declared.Answer.the-variants.{Done, Refused}
 use Rattle.store.specs.Mem.{Mem, layoutOf}
@@ -22,7 +22,7 @@ use Rattle.view.specs.Checks.{Check, lengthsRight, openingChecks, allocateCheck
 use Rattle.view.specs.Instructions.{accessChecks, loaded, storeChecks, stored, pointerChecks, pointed, staticChecks, staticLoaded, staticStoreChecks, staticStored}
 use Rattle.view.specs.Calls.{Call, Value, Open, Allocate, ReadWord, ReadPartial, ReadRange, ReadByte, DynamicLength, WriteWord, WriteBytes, Lookup, LookupCheck, Free, Window, Truncate, CompareLeft, CompareRight, CompareBoth, Snapshot, Rollback, DeleteHistory, Load, Store, LoadPointer, LoadStatic, StoreStatic, nothing, given, bytes, verdict, sameLengths, outcomeOf, answerOf, comparisonOf, CallDoes, OpenDoes, told}
 use Rattle.view.specs.Does.{Does}
-use Rattle.reads.specs.Calls.{answered, valued, RangeDoes}
+use Rattle.reads.specs.Calls.{RangeDoes}
 use Rattle.reads.proofs.Answers.{well, lookup-good, block-long, block-zero}
 use Rattle.reads.proofs.Calls.{range-call}
 use Rattle.zincpapaya.specs.Interface.{statusOf, Gives, chunkAnswer}
@@ -117,10 +117,10 @@ word-status m p x {n} {k} {m'} a r q e d = subst (λ (y : ℕ). CallDoes m (Writ
 
 -- ---- the same of an answer beside an output
 module _ (a : Answer) (r : ℕ) (e : r ≡ statusOf a) where
-  beside : (w : Value) → sound (outcomes.told a) ≡ true → answered r w ≡ valued (λ _. w) (outcomes.told a)
+  beside : (w : Value) → sound (outcomes.told a) ≡ true → answered r w ≡ mapped (λ _. w) (outcomes.told a)
   beside w h = ap (λ (x : ℕ). answered x w) e ∙ go a h
     where
-      go : (b : Answer) → sound (outcomes.told b) ≡ true → answered (statusOf b) w ≡ valued (λ _. w) (outcomes.told b)
+      go : (b : Answer) → sound (outcomes.told b) ≡ true → answered (statusOf b) w ≡ mapped (λ _. w) (outcomes.told b)
       go Done h = refl
       go (Refused zero) h = absurd (false≢true h)
       go (Refused (suc n)) h = refl
@@ -161,12 +161,12 @@ module _ (m : Mem) (p k : ℕ) (block o : List ℕ) (a : Answer) (r : ℕ) (l : 
   pub chunk-refused : (r ≡ 0 → ⊥) → Gives 256 (chunkAnswer m p k block) bytes r o o
   chunk-refused z = record {
     unfit = λ other. absurd (other l);
-    answer = λ _. beside a r e (bytes o) is-sound ∙ ap (valued (λ _. bytes o)) t ∙ go (wellFormed m) (not (eqb (length block) 256 && zeros block)) (sym (ap carriedOut t) ∙ not-out a r e z);
+    answer = λ _. beside a r e (bytes o) is-sound ∙ ap (mapped (λ _. bytes o)) t ∙ go (wellFormed m) (not (eqb (length block) 256 && zeros block)) (sym (ap carriedOut t) ∙ not-out a r e z);
     kept = λ _. refl;
   }
     where
       go : (b c : Bool) → carriedOut {A = Unit {0}} (cond (not b) (refused 3) (cond c (refused 8) (done tt))) ≡ false
-          → valued (λ _. bytes o) (cond {A = Outcome (Unit {0})} (not b) (refused 3) (cond c (refused 8) (done tt))) ≡ cond (not b) (refused 3) (cond c (refused 8) (done (bytes (run (viewOf m) p (256 * k) 256))))
+          → mapped (λ _. bytes o) (cond {A = Outcome (Unit {0})} (not b) (refused 3) (cond c (refused 8) (done tt))) ≡ cond (not b) (refused 3) (cond c (refused 8) (done (bytes (run (viewOf m) p (256 * k) 256))))
       go true true h = refl
       go true false h = absurd (false≢true (sym h))
       go false c h = refl

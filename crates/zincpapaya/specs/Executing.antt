@@ -90,6 +90,10 @@ limbsPut out at limbs = set (set (set (set out at (getD limbs 0 0)) (at + 1) (ge
 abbrev pub frameNumbers : Frame → List ℕ
 frameNumbers f = f .gas ∷ f .heap .0 ∷ f .aux .0 ∷ f .«heap_bound» ∷ f .«aux_bound» ∷ bit (f .panicked) ∷ []
 
+-- the numbers of a frame that has grown to f: gas and bounds are those of f, and the others are as they were
+abbrev pub grownNumbers : List ℕ → Frame → List ℕ
+grownNumbers frame f = set (set (set frame 0 (f .gas)) 3 (f .«heap_bound»)) 4 (f .«aux_bound»)
+
 -- of an execution that was carried out, with the hook's value h
 abbrev pub givenNumbers : Execution → ℕ → List ℕ
 givenNumbers x h =

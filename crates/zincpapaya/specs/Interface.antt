@@ -7,7 +7,7 @@ use mathlib.Core.List.{List}
 use Prim.Native.Nat.{ℕ, _*_}
 use lib.Dec.{eqb}
 use lib.ListN.{length, getD}
-use Rattle.outcome.specs.Outcome.{Outcome}
+use Rattle.outcome.specs.Outcome.{Outcome, answered}
 use Rattle.outcome.specs.declared.Answer.{Answer}
 use Rattle.outcome.specs.declared.Answer.the-variants.{Done, Refused}
 use Rattle.word.specs.Value.{value}
@@ -16,7 +16,6 @@ use Rattle.view.specs.View.{viewOf}
 use Rattle.view.specs.Steps.{run}
 use Rattle.view.specs.Checks.{onMemory, lookupChecks}
 use Rattle.view.specs.Calls.{Value, nothing, number, lengths, bytes, verdict}
-use Rattle.reads.specs.Calls.{answered}
 
 -- the status of an answer
 abbrev pub statusOf : Answer → ℕ

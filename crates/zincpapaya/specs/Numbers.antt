@@ -4,21 +4,21 @@ use mathlib.Core.Path.{_≡_}
 use mathlib.Core.List.{List, [], _∷_}
 use Prim.Native.Nat.{ℕ}
 use lib.ListN.{length, getD}
-use Rattle.outcome.specs.Outcome.{Outcome, refused, panicked, done}
+use Rattle.outcome.specs.Outcome.{Outcome, refused, panicked, done, numberOf}
 use Rattle.page_ids.specs.Decode.{Page, none, page}
 use Rattle.fat_pointer.specs.declared.FatPointer.{FatPointer}
 use Rattle.state.specs.declared.Gas.{Gas}
 use Rattle.state.specs.declared.Step.{Step}
-use Rattle.zincpapaya.specs.Executing.{bit, frameNumbers}
+use Rattle.zincpapaya.specs.Executing.{bit, grownNumbers}
 
 -- ---- what `out` means
 -- the one number
 abbrev pub one : List ℕ → ℕ
 one out = getD out 0 0
 
--- its numbers as they are
-abbrev pub all : List ℕ → List ℕ
-all out = out
+-- its numbers, as they are
+abbrev pub asTheyAre : List ℕ → List ℕ
+asTheyAre out = out
 
 -- offset, page, start and length of a fat pointer
 abbrev pub pointer : (offset page start length : ℕ) → FatPointer
@@ -28,12 +28,6 @@ abbrev pub pointerAt : List ℕ → FatPointer
 pointerAt out = pointer (getD out 0 0) (getD out 1 0) (getD out 2 0) (getD out 3 0)
 
 -- ---- what a call answers
--- the same outcome, whose answer is told by f
-abbrev pub mapped : {A B : Type 0} → (A → B) → Outcome A → Outcome B
-mapped f (refused n) = refused n
-mapped f (panicked a) = panicked (f a)
-mapped f (done a) = done (f a)
-
 -- the kind of a page, numbered as in page_ids/specs/Decode.antt: code 0, heap 1, aux 2, static 3, calldata 4, bootloader heap 5, bootloader aux 6; 7 of an undecodable one
 abbrev pub kindOf : Page → ℕ
 kindOf none = 7
@@ -55,16 +49,10 @@ gasNumbers g = g .left ∷ bit (g .paid) ∷ []
 pub record Grows (frame out : List ℕ) (step : Step) (r : ℕ) (frame' out' : List ℕ) : Type 0 where
   -- a frame has six numbers and `out` one, or nothing is done
   pub unfit : ((length frame ≡ 6) × (length out ≡ 1) → ⊥) → (r ≡ 102) × ((frame' ≡ frame) × (out' ≡ out))
-  -- nothing is refused; `out` tells whether the growth was paid
-  pub answer : length frame ≡ 6 → length out ≡ 1 → (r ≡ 0) × ((frame' ≡ frameNumbers (step .frame)) × (out' ≡ bit (step .paid) ∷ []))
+  -- nothing is refused; gas and bounds are the step's, the other numbers as they were; `out` tells whether the growth was paid
+  pub answer : length frame ≡ 6 → length out ≡ 1 → (r ≡ 0) × ((frame' ≡ grownNumbers frame (step .frame)) × (out' ≡ bit (step .paid) ∷ []))
 
 -- ---- what the parts write
--- the status of an outcome
-abbrev pub statusOf : {A : Type 0} → Outcome A → ℕ
-statusOf (refused n) = n
-statusOf (panicked a) = 0
-statusOf (done a) = 0
-
 -- `out` after it, where `numbers` are those of an answer
 abbrev pub outAfter : {A : Type 0} → (A → List ℕ) → Outcome A → List ℕ → List ℕ
 outAfter numbers (refused n) out = out
@@ -76,5 +64,5 @@ alone n = n ∷ []
 
 -- the status r tells an outcome, and out' what it gives
 pub record Tells {A : Type 0} (numbers : A → List ℕ) (outcome : Outcome A) (out : List ℕ) (r : ℕ) (out' : List ℕ) : Type 0 where
-  pub status : r ≡ statusOf outcome
+  pub status : r ≡ numberOf outcome
   pub out-is : out' ≡ outAfter numbers outcome out

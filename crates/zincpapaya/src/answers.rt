@@ -4,9 +4,8 @@ use outcome::Answer;
 use word::Word;
 ghost use mathlib.Core.Path.{_≡_};
 ghost use lib.ListN.{getD, length};
-ghost use Rattle.outcome.specs.Outcome.{refused};
+ghost use Rattle.outcome.specs.Outcome.{refused, answered};
 ghost use Rattle.word.specs.Value.{value};
-ghost use Rattle.reads.specs.Calls.{answered};
 ghost use Rattle.compare.specs.Verdict.{told};
 ghost use Rattle.zincpapaya.specs.Interface.{statusOf, Gives, pairIn, verdictIn};
 

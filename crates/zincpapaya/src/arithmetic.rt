@@ -2,7 +2,7 @@
 ghost use mathlib.Core.Path.{_≡_};
 ghost use mathlib.Core.List.{[], _∷_};
 ghost use lib.ListN.{length};
-ghost use Rattle.outcome.specs.Outcome.{done};
+ghost use Rattle.outcome.specs.Outcome.{done, mapped};
 ghost use Rattle.word.specs.Value.{value, limbsValue};
 ghost use Rattle.page_ids.specs.Arithmetic.{toldPage, toldBase, sum, difference};
 ghost use Rattle.page_ids.specs.Decode.{pageOf, decoding};
@@ -14,7 +14,7 @@ ghost use Rattle.state.specs.Quote as quotes;
 ghost use Rattle.zincpapaya.specs.Executing.{areaOf, frameOf};
 ghost use Rattle.zincpapaya.specs.Interface.{Gives};
 ghost use Rattle.opening.specs.Opening.{layoutFrom};
-ghost use Rattle.zincpapaya.specs.Numbers.{one, all, pointerAt, pointer, mapped, kindOf, groupOf, pageNumbers, gasNumbers, Grows, alone, Tells};
+ghost use Rattle.zincpapaya.specs.Numbers.{one, asTheyAre, pointerAt, pointer, kindOf, groupOf, pageNumbers, gasNumbers, Grows, alone, Tells};
 use crate::frames;
 use fat_pointer::FatPointer;
 use page_ids::BaseAnswer;
@@ -104,7 +104,7 @@ fn group_of(page: DecodedPage) -> u32
 
 fn put_decoding(out: &mut [u64], decoding: Decoding) -> u32
     requires { ⌜ length (now out) ≡ 2 ⌝ }
-    ensures { λ r. ⌜ Tells all (mapped pageNumbers (decodes.told decoding)) (now (out .entry)) r (now (out .exit)) ⌝ }
+    ensures { λ r. ⌜ Tells asTheyAre (mapped pageNumbers (decodes.told decoding)) (now (out .entry)) r (now (out .exit)) ⌝ }
 {
     match decoding {
         Decoding::Refused(number) => number,
@@ -156,7 +156,7 @@ pub extern "C" fn zp_decode(
     page: u32,
     out: &mut [u64],
 ) -> u32
-    ensures { λ r. ⌜ Gives 2 (mapped pageNumbers (decoding (layoutFrom «static_memory» «calldata_page» «bootloader_heap» «bootloader_aux» base stride) page)) all r (now (out .entry)) (now (out .exit)) ⌝ }
+    ensures { λ r. ⌜ Gives 2 (mapped pageNumbers (decoding (layoutFrom «static_memory» «calldata_page» «bootloader_heap» «bootloader_aux» base stride) page)) asTheyAre r (now (out .entry)) (now (out .exit)) ⌝ }
 {
     if out.len() != 2 {
         return 102;
@@ -279,7 +279,7 @@ pub extern "C" fn zp_fat_pointer_into_u256(
 // The gas that is left, and whether the amount was paid.
 #[no_mangle]
 pub extern "C" fn zp_use_gas(gas: u32, amount: u32, out: &mut [u64]) -> u32
-    ensures { λ r. ⌜ Gives 2 (done (gasNumbers (used gas amount))) all r (now (out .entry)) (now (out .exit)) ⌝ }
+    ensures { λ r. ⌜ Gives 2 (done (gasNumbers (used gas amount))) asTheyAre r (now (out .entry)) (now (out .exit)) ⌝ }
 {
     if out.len() != 2 {
         return 102;
@@ -300,8 +300,8 @@ pub extern "C" fn zp_grow_heap(frame: &mut [u32], aux: bool, new_bound: u32, out
         return 102;
     }
     let before = frames::frame_of(frame);
-    let step = state::access(before, frames::area_of(aux), new_bound);
-    frames::put_frame(frame, step.frame);
+    let step = state::grow_frame(before, frames::area_of(aux), new_bound);
+    frames::put_growth(frame, step.frame);
     put_one(out, frames::bit(step.paid))
 }
 

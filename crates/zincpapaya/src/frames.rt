@@ -68,6 +68,16 @@ pub fn put_frame(frame: &mut [u32], f: Frame)
     frame[5] = bit(f.panicked);
 }
 
+// Gas and bounds alone: the pages and the mark stay the numbers that they were.
+pub fn put_growth(frame: &mut [u32], after: Frame)
+    requires { ⌜ length (now frame) ≡ 6 ⌝ }
+    ensures { λ _. ⌜ now (frame .exit) ≡ spec.grownNumbers (now (frame .entry)) after ⌝ }
+{
+    frame[0] = after.gas;
+    frame[3] = after.heap_bound;
+    frame[4] = after.aux_bound;
+}
+
 // The four limbs of a word, to `out` from `at` on.
 pub fn put_word(out: &mut [u64], at: usize, word: Word)
     requires { ⌜ at + 4 ≤ length (now out) ⌝ }

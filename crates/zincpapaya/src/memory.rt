@@ -7,10 +7,10 @@ use page_ids::Layout;
 use page_ids::PageId;
 ghost use mathlib.Core.List.{[]};
 ghost use lib.ListN.{length};
+ghost use Rattle.outcome.specs.Outcome.{answered};
 ghost use Rattle.word.specs.Value.{limbsValue};
 ghost use Rattle.store.specs.Mem.{mem};
 ghost use Rattle.view.specs.Calls.{Call, Value, nothing, answerOf, comparisonOf, CallDoes, OpenDoes};
-ghost use Rattle.reads.specs.Calls.{answered};
 ghost use Rattle.opening.specs.Opening.{layoutFrom, setting};
 ghost use Rattle.zincpapaya.specs.Interface.{Gives, wordIn, numberIn, marksIn, verdictIn, chunkAnswer};
 
@@ -212,7 +212,7 @@ pub extern "C" fn zp_chunk<'a>(
     }
     answers::copy(
         output,
-        reads::chunk_of(bytes, keys, order, words, page, number, block),
+        reads::steps::chunk_of(bytes, keys, order, words, page, number, block),
     );
     0
 }

@@ -1,5 +1,4 @@
 use mathlib.Core.Path.{refl, _∙_}
-use borrow.Author.Needs.{needs}
 use native.Mathlib.Omega.{arith}
 use Rattle.card.proofs.walk.Statement.{statement}
 use Rattle.card.proofs.walk.Tie as tie

@@ -1,6 +1,5 @@
 use Rattle.formed.proofs.Asks.{pages-asked, slots-asked}
 use Rattle.drops.proofs.Drops.{entry-in, dropped-by}
-use Prim.Native.Nat.{_-_}
 use native.Mathlib.Omega.{arith}
 use borrow.Author.Needs.{needs}
 use Rattle.drops.proofs.drop_chunks.Statement.{statement}

@@ -1,6 +1,5 @@
 use Rattle.drops.proofs.Drops.{freed-by}
 use Rattle.drops.proofs.Drops.{all-asked, unlist-asked}
-use Prim.Native.Nat.{_-_}
 use borrow.Author.Needs.{needs}
 use Rattle.drops.proofs.free_page.Statement.{statement}
 use Rattle.drops.proofs.free_page.Tie as tie

@@ -2,7 +2,6 @@ use Rattle.drops.proofs.Drops.{pages-n}
 use Rattle.drops.proofs.Drops.{rank-few}
 use Rattle.drops.proofs.Drops.{part-pages, part-ranks, rank-lt, unlisted}
 use Rattle.index.proofs.Orders.{index-rises}
-use Prim.Native.Nat.{_-_}
 use native.Mathlib.Omega.{arith}
 use borrow.Author.Needs.{needs}
 use Rattle.drops.proofs.unlist_page.Statement.{statement}

@@ -1,4 +1,3 @@
-use lib.ListN.{length}
 use borrow.Author.Needs.{needs}
 use Rattle.word.specs.Value.{value}
 use Rattle.fat_pointer.proofs.Fields.{packed}

@@ -11,9 +11,7 @@ use Rattle.store.specs.Mem.{mem}
 use borrow.Author.Tests.{not-true, not-false}
 use mathlib.Core.Path.{sym, _∙_}
 use Prim.Native.Nat.{_-_}
-use mathlib.Core.Path.{refl, sym, _∙_}
 use native.Mathlib.Omega.{arith}
-use lib.ListN.{length}
 use borrow.Author.Needs.{needs}
 use Rattle.freeing.proofs.compact_to_window.Statement.{statement}
 use Rattle.freeing.proofs.compact_to_window.Tie as tie

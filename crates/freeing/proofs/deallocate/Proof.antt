@@ -6,7 +6,6 @@ use Rattle.view.specs.View.{settingOf, viewOf}
 use Rattle.store.specs.Mem.{mem}
 use mathlib.Core.Path.{sym, _∙_}
 use Prim.Native.Nat.{_-_}
-use mathlib.Core.Path.{sym, _∙_}
 use borrow.Author.Needs.{needs}
 use Rattle.freeing.proofs.deallocate.Statement.{statement}
 use Rattle.freeing.proofs.deallocate.Tie as tie

@@ -7,7 +7,6 @@ use Rattle.store.specs.Mem.{mem}
 use borrow.Author.Tests.{not-true, not-false}
 use mathlib.Core.Path.{sym, _∙_}
 use Prim.Native.Nat.{_-_}
-use mathlib.Core.Path.{sym, _∙_}
 use borrow.Author.Needs.{needs}
 use Rattle.freeing.proofs.free_refusal.Statement.{statement}
 use Rattle.freeing.proofs.free_refusal.Tie as tie

@@ -2,7 +2,6 @@ use Rattle.freeing.proofs.Calls.{is-none, is-fixed, is-dynamic}
 use Rattle.store.specs.Mem.{mem}
 use mathlib.Core.Path.{sym, _∙_}
 use Prim.Native.Nat.{_-_}
-use mathlib.Core.Path.{sym, _∙_}
 use borrow.Author.Needs.{needs}
 use Rattle.freeing.proofs.is_dynamic.Statement.{statement}
 use Rattle.freeing.proofs.is_dynamic.Tie as tie

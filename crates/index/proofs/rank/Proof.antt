@@ -1,58 +1,44 @@
 use Rattle.index.proofs.Orders.{sorted-le, slot-lt}
 use native.Mathlib.Nat.{lt-of-le-of-lt}
-use Prim.Native.Nat.{ℕ, suc, _+_, _*_, _-_, _/_, _%_, _≤_, _<_}
-use mathlib.Core.Path.{_≡_, refl, sym, ap, _∙_}
+use Prim.Native.Nat.{_-_}
 use native.Mathlib.Omega.{arith}
-use lib.ListN.{length, getD, set, length-set}
 use borrow.Author.Needs.{needs}
 use Rattle.index.proofs.rank.Statement.{statement}
 use Rattle.index.proofs.rank.Tie as tie
-use Rattle.index.proofs.rank.Reads as reads
-use Rattle.index.proofs.rank.Lts as lts
-use Rattle.index.proofs.rank_below.Reads as rank-below-reads
 
--- src/lib.rt:82:23
 sub-s : tie.Need-sub-s
 sub-s c = search needs
 
--- src/lib.rt:82:17
 mul-s : tie.Need-mul-s
 mul-s c = search needs
 
--- src/lib.rt:82:17
 shared-slice-read-s : tie.Need-shared-slice-read-s
 shared-slice-read-s c = search needs
 
--- src/lib.rt:82:17
 cast-s : tie.Need-cast-s
 cast-s c =
     let start = c .before .before .before .before in
     omega (arith, c .shared-slice-known3 .given (start .args .n - 1))
 
--- src/lib.rt:83:12
 mul-if2 : tie.Need-mul-if2
 mul-if2 c =
     let start = c .before .before .before .before in
     let h = slot-lt _ _ _ (start .pre .1) (start .args .n - 1) (omega arith) in search needs
 
--- src/lib.rt:83:12
 shared-slice-read-if2 : tie.Need-shared-slice-read-if2
 shared-slice-read-if2 c =
     let start = c .before .before .before .before .before in
     slot-lt _ _ _ (start .pre .1) (start .args .n - 1) (omega arith)
 
--- src/lib.rt:84:13
 returns : tie.Need-returns
 returns c =
     let at-if2 = c in
     let start = at-if2 .before .before .before .before .before .before in
     record { within = omega arith; below = λ i l. lt-of-le-of-lt (sorted-le _ _ _ (start .pre .1) i (start .args .n - 1) (omega arith) (omega arith)) (at-if2 .if2 .taken); above = λ i l m. omega arith }
 
--- src/lib.rt:87:5
 rank-below-requires : tie.Need-rank-below-requires
 rank-below-requires c κs = search needs
 
--- src/lib.rt:77:1
 returns-2 : tie.Need-returns-2
 returns-2 c = search needs
 

@@ -1,12 +1,7 @@
-use mathlib.Core.Path.{ap, _∙_}
-use Prim.Native.Nat.{ℕ, _+_, _*_, _/_}
 use native.Mathlib.Omega.{arith}
-use lib.ListN.{take}
 use borrow.Author.Needs.{needs}
-use Rattle.index.specs.Index.{seek}
-use Rattle.store.specs.Mem.{slotCount}
 use Rattle.journal.proofs.Places.{slots-indexed}
-use Rattle.journal.proofs.Notes.{note-room, note-shows}
+use Rattle.journal.proofs.Notes.{note-slots}
 use Rattle.journal.proofs.note.Statement.{statement}
 use Rattle.journal.proofs.note.Tie as tie
 
@@ -41,13 +36,13 @@ slot-of-requires-2 c κs =
     let start = c .before .before .before .before .before .before .before .before in
     (slots-indexed (start .args .bytes .now) (start .args .keys .now) (start .args .order .now) (start .args .words .now) (start .pre .formed), omega arith)
 
-note-at-requires : tie.Need-note-at-requires
-note-at-requires c κs =
+note-found-requires : tie.Need-note-found-requires
+note-found-requires c κs =
     let at-slot-of2 = c .before .before in
     let at-slot-of = at-slot-of2 .before .before in
     let at-place = at-slot-of .before .before in
     let start = at-place .before .before .before .before .before in
-    note-room (start .args .bytes .now) (start .args .keys .now) (start .args .order .now) (start .args .words .now) (start .args .j) (start .args .address) (start .pre) (at-slot-of .slot-of .result) (at-slot-of2 .slot-of2 .result) (at-slot-of .slot-of .ensures ∙ ap (λ (x : ℕ). seek (take (slotCount (start .args .words .now)) (start .args .keys .now)) (x * 33554432 + 1 + start .args .address / 256)) (at-place .place .ensures .0)) (at-slot-of2 .slot-of2 .ensures ∙ ap (λ (x : ℕ). seek (take (slotCount (start .args .words .now)) (start .args .keys .now)) (x * 33554432 + 1 + (start .args .address + 31) / 256)) (at-place .place .ensures .0))
+    (start .pre, note-slots (start .args .bytes .now) (start .args .keys .now) (start .args .order .now) (start .args .words .now) (start .args .j) (start .args .address) (start .pre) (at-place .place .result) (at-place .place .ensures .0) (at-slot-of .slot-of .result) (at-slot-of2 .slot-of2 .result) (at-slot-of .slot-of .ensures) (at-slot-of2 .slot-of2 .ensures))
 
 same-length : tie.Need-same-length
 same-length c = search needs
@@ -56,13 +51,7 @@ same-length-2 : tie.Need-same-length-2
 same-length-2 c = search needs
 
 returns : tie.Need-returns
-returns c =
-    let at-note-at = c .before .before .before .before in
-    let at-slot-of2 = at-note-at .before .before .before in
-    let at-slot-of = at-slot-of2 .before .before in
-    let at-place = at-slot-of .before .before in
-    let start = at-place .before .before .before .before .before in
-    note-shows (start .args .bytes .now) (start .args .keys .now) (start .args .order .now) (start .args .words .now) (start .args .j) (start .args .address) (start .pre) (at-slot-of .slot-of .result) (at-slot-of2 .slot-of2 .result) (at-slot-of .slot-of .ensures ∙ ap (λ (x : ℕ). seek (take (slotCount (start .args .words .now)) (start .args .keys .now)) (x * 33554432 + 1 + start .args .address / 256)) (at-place .place .ensures .0)) (at-slot-of2 .slot-of2 .ensures ∙ ap (λ (x : ℕ). seek (take (slotCount (start .args .words .now)) (start .args .keys .now)) (x * 33554432 + 1 + (start .args .address + 31) / 256)) (at-place .place .ensures .0)) (at-note-at .note-at .last .0) (at-note-at .note-at .last .1 .0) (at-note-at .note-at .kept .0) (at-note-at .note-at .ensures)
+returns c = let at-note-found = c .before .before .before .before in at-note-found .note-found .ensures
 
 pub note-spec : {M : Type 1} → statement M
 note-spec =
@@ -77,7 +66,7 @@ note-spec =
     add-slot-of-2
     add-slot-of-3
     slot-of-requires-2
-    note-at-requires
+    note-found-requires
     same-length
     same-length-2
     returns)

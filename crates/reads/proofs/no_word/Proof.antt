@@ -1,5 +1,5 @@
 use mathlib.Core.Path.{ap}
-use Rattle.reads.specs.Calls.{answered}
+use Rattle.outcome.specs.Outcome.{answered}
 use Rattle.reads.proofs.Answers.{no-limbs}
 use Rattle.reads.proofs.no_word.Statement.{statement}
 use Rattle.reads.proofs.no_word.Tie as tie

@@ -5,7 +5,7 @@ use Rattle.store.specs.Mem.{mem}
 use Rattle.formed.proofs.Meaning.{well-formed-means}
 use Rattle.view.specs.View.{settingOf, viewOf}
 use Rattle.view.specs.Checks.{allocateChecks}
-use Rattle.refusals.proofs.Chosen.{ill-chosen, well-chosen, allocate-room}
+use Rattle.refusals.proofs.Chosen.{ill-chosen, well-chosen}
 use Rattle.refusals.proofs.allocate_refusal.Statement.{statement}
 use Rattle.refusals.proofs.allocate_refusal.Tie as tie
 

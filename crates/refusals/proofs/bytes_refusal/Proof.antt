@@ -5,7 +5,7 @@ use Rattle.store.specs.Mem.{mem}
 use Rattle.formed.proofs.Meaning.{well-formed-means}
 use Rattle.view.specs.View.{settingOf, viewOf}
 use Rattle.view.specs.Checks.{byteWriteChecks}
-use Rattle.refusals.proofs.Chosen.{ill-chosen, well-chosen, bytes-room}
+use Rattle.refusals.proofs.Chosen.{ill-chosen, well-chosen}
 use Rattle.refusals.proofs.bytes_refusal.Statement.{statement}
 use Rattle.refusals.proofs.bytes_refusal.Tie as tie
 

@@ -1,49 +1,36 @@
-use Prim.Native.Nat.{ℕ, suc, _+_, _*_, _-_, _/_, _%_, _≤_, _<_}
-use mathlib.Core.Path.{_≡_, refl, sym, ap, _∙_}
+use Prim.Native.Nat.{_-_, _<_}
 use native.Mathlib.Omega.{arith}
-use lib.ListN.{length, getD, set, length-set}
+use lib.ListN.{length}
 use borrow.Author.Needs.{needs}
 use Rattle.store.proofs.hint_place.Statement.{statement}
 use Rattle.store.proofs.hint_place.Tie as tie
-use Rattle.store.proofs.hint_place.Reads as reads
-use Rattle.store.proofs.hint_place.Lts as lts
-use Rattle.std.proofs.num.wrapping_sub_usize.Reads as wrapping-sub-usize-reads
 
--- src/lib.rt:89:14
 mul-x : tie.Need-mul-x
 mul-x c = search needs
 
--- src/lib.rt:89:14
 add-x : tie.Need-add-x
 add-x c = search needs
 
--- src/lib.rt:89:58
 sub-x : tie.Need-sub-x
 sub-x c = search needs
 
--- src/lib.rt:89:52
 mul-x-2 : tie.Need-mul-x-2
 mul-x-2 c = search needs
 
--- src/lib.rt:89:52
 shared-slice-read-x : tie.Need-shared-slice-read-x
 shared-slice-read-x c = search needs
 
--- src/lib.rt:89:52
 cast-x : tie.Need-cast-x
 cast-x c =
     let start = c .before .before in
     omega (arith, c .shared-slice-known2 .given (length (start .args .order .now) - 1))
 
--- src/lib.rt:90:34
 wrapping-sub-usize-requires : tie.Need-wrapping-sub-usize-requires
 wrapping-sub-usize-requires c κs = search needs
 
--- src/lib.rt:90:5
 wrapping-sub-usize-requires-2 : tie.Need-wrapping-sub-usize-requires-2
 wrapping-sub-usize-requires-2 c κs = search needs
 
--- src/lib.rt:85:1
 returns : tie.Need-returns
 returns c = search needs
 

@@ -1,64 +1,46 @@
 use Rattle.store.proofs.Finds.{names-by}
 use mathlib.Core.Bool.{false≢true}
-use Prim.Native.Nat.{ℕ, suc, _+_, _*_, _-_, _/_, _%_, _≤_, _<_}
-use mathlib.Core.Path.{_≡_, refl, sym, ap, _∙_}
-use native.Mathlib.Omega.{arith}
-use lib.ListN.{length, getD, set, length-set}
+use Prim.Native.Nat.{_-_, _<_}
 use borrow.Author.Needs.{needs}
 use Rattle.store.proofs.is_place.Statement.{statement}
 use Rattle.store.proofs.is_place.Tie as tie
-use Rattle.store.proofs.is_place.Reads as reads
-use Rattle.store.proofs.is_place.Lts as lts
 
--- src/lib.rt:98:13
 shared-slice-read-c : tie.Need-shared-slice-read-c
 shared-slice-read-c c = search needs
 
--- src/lib.rt:100:9
 returns : tie.Need-returns
 returns c = λ e. absurd (false≢true e)
 
--- src/lib.rt:102:13
 mul-k : tie.Need-mul-k
 mul-k c = search needs
 
--- src/lib.rt:102:13
 shared-slice-read-k : tie.Need-shared-slice-read-k
 shared-slice-read-k c = search needs
 
--- src/lib.rt:103:24
 add-if2 : tie.Need-add-if2
 add-if2 c = search needs
 
--- src/lib.rt:104:9
 returns-2 : tie.Need-returns-2
 returns-2 c = λ e. absurd (false≢true e)
 
--- src/lib.rt:107:13
 sub-if3 : tie.Need-sub-if3
 sub-if3 c = search needs
 
--- src/lib.rt:108:9
 returns-3 : tie.Need-returns-3
 returns-3 c = λ e. absurd (false≢true e)
 
--- src/lib.rt:110:10
 add-result : tie.Need-add-result
 add-result c = search needs
 
--- src/lib.rt:110:5
 mul-result : tie.Need-mul-result
 mul-result c = search needs
 
--- src/lib.rt:110:5
 shared-slice-read-result : tie.Need-shared-slice-read-result
 shared-slice-read-result c = search needs
 
--- src/lib.rt:110:20
 add-result-2 : tie.Need-add-result-2
 add-result-2 c = search needs
 
--- src/lib.rt:94:1
 returns-4 : tie.Need-returns-4
 returns-4 c =
     let at-if3 = c .before in

@@ -1,99 +1,74 @@
 use Rattle.store.proofs.Finds.{learnt-mask, learnt-hint}
-use Prim.Native.Nat.{ℕ, suc, _+_, _*_, _-_, _/_, _%_, _≤_, _<_}
-use mathlib.Core.Path.{_≡_, refl, sym, ap, _∙_}
+use Prim.Native.Nat.{_-_, _<_}
 use native.Mathlib.Omega.{arith}
-use lib.ListN.{length, getD, set, length-set}
+use lib.ListN.{length-set}
 use borrow.Author.Needs.{needs}
 use Rattle.store.proofs.learn.Statement.{statement}
 use Rattle.store.proofs.learn.Tie as tie
-use Rattle.store.proofs.learn.Reads as reads
-use Rattle.store.proofs.learn.Lts as lts
-use Rattle.store.proofs.hint_place.Reads as hint-place-reads
-use Rattle.store.proofs.ones.Reads as ones-reads
 
--- src/lib.rt:149:26
 shared-slice-read-ones : tie.Need-shared-slice-read-ones
 shared-slice-read-ones c = search needs
 
--- src/lib.rt:149:21
 ones-requires : tie.Need-ones-requires
 ones-requires c κs = search needs
 
--- src/lib.rt:149:20
 cast-order : tie.Need-cast-order
 cast-order c = search needs
 
--- src/lib.rt:149:11
 sub-order : tie.Need-sub-order
 sub-order c = search needs
 
--- src/lib.rt:149:5
 mul-order : tie.Need-mul-order
 mul-order c = search needs
 
--- src/lib.rt:149:5
 slice-write-order : tie.Need-slice-write-order
 slice-write-order c = search needs
 
--- src/lib.rt:150:9
 hint-place-requires : tie.Need-hint-place-requires
 hint-place-requires c κs =
     let start = c .before .before .before .before .before in
     let l = start .pre .1 .0 in simp length-set (omega arith)
 
--- src/lib.rt:152:9
 same-length : tie.Need-same-length
 same-length c = search needs
 
--- src/lib.rt:152:9
 returns : tie.Need-returns
 returns c =
     let start = c .before .before .before .before .before .before .before in
     learnt-mask (start .args .order .now) (start .args .words .now) (start .pre .1 .0) _
 
--- src/lib.rt:154:21
 shared-slice-read-if2 : tie.Need-shared-slice-read-if2
 shared-slice-read-if2 c = search needs
 
--- src/lib.rt:154:32
 shared-slice-read-if2-2 : tie.Need-shared-slice-read-if2-2
 shared-slice-read-if2-2 c = search needs
 
--- src/lib.rt:154:21
 add-if2 : tie.Need-add-if2
 add-if2 c = search needs
 
--- src/lib.rt:154:21
 add-if2-2 : tie.Need-add-if2-2
 add-if2-2 c = search needs
 
--- src/lib.rt:155:9
 same-length-2 : tie.Need-same-length-2
 same-length-2 c = search needs
 
--- src/lib.rt:155:9
 returns-2 : tie.Need-returns-2
 returns-2 c =
     let start = c .before .before .before .before .before .before .before .before .before .before in
     learnt-mask (start .args .order .now) (start .args .words .now) (start .pre .1 .0) _
 
--- src/lib.rt:157:16
 cast-order-2 : tie.Need-cast-order-2
 cast-order-2 c = search needs
 
--- src/lib.rt:157:5
 mul-order-2 : tie.Need-mul-order-2
 mul-order-2 c = search needs
 
--- src/lib.rt:157:5
 slice-write-order-2 : tie.Need-slice-write-order-2
 slice-write-order-2 c = search needs
 
--- src/lib.rt:143:1
 same-length-3 : tie.Need-same-length-3
 same-length-3 c = search needs
 
--- src/lib.rt:143:1
 returns-3 : tie.Need-returns-3
 returns-3 c =
     let at-hint-place = c .before .before .before .before in

@@ -1,12 +1,11 @@
-use native.Mathlib.Nat.{lt-of-lt-of-le}
 use borrow.Author.Tests.{not-true, not-false}
 use Rattle.trace.proofs.Figures.{digital-stop, digital-step, digital-done, number-step, number-done, number-grows, decimal-led, decimal-digit, decimal-wide, decimal-is}
 use Rattle.trace.specs.Language.{digital, numberAfter, numberOf}
 use borrow.Author.Needs.{needs}
-use Prim.Native.Nat.{ℕ, suc, _+_, _*_, _-_, _/_, _%_, _≤_, _<_}
+use Prim.Native.Nat.{ℕ, _+_, _*_, _-_, _≤_, _<_}
 use mathlib.Core.Path.{_≡_, refl, sym, ap, _∙_}
 use native.Mathlib.Omega.{arith}
-use lib.ListN.{length, getD, set, length-set, drop}
+use lib.ListN.{length, drop}
 use Rattle.trace.proofs.decimal.Statement.{statement}
 use Rattle.trace.proofs.decimal.Tie as tie
 

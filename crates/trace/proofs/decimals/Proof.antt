@@ -1,16 +1,15 @@
 use borrow.Author.Tests.{not-true, not-false}
-use Rattle.trace.proofs.Fields.{space-within}
-use Rattle.trace.proofs.Lines.{ahead-none, toRead, decimals-past, decimals-bad, decimals-one, decimals-done, decimals-start, none-told, some-told, part-field}
-use Rattle.trace.specs.Reading.{fieldsFrom, ahead, spaceAt}
-use Rattle.trace.specs.Language.{decimal, numbers}
-use mathlib.Core.Bool.{true, false, false≢true}
+use Rattle.trace.proofs.Lines.{toRead, decimals-past, decimals-bad, decimals-one, decimals-done, decimals-start, none-told, some-told, part-field}
+use Rattle.trace.specs.Reading.{ahead}
+use Rattle.trace.specs.Language.{decimal}
+use mathlib.Core.Bool.{false≢true}
 use mathlib.Core.Option.{Option, none, some}
-use mathlib.Core.List.{List, _++_, []}
+use mathlib.Core.List.{List, []}
 use borrow.Author.Needs.{needs}
-use Prim.Native.Nat.{ℕ, suc, _+_, _*_, _-_, _/_, _%_, _≤_, _<_}
+use Prim.Native.Nat.{ℕ, _+_, _-_, _≤_, _<_}
 use mathlib.Core.Path.{_≡_, refl, sym, ap, _∙_}
 use native.Mathlib.Omega.{arith}
-use lib.ListN.{length, getD, set, length-set, take, drop, replicate}
+use lib.ListN.{length, set, length-set, take, drop}
 use Rattle.trace.proofs.decimals.Statement.{statement}
 use Rattle.trace.proofs.decimals.Tie as tie
 

@@ -1,8 +1,5 @@
 use Rattle.trace.proofs.Figures.{digit-low, digit-figure, digit-gap, digit-letter, digit-high}
-use Prim.Native.Nat.{ℕ, suc, _+_, _*_, _-_, _/_, _%_, _≤_, _<_}
-use mathlib.Core.Path.{_≡_, refl, sym, ap, _∙_}
-use native.Mathlib.Omega.{arith}
-use lib.ListN.{length, getD, set, length-set}
+use Prim.Native.Nat.{_<_}
 use borrow.Author.Needs.{needs}
 use Rattle.trace.proofs.digit.Statement.{statement}
 use Rattle.trace.proofs.digit.Tie as tie

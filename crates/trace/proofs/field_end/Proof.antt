@@ -1,10 +1,10 @@
-use Rattle.trace.proofs.Fields.{space-found, space-passed, space-end, space-within}
+use Rattle.trace.proofs.Fields.{space-found, space-passed, space-end}
 use Rattle.trace.specs.Reading.{spaceAt}
 use borrow.Author.Needs.{needs}
-use Prim.Native.Nat.{ℕ, suc, _+_, _*_, _-_, _/_, _%_, _≤_, _<_}
-use mathlib.Core.Path.{_≡_, refl, sym, ap, _∙_}
+use Prim.Native.Nat.{_+_, _-_, _≤_, _<_}
+use mathlib.Core.Path.{_≡_, refl, _∙_}
 use native.Mathlib.Omega.{arith}
-use lib.ListN.{length, getD, set, length-set, drop}
+use lib.ListN.{length, drop}
 use Rattle.trace.proofs.field_end.Statement.{statement}
 use Rattle.trace.proofs.field_end.Tie as tie
 

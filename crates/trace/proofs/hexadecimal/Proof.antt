@@ -3,10 +3,10 @@ use Rattle.trace.specs.Language.{digital, numberAfter, numberOf}
 use Rattle.word.specs.Value.{value}
 use borrow.Author.Tests.{not-true, not-false}
 use borrow.Author.Needs.{needs}
-use Prim.Native.Nat.{ℕ, suc, _+_, _*_, _-_, _/_, _%_, _≤_, _<_, _^_}
+use Prim.Native.Nat.{ℕ, _+_, _*_, _-_, _≤_, _<_, _^_}
 use mathlib.Core.Path.{_≡_, refl, sym, ap, _∙_}
 use native.Mathlib.Omega.{arith}
-use lib.ListN.{length, getD, set, length-set, drop}
+use lib.ListN.{length, drop}
 use Rattle.trace.proofs.hexadecimal.Statement.{statement}
 use Rattle.trace.proofs.hexadecimal.Tie as tie
 

@@ -1,8 +1,6 @@
 use Rattle.trace.proofs.Lines.{kind-open, kind-write, kind-read, kind-snapshot, kind-rollback, kind-none}
-use Prim.Native.Nat.{ℕ, suc, _+_, _*_, _-_, _/_, _%_, _≤_, _<_}
-use mathlib.Core.Path.{_≡_, refl, sym, ap, _∙_}
-use native.Mathlib.Omega.{arith}
-use lib.ListN.{length, getD, set, length-set}
+use Prim.Native.Nat.{_<_}
+use mathlib.Core.Path.{sym, _∙_}
 use borrow.Author.Needs.{needs}
 use Rattle.trace.proofs.kind_of.Statement.{statement}
 use Rattle.trace.proofs.kind_of.Tie as tie

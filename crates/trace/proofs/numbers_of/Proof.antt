@@ -1,10 +1,8 @@
 use Rattle.trace.specs.Reading.{countOf}
 use Rattle.trace.proofs.Lines.{numbers-more, numbers-end}
 use Rattle.word.specs.Value.{value}
-use Prim.Native.Nat.{ℕ, suc, _+_, _*_, _-_, _/_, _%_, _≤_, _<_}
-use mathlib.Core.Path.{_≡_, refl, sym, ap, _∙_}
-use native.Mathlib.Omega.{arith}
-use lib.ListN.{length, getD, set, length-set}
+use Prim.Native.Nat.{_<_}
+use mathlib.Core.Path.{refl, _∙_}
 use borrow.Author.Needs.{needs}
 use Rattle.trace.proofs.numbers_of.Statement.{statement}
 use Rattle.trace.proofs.numbers_of.Tie as tie

@@ -10,10 +10,10 @@ use mathlib.Core.Logic.{inl, inr}
 use Rattle.trace.specs.Reading.{countOf, afterOf, ahead, fieldsFrom}
 use Rattle.trace.proofs.Lines.{line-bad, line-good, count-le}
 use borrow.Author.Tests.{not-true, not-false}
-use Prim.Native.Nat.{ℕ, suc, _+_, _*_, _-_, _/_, _%_, _≤_, _<_}
+use Prim.Native.Nat.{ℕ, _<_}
 use mathlib.Core.Path.{_≡_, refl, sym, ap, _∙_}
 use native.Mathlib.Omega.{arith}
-use lib.ListN.{length, getD, set, length-set, take}
+use lib.ListN.{take}
 use borrow.Author.Needs.{needs}
 use Rattle.trace.proofs.parse.Statement.{statement}
 use Rattle.trace.proofs.parse.Tie as tie

@@ -1,10 +1,10 @@
 use Rattle.trace.proofs.Fields.{same-lengths, same-step, same-stop, same-done}
 use Rattle.trace.specs.Language.{same}
 use borrow.Author.Needs.{needs}
-use Prim.Native.Nat.{ℕ, suc, _+_, _*_, _-_, _/_, _%_, _≤_, _<_}
-use mathlib.Core.Path.{_≡_, refl, sym, ap, _∙_}
+use Prim.Native.Nat.{_-_, _≤_, _<_}
+use mathlib.Core.Path.{_≡_, refl, _∙_}
 use native.Mathlib.Omega.{arith}
-use lib.ListN.{length, getD, set, length-set, drop}
+use lib.ListN.{length, drop}
 use Rattle.trace.proofs.same.Statement.{statement}
 use Rattle.trace.proofs.same.Tie as tie
 

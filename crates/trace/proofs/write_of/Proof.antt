@@ -2,12 +2,11 @@ use Rattle.trace.specs.Language.{hexadecimal}
 use Rattle.word.specs.Value.{value}
 use mathlib.Core.Option.{none, some}
 use Rattle.trace.proofs.Lines.{word-past, word-more, word-bad, word-is, none-told, some-told, part-rest}
-use Rattle.trace.specs.Reading.{spaceAt}
 use borrow.Author.Tests.{not-true, not-false}
-use Prim.Native.Nat.{ℕ, suc, _+_, _*_, _-_, _/_, _%_, _≤_, _<_}
-use mathlib.Core.Path.{_≡_, refl, sym, ap, _∙_}
+use Prim.Native.Nat.{_-_, _<_}
+use mathlib.Core.Path.{_≡_, sym, ap, _∙_}
 use native.Mathlib.Omega.{arith}
-use lib.ListN.{length, getD, set, length-set, drop, take}
+use lib.ListN.{length, drop, take}
 use borrow.Author.Needs.{needs}
 use Rattle.trace.proofs.write_of.Statement.{statement}
 use Rattle.trace.proofs.write_of.Tie as tie

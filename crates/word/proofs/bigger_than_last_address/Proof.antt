@@ -5,7 +5,6 @@ use lib.ListN.{getD}
 use borrow.Author.Tests.{lt-ltb, le-ltb}
 use borrow.Author.Needs.{needs}
 use Rattle.word.specs.Value.{value}
-use Rattle.word.proofs.Bytes.{limbs}
 use Rattle.word.proofs.Limbs.{above-a, above-b, above-c, above-d, only-a}
 use Rattle.word.proofs.bigger_than_last_address.Statement.{statement}
 use Rattle.word.proofs.bigger_than_last_address.Tie as tie

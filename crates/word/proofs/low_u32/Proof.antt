@@ -1,7 +1,6 @@
 use lib.ListN.{getD}
 use borrow.Author.Needs.{needs}
 use Rattle.word.specs.Value.{value}
-use Rattle.word.proofs.Bytes.{limbs}
 use Rattle.word.proofs.Limbs.{low-mod}
 use Rattle.word.proofs.low_u32.Statement.{statement}
 use Rattle.word.proofs.low_u32.Tie as tie

@@ -1,7 +1,6 @@
 use lib.ListN.{getD}
 use borrow.Author.Needs.{needs}
 use Rattle.word.specs.Value.{value}
-use Rattle.word.proofs.Bytes.{limbs}
 use Rattle.word.proofs.Swaps.{written}
 use Rattle.word.proofs.to_big_endian.Statement.{statement}
 use Rattle.word.proofs.to_big_endian.Tie as tie

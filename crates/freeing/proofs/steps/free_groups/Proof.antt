@@ -4,8 +4,6 @@ use Prim.Native.Nat.{_+_, _-_, _≤_}
 use mathlib.Core.Path.{_≡_, refl}
 use Rattle.store.specs.Mem.{mem}
 use borrow.Author.Needs.{needs}
-use Prim.Native.Nat.{_+_, _-_, _≤_}
-use mathlib.Core.Path.{_≡_, refl}
 use native.Mathlib.Omega.{arith}
 use Rattle.freeing.proofs.steps.free_groups.Statement.{statement}
 use Rattle.freeing.proofs.steps.free_groups.Tie as tie

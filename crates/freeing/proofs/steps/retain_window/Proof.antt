@@ -3,7 +3,6 @@ use Rattle.drops.proofs.Drops.{page-still}
 use Rattle.freeing.proofs.Windows.{window-done}
 use Prim.Native.Nat.{_-_}
 use native.Mathlib.Omega.{arith}
-use lib.ListN.{length}
 use borrow.Author.Needs.{needs}
 use Rattle.freeing.proofs.steps.retain_window.Statement.{statement}
 use Rattle.freeing.proofs.steps.retain_window.Tie as tie

@@ -2,10 +2,8 @@ use Rattle.freeing.proofs.Windows.{touched-few, end-past, end-within}
 use Prim.Native.Nat.{ℕ, _+_, _/_}
 use mathlib.Core.Path.{ap}
 use mathlib.Core.Path.{_∙_}
-use Prim.Native.Nat.{ℕ, _+_, _-_, _/_}
-use mathlib.Core.Path.{ap, _∙_}
+use Prim.Native.Nat.{_-_}
 use native.Mathlib.Omega.{arith}
-use lib.ListN.{length}
 use borrow.Author.Needs.{needs}
 use Rattle.freeing.proofs.steps.window_end.Statement.{statement}
 use Rattle.freeing.proofs.steps.window_end.Tie as tie

@@ -1,17 +1,13 @@
 use Rattle.heaptrace.proofs.Tells.{trace-at}
 use Rattle.heaptrace.proofs.Gathering.{roomy-bounded, same-run, same-held, next-place}
-use Rattle.heaptrace.specs.Trace.{TraceTells}
-use Rattle.heaptrace.specs.declared.step.Run.{Run}
-use Rattle.trace.specs.Language.{meaning}
 use Rattle.store.specs.Mem.{mem}
 use Rattle.heaptrace.specs.Bounds.{Bounded, Space}
-use mathlib.Core.List.{[], _∷_, List}
+use mathlib.Core.List.{[], _∷_}
 use Rattle.trace.proofs.Numerals.{reply-length}
 use Rattle.trace.specs.Text.{replyOf, textOf}
-use Prim.Native.Nat.{ℕ, suc, _+_, _*_, _-_, _/_, _%_, _≤_, _<_}
-use mathlib.Core.Path.{_≡_, refl, sym, ap, _∙_, subst}
+use mathlib.Core.Path.{_≡_, refl}
 use native.Mathlib.Omega.{arith}
-use lib.ListN.{length, getD, set, length-set, length-append, take}
+use lib.ListN.{length, length-append}
 use borrow.Author.Needs.{needs}
 use Rattle.heaptrace.proofs.lines.answer.Statement.{statement}
 use Rattle.heaptrace.proofs.lines.answer.Tie as tie

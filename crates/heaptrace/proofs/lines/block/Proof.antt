@@ -1,11 +1,10 @@
 use Rattle.heaptrace.proofs.Gathering.{roomy-bounded}
-use mathlib.Core.Logic.{inl, inr}
+use mathlib.Core.Logic.{inr}
 use Rattle.heaptrace.specs.Bounds.{Bounded, Space}
-use borrow.Author.Needs.{needs}
-use Prim.Native.Nat.{ℕ, suc, _+_, _*_, _-_, _/_, _%_, _≤_, _<_}
-use mathlib.Core.Path.{_≡_, refl, sym, ap, _∙_}
+use Prim.Native.Nat.{_-_}
+use mathlib.Core.Path.{_≡_, sym, _∙_}
 use native.Mathlib.Omega.{arith}
-use lib.ListN.{length, getD, set, length-set}
+use lib.ListN.{length}
 use Rattle.heaptrace.proofs.lines.block.Statement.{statement}
 use Rattle.heaptrace.proofs.lines.block.Tie as tie
 

@@ -1,10 +1,10 @@
 use Rattle.heaptrace.proofs.Gathering.{gather-start, gather-more, gather-full, gather-done}
 use mathlib.Core.List.{_++_}
 use borrow.Author.Needs.{needs}
-use Prim.Native.Nat.{ℕ, suc, _+_, _*_, _-_, _/_, _%_, _≤_, _<_}
-use mathlib.Core.Path.{_≡_, refl, sym, ap, _∙_}
+use Prim.Native.Nat.{_+_, _-_, _≤_}
+use mathlib.Core.Path.{_≡_, refl}
 use native.Mathlib.Omega.{arith}
-use lib.ListN.{length, getD, set, length-set, take}
+use lib.ListN.{length, length-set, take}
 use Rattle.heaptrace.proofs.lines.gather.Statement.{statement}
 use Rattle.heaptrace.proofs.lines.gather.Tie as tie
 

@@ -1,9 +1,9 @@
 use Rattle.heaptrace.proofs.Gathering.{inside-more}
 use borrow.Author.Needs.{needs}
-use Prim.Native.Nat.{ℕ, suc, _+_, _*_, _-_, _/_, _%_, _≤_, _<_}
-use mathlib.Core.Path.{_≡_, refl, sym, ap, _∙_}
+use Prim.Native.Nat.{ℕ, _-_, _≤_, _<_}
+use mathlib.Core.Path.{_≡_}
 use native.Mathlib.Omega.{arith}
-use lib.ListN.{length, getD, set, length-set}
+use lib.ListN.{length, getD}
 use Rattle.heaptrace.proofs.lines.line_end.Statement.{statement}
 use Rattle.heaptrace.proofs.lines.line_end.Tie as tie
 

@@ -1,8 +1,7 @@
 use Rattle.heaptrace.specs.declared.lines.State.{State}
-use Prim.Native.Nat.{_≤_}
 use native.Mathlib.Omega.{arith}
 use mathlib.Core.Logic.{inl, inr}
-use mathlib.Core.Path.{_≡_, refl, sym, ap}
+use mathlib.Core.Path.{_≡_, refl, ap}
 use borrow.Author.Needs.{needs}
 use Rattle.heaptrace.proofs.lines.roomy.Statement.{statement}
 use Rattle.heaptrace.proofs.lines.roomy.Tie as tie

@@ -1,9 +1,7 @@
 use Rattle.heaptrace.specs.Bounds.{Bounded, Space}
 use borrow.Author.Needs.{needs}
-use Prim.Native.Nat.{ℕ, suc, _+_, _*_, _-_, _/_, _%_, _≤_, _<_}
-use mathlib.Core.Path.{_≡_, refl, sym, ap, _∙_}
-use native.Mathlib.Omega.{arith}
-use lib.ListN.{length, getD, set, length-set}
+use mathlib.Core.Path.{_≡_, refl, sym, _∙_}
+use lib.ListN.{length}
 use Rattle.heaptrace.proofs.lines.run.Statement.{statement}
 use Rattle.heaptrace.proofs.lines.run.Tie as tie
 

@@ -1,13 +1,10 @@
 use Rattle.heaptrace.proofs.Tells.{after-other}
 use Rattle.heaptrace.specs.Trace.{afterOpening}
 use Rattle.word.specs.Value.{value}
-use Rattle.trace.specs.Text.{Told, replyWith}
-use Rattle.trace.specs.declared.text.Answered.the-variants.{Unread, Done, Word, Marks, Refused}
+use Rattle.trace.specs.Text.{replyWith}
 use Rattle.trace.specs.declared.text.Answered.{Answered}
-use Prim.Native.Nat.{ℕ, suc, _+_, _*_, _-_, _/_, _%_, _≤_, _<_}
-use mathlib.Core.Path.{_≡_, refl, sym, ap, _∙_}
-use native.Mathlib.Omega.{arith}
-use lib.ListN.{length, getD, set, length-set}
+use mathlib.Core.Path.{sym, ap}
+use lib.ListN.{getD}
 use borrow.Author.Needs.{needs}
 use Rattle.heaptrace.proofs.step.after.Statement.{statement}
 use Rattle.heaptrace.proofs.step.after.Tie as tie

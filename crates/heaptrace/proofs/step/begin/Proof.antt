@@ -1,8 +1,4 @@
 use Rattle.heaptrace.proofs.Tells.{tells}
-use Prim.Native.Nat.{ℕ, suc, _+_, _*_, _-_, _/_, _%_, _≤_, _<_}
-use mathlib.Core.Path.{_≡_, refl, sym, ap, _∙_}
-use native.Mathlib.Omega.{arith}
-use lib.ListN.{length, getD, set, length-set}
 use borrow.Author.Needs.{needs}
 use Rattle.heaptrace.proofs.step.begin.Statement.{statement}
 use Rattle.heaptrace.proofs.step.begin.Tie as tie

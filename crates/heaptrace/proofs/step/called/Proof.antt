@@ -1,10 +1,5 @@
 use Rattle.heaptrace.proofs.Tells.{open-of}
-use Rattle.trace.specs.declared.Kind.the-variants.{Unread, Open, Write, Read, Snapshot, Rollback}
-use Rattle.word.specs.Value.{value}
-use Prim.Native.Nat.{ℕ, suc, _+_, _*_, _-_, _/_, _%_, _≤_, _<_}
-use mathlib.Core.Path.{_≡_, refl, sym, ap, _∙_}
-use native.Mathlib.Omega.{arith}
-use lib.ListN.{length, getD, set, length-set}
+use mathlib.Core.Path.{refl}
 use borrow.Author.Needs.{needs}
 use Rattle.heaptrace.proofs.step.called.Statement.{statement}
 use Rattle.heaptrace.proofs.step.called.Tie as tie

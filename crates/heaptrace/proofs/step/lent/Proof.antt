@@ -1,12 +1,10 @@
 use Rattle.heaptrace.specs.Bounds.{Space}
 use Rattle.heaptrace.proofs.Tells.{parts-tell, minus-none, part-long, bytes-fit, keys-fit, order-fit, words-fit}
-use Rattle.heaptrace.specs.Trace.{bytesIn, keysIn, orderIn, wordsIn}
 use Rattle.trace.specs.Text.{replyOf}
 use Rattle.trace.specs.Language.{commandOf}
-use Prim.Native.Nat.{ℕ, suc, _+_, _*_, _-_, _/_, _%_, _≤_, _<_}
-use mathlib.Core.Path.{_≡_, refl, sym, ap, _∙_}
-use native.Mathlib.Omega.{arith}
-use lib.ListN.{length, getD, set, length-set}
+use Prim.Native.Nat.{_+_, _*_, _-_}
+use mathlib.Core.Path.{_∙_}
+use lib.ListN.{length}
 use borrow.Author.Needs.{needs}
 use Rattle.heaptrace.proofs.step.lent.Statement.{statement}
 use Rattle.heaptrace.proofs.step.lent.Tie as tie

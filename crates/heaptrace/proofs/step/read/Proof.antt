@@ -2,10 +2,7 @@ use Rattle.heaptrace.proofs.Tells.{tells, word-refused, word-given}
 use Rattle.reads.proofs.Calls.{word-call}
 use Rattle.word.specs.Value.{value}
 use Rattle.store.specs.Mem.{mem}
-use Prim.Native.Nat.{ℕ, suc, _+_, _*_, _-_, _/_, _%_, _≤_, _<_}
-use mathlib.Core.Path.{_≡_, refl, sym, ap, _∙_}
-use native.Mathlib.Omega.{arith}
-use lib.ListN.{length, getD, set, length-set}
+use mathlib.Core.Path.{_∙_}
 use borrow.Author.Needs.{needs}
 use Rattle.heaptrace.proofs.step.read.Statement.{statement}
 use Rattle.heaptrace.proofs.step.read.Tie as tie

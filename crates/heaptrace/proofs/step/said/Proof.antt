@@ -1,10 +1,7 @@
 use Rattle.outcome.specs.declared.Answer.{Answer}
 use Rattle.heaptrace.specs.Trace.{toldOf}
 use Rattle.view.specs.Calls.{told}
-use Prim.Native.Nat.{ℕ, suc, _+_, _*_, _-_, _/_, _%_, _≤_, _<_}
-use mathlib.Core.Path.{_≡_, refl, sym, ap, _∙_}
-use native.Mathlib.Omega.{arith}
-use lib.ListN.{length, getD, set, length-set}
+use mathlib.Core.Path.{sym, ap, _∙_}
 use borrow.Author.Needs.{needs}
 use Rattle.heaptrace.proofs.step.said.Statement.{statement}
 use Rattle.heaptrace.proofs.step.said.Tie as tie

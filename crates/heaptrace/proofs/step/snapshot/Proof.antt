@@ -1,10 +1,7 @@
 use Rattle.heaptrace.proofs.Tells.{tells, marks-refused, marks-given}
 use Rattle.reads.proofs.Calls.{marks-call}
 use Rattle.store.specs.Mem.{mem}
-use Prim.Native.Nat.{ℕ, suc, _+_, _*_, _-_, _/_, _%_, _≤_, _<_}
-use mathlib.Core.Path.{_≡_, refl, sym, ap, _∙_}
-use native.Mathlib.Omega.{arith}
-use lib.ListN.{length, getD, set, length-set}
+use mathlib.Core.Path.{_∙_}
 use borrow.Author.Needs.{needs}
 use Rattle.heaptrace.proofs.step.snapshot.Statement.{statement}
 use Rattle.heaptrace.proofs.step.snapshot.Tie as tie

@@ -5,10 +5,7 @@ use Rattle.store.specs.Mem.{mem}
 use Rattle.word.specs.Value.{value}
 use borrow.Author.Tests.{not-true, not-false}
 use mathlib.Core.Bool.{false≢true}
-use Prim.Native.Nat.{ℕ, suc, _+_, _*_, _-_, _/_, _%_, _≤_, _<_}
-use mathlib.Core.Path.{_≡_, refl, sym, ap, _∙_}
-use native.Mathlib.Omega.{arith}
-use lib.ListN.{length, getD, set, length-set}
+use mathlib.Core.Path.{refl, sym, _∙_}
 use borrow.Author.Needs.{needs}
 use Rattle.heaptrace.proofs.step.take.Statement.{statement}
 use Rattle.heaptrace.proofs.step.take.Tie as tie

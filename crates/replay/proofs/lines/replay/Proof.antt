@@ -1,12 +1,9 @@
 use borrow.Author.Needs.{needs}
-use Prim.Native.Nat.{ℕ, suc, _+_, _*_, _-_, _/_, _%_, _≤_, _<_}
-use mathlib.Core.Path.{_≡_, refl, sym, ap, _∙_}
-use native.Mathlib.Omega.{arith}
-use lib.ListN.{length, getD, set, length-set}
+use Prim.Native.Nat.{_-_, _≤_}
+use mathlib.Core.Path.{_≡_, _∙_}
+use lib.ListN.{length}
 use Rattle.replay.proofs.lines.replay.Statement.{statement}
 use Rattle.replay.proofs.lines.replay.Tie as tie
-use Rattle.stored.proofs.groups.finish.Reads as finish-reads
-use Rattle.stored.proofs.groups.judge.Reads as judge-reads
 
 abbrev Inv-loop : tie.InvT-loop
 Inv-loop bytes₀ keys₀ order₀ words₀ input₀ text₀ n₀ cursor₀ line₀ bytes keys order words input text n cursor line = (line ≤ 18446744073709551615) × (length bytes ≡ 65536) × (length keys ≡ 248) × (length order ≡ 632) × (length words ≡ 1568) × (length input ≡ length input₀) × (length text ≡ length text₀)

@@ -2,10 +2,10 @@ use Rattle.trace.proofs.Numerals.{numeral-start, numeral-ends, numeral-
 use Rattle.trace.specs.Text.{numeral}
 use mathlib.Core.List.{_++_}
 use borrow.Author.Needs.{needs}
-use Prim.Native.Nat.{ℕ, suc, _+_, _*_, _-_, _/_, _%_, _≤_, _<_}
-use mathlib.Core.Path.{_≡_, refl, sym, ap, _∙_}
+use Prim.Native.Nat.{_≤_, _<_}
+use mathlib.Core.Path.{_≡_, refl, sym, _∙_}
 use native.Mathlib.Omega.{arith}
-use lib.ListN.{length, getD, set, length-set, drop, replicate}
+use lib.ListN.{length, length-set, drop, replicate}
 use Rattle.trace.proofs.text.decimal_numeral.Statement.{statement}
 use Rattle.trace.proofs.text.decimal_numeral.Tie as tie
 

@@ -4,10 +4,10 @@ use Rattle.word.specs.Value.{value}
 use borrow.Author.Tests.{eqb-true, eqb-false}
 use mathlib.Core.List.{_++_}
 use borrow.Author.Needs.{needs}
-use Prim.Native.Nat.{ℕ, suc, _+_, _*_, _-_, _/_, _%_, _≤_, _<_}
+use Prim.Native.Nat.{ℕ, _-_, _/_, _%_, _≤_, _<_}
 use mathlib.Core.Path.{_≡_, refl, sym, ap, _∙_}
 use native.Mathlib.Omega.{arith}
-use lib.ListN.{length, getD, set, length-set, drop, replicate}
+use lib.ListN.{length, set, length-set, drop, replicate}
 use Rattle.trace.proofs.text.hexadecimal_numeral.Statement.{statement}
 use Rattle.trace.proofs.text.hexadecimal_numeral.Tie as tie
 

@@ -1,11 +1,11 @@
 use Rattle.trace.proofs.Numerals.{not-zero}
-use borrow.Author.Tests.{eq-eqb, ne-eqb}
+use borrow.Author.Tests.{eq-eqb}
 use Rattle.word.proofs.Limbs.{above-a, above-b, above-c, above-d, only-a}
-use Rattle.word.specs.Value.{value, limbsValue}
-use Prim.Native.Nat.{ℕ, suc, _+_, _*_, _-_, _/_, _%_, _≤_, _<_}
-use mathlib.Core.Path.{_≡_, refl, sym, ap, _∙_}
+use Rattle.word.specs.Value.{value}
+use Prim.Native.Nat.{_<_}
+use mathlib.Core.Path.{sym, _∙_}
 use native.Mathlib.Omega.{arith}
-use lib.ListN.{length, getD, set, length-set}
+use lib.ListN.{getD}
 use borrow.Author.Needs.{needs}
 use Rattle.trace.proofs.text.is_zero.Statement.{statement}
 use Rattle.trace.proofs.text.is_zero.Tie as tie

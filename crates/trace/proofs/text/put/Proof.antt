@@ -1,10 +1,10 @@
 use Rattle.trace.proofs.Numerals.{put-more, put-done, put-start}
 use mathlib.Core.List.{_++_}
 use borrow.Author.Needs.{needs}
-use Prim.Native.Nat.{ℕ, suc, _+_, _*_, _-_, _/_, _%_, _≤_, _<_}
-use mathlib.Core.Path.{_≡_, refl, sym, ap, _∙_}
+use Prim.Native.Nat.{_+_, _-_, _≤_, _<_}
+use mathlib.Core.Path.{_≡_, refl}
 use native.Mathlib.Omega.{arith}
-use lib.ListN.{length, getD, set, length-set, take, drop}
+use lib.ListN.{length, length-set, take}
 use Rattle.trace.proofs.text.put.Statement.{statement}
 use Rattle.trace.proofs.text.put.Tie as tie
 

@@ -1,9 +1,8 @@
 use Rattle.trace.specs.Text.{numeral}
-use Rattle.trace.proofs.Numerals.{part-text, part-short, as-text, numeral-length}
-use Prim.Native.Nat.{ℕ, suc, _+_, _*_, _-_, _/_, _%_, _≤_, _<_}
-use mathlib.Core.Path.{_≡_, refl, sym, ap, _∙_}
+use Rattle.trace.proofs.Numerals.{part-text, as-text}
+use Prim.Native.Nat.{_-_, _<_}
 use native.Mathlib.Omega.{arith}
-use lib.ListN.{length, getD, set, length-set, take, drop, length-take}
+use lib.ListN.{drop, length-take}
 use borrow.Author.Needs.{needs}
 use Rattle.trace.proofs.text.put_decimal.Statement.{statement}
 use Rattle.trace.proofs.text.put_decimal.Tie as tie

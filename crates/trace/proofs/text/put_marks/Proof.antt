@@ -1,8 +1,6 @@
 use Rattle.trace.proofs.Numerals.{then, numeral-length}
-use Prim.Native.Nat.{ℕ, suc, _+_, _*_, _-_, _/_, _%_, _≤_, _<_}
-use mathlib.Core.Path.{_≡_, refl, sym, ap, _∙_}
+use Prim.Native.Nat.{_<_}
 use native.Mathlib.Omega.{arith}
-use lib.ListN.{length, getD, set, length-set}
 use borrow.Author.Needs.{needs}
 use Rattle.trace.proofs.text.put_marks.Statement.{statement}
 use Rattle.trace.proofs.text.put_marks.Tie as tie

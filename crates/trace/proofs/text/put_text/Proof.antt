@@ -2,10 +2,8 @@ use Rattle.trace.specs.declared.text.Answered.{Answered}
 use Rattle.trace.proofs.Numerals.{as-text}
 use Rattle.word.specs.Value.{value}
 use Rattle.trace.specs.Text.{replyWith, textOf}
-use Prim.Native.Nat.{ℕ, suc, _+_, _*_, _-_, _/_, _%_, _≤_, _<_}
-use mathlib.Core.Path.{_≡_, refl, sym, ap, _∙_}
-use native.Mathlib.Omega.{arith}
-use lib.ListN.{length, getD, set, length-set}
+use Prim.Native.Nat.{_<_}
+use mathlib.Core.Path.{sym, ap}
 use borrow.Author.Needs.{needs}
 use Rattle.trace.proofs.text.put_text.Statement.{statement}
 use Rattle.trace.proofs.text.put_text.Tie as tie

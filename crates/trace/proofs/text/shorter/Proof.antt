@@ -1,9 +1,7 @@
 use Rattle.trace.proofs.Numerals as numerals
 use Rattle.word.specs.Value.{value}
-use Prim.Native.Nat.{ℕ, suc, _+_, _*_, _-_, _/_, _%_, _≤_, _<_}
-use mathlib.Core.Path.{_≡_, refl, sym, ap, _∙_}
+use Prim.Native.Nat.{_<_}
 use native.Mathlib.Omega.{arith}
-use lib.ListN.{length, getD, set, length-set}
 use borrow.Author.Needs.{needs}
 use Rattle.trace.proofs.text.shorter.Statement.{statement}
 use Rattle.trace.proofs.text.shorter.Tie as tie

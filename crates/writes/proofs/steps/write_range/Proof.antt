@@ -4,6 +4,8 @@ use borrow.Author.Needs.{needs}
 use Rattle.store.specs.Mem.{mem}
 use Rattle.view.specs.View.{View, settingOf, viewOf}
 use Rattle.view.specs.Steps.{alignedCount, alignedNotes}
+use Rattle.view.specs.Inner.{putting}
+use Rattle.bodies.proofs.Puts.{shows-then}
 use Rattle.refusals.proofs.Passed.{bytes-passed}
 use Rattle.writes.proofs.Chains.{bytes-cleared, count-small, prepare-asks, journal-asks, aligned-notes-same, put-asks, write-done}
 use Rattle.writes.proofs.steps.write_range.Statement.{statement}
@@ -60,7 +62,7 @@ returns c =
     let at-prepare = at-journal-range .before .before .before .before .before .before .before .before .before .before .before in
     let at-touched = at-prepare .before .before .before .before .before in
     let start = at-touched .before .before .before .before .before .before in
-    write-done (mem (start .args .bytes .now) (start .args .keys .now) (start .args .order .now) (start .args .words .now)) (start .args .page) (start .args .start) (start .args .src .now) (alignedCount (start .args .start) (length (start .args .src .now))) (at-touched .touched .result) (bytes-cleared (mem (start .args .bytes .now) (start .args .keys .now) (start .args .order .now) (start .args .words .now)) (start .args .page) (start .args .start) (at-touched .touched .result) (omega (arith, start .fits .page)) (length (start .args .src .now)) (start .pre) (at-touched .touched .ensures)) (mem (start .args .bytes .now) (at-prepare .prepare .last .1 .0) (at-prepare .prepare .last .1 .1 .0) (at-prepare .prepare .last .1 .1 .1 .0)) (at-prepare .prepare .ensures) (λ (v : View). alignedNotes v (start .args .page) (start .args .start) (length (start .args .src .now))) (λ v w. aligned-notes-same v w (start .args .page) (start .args .start) (length (start .args .src .now))) (mem (at-journal-range .journal-range .last .0) (at-prepare .prepare .last .1 .0) (at-prepare .prepare .last .1 .1 .0) (at-journal-range .journal-range .last .1 .1 .1 .0)) (at-journal-range .journal-range .ensures) _ (at-write-from .write-from .ensures)
+    write-done (mem (start .args .bytes .now) (start .args .keys .now) (start .args .order .now) (start .args .words .now)) (start .args .page) (start .args .start) (start .args .src .now) (alignedCount (start .args .start) (length (start .args .src .now))) (at-touched .touched .result) (bytes-cleared (mem (start .args .bytes .now) (start .args .keys .now) (start .args .order .now) (start .args .words .now)) (start .args .page) (start .args .start) (at-touched .touched .result) (omega (arith, start .fits .page)) (length (start .args .src .now)) (start .pre) (at-touched .touched .ensures)) (mem (start .args .bytes .now) (at-prepare .prepare .last .1 .0) (at-prepare .prepare .last .1 .1 .0) (at-prepare .prepare .last .1 .1 .1 .0)) (at-prepare .prepare .ensures) (λ (v : View). alignedNotes v (start .args .page) (start .args .start) (length (start .args .src .now))) (λ v w. aligned-notes-same v w (start .args .page) (start .args .start) (length (start .args .src .now))) _ (shows-then (putting (start .args .page) (start .args .start) (start .args .src .now)) (at-journal-range .journal-range .ensures) (at-write-from .write-from .ensures))
 
 pub write-range-spec : {M : Type 1} → statement M
 write-range-spec = tie.close (tie.spec touched-requires cast-count prepare-requires journal-range-requires write-from-requires same-length same-length-2 same-length-3 same-length-4 returns)

@@ -1,7 +1,8 @@
 use mathlib.Core.Path.{ap, _∙_}
+use Rattle.outcome.specs.Outcome.{mapped}
 use Rattle.page_ids.specs.declared.Decoding.{Decoding}
 use Rattle.page_ids.specs.Decode.{told}
-use Rattle.zincpapaya.specs.Numbers.{mapped, pageNumbers}
+use Rattle.zincpapaya.specs.Numbers.{pageNumbers}
 use Rattle.zincpapaya.proofs.ArithmeticLists.{pair-is}
 use Rattle.zincpapaya.proofs.ArithmeticGives.{done-told}
 use borrow.Author.Needs.{needs}

@@ -1,7 +1,8 @@
 use mathlib.Core.Path.{refl, ap, _∙_}
+use Rattle.outcome.specs.Outcome.{mapped}
 use Rattle.zincpapaya.proofs.ArithmeticGives.{plain-mapped, decoding-plain, unfit, gives}
 use Rattle.opening.specs.Opening.{layoutFrom}
-use Rattle.zincpapaya.specs.Numbers.{all, mapped, pageNumbers}
+use Rattle.zincpapaya.specs.Numbers.{asTheyAre, pageNumbers}
 use Rattle.page_ids.specs.declared.Layout.{Layout}
 use Rattle.page_ids.specs.Decode.{decoding}
 use borrow.Author.Needs.{needs}
@@ -12,7 +13,7 @@ returns : tie.Need-returns
 returns c =
     let at-if1 = c in
     let start = at-if1 .before .before in
-    unfit 2 all (start .args .out .now) (mapped pageNumbers (decoding (layoutFrom (start .args .static-memory) (start .args .calldata-page) (start .args .bootloader-heap) (start .args .bootloader-aux) (start .args .base) (start .args .stride)) (start .args .page))) (at-if1 .if1 .taken)
+    unfit 2 asTheyAre (start .args .out .now) (mapped pageNumbers (decoding (layoutFrom (start .args .static-memory) (start .args .calldata-page) (start .args .bootloader-heap) (start .args .bootloader-aux) (start .args .base) (start .args .stride)) (start .args .page))) (at-if1 .if1 .taken)
 
 layout-of-requires : tie.Need-layout-of-requires
 layout-of-requires c κs = tt
@@ -33,7 +34,7 @@ returns-2 c =
     let at-layout-of = at-decode .before .before in
     let at-if1 = at-layout-of .before in
     let start = at-if1 .before .before in
-    gives 2 all (start .args .out .now) (at-if1 .if1 .left) all (λ a. refl) (ap (mapped pageNumbers) (at-decode .decode .ensures ∙ ap (λ (l : Layout). decoding l (start .args .page)) (at-layout-of .layout-of .ensures))) (plain-mapped pageNumbers (decoding-plain (layoutFrom (start .args .static-memory) (start .args .calldata-page) (start .args .bootloader-heap) (start .args .bootloader-aux) (start .args .base) (start .args .stride)) (start .args .page))) (at-put-decoding .put-decoding .ensures)
+    gives 2 asTheyAre (start .args .out .now) (at-if1 .if1 .left) asTheyAre (λ a. refl) (ap (mapped pageNumbers) (at-decode .decode .ensures ∙ ap (λ (l : Layout). decoding l (start .args .page)) (at-layout-of .layout-of .ensures))) (plain-mapped pageNumbers (decoding-plain (layoutFrom (start .args .static-memory) (start .args .calldata-page) (start .args .bootloader-heap) (start .args .bootloader-aux) (start .args .base) (start .args .stride)) (start .args .page))) (at-put-decoding .put-decoding .ensures)
 
 pub zp-decode-spec : {M : Type 1} → statement M
 zp-decode-spec =

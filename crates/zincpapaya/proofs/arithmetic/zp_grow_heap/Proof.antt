@@ -24,11 +24,11 @@ frame-of-requires c κs = search needs
 area-of-requires : tie.Need-area-of-requires
 area-of-requires c κs = tt
 
-access-requires : tie.Need-access-requires
-access-requires c κs = tt
+grow-frame-requires : tie.Need-grow-frame-requires
+grow-frame-requires c κs = tt
 
-put-frame-requires : tie.Need-put-frame-requires
-put-frame-requires c κs = search needs
+put-growth-requires : tie.Need-put-growth-requires
+put-growth-requires c κs = search needs
 
 bit-requires : tie.Need-bit-requires
 bit-requires c κs = tt
@@ -46,14 +46,14 @@ returns-3 : tie.Need-returns-3
 returns-3 c =
     let at-put-one = c .before .before in
     let at-bit = at-put-one .before in
-    let at-put-frame = at-bit .before .before .before .before in
-    let at-access = at-put-frame .before .before in
-    let at-area-of = at-access .before in
+    let at-put-growth = at-bit .before .before .before .before in
+    let at-grow-frame = at-put-growth .before .before in
+    let at-area-of = at-grow-frame .before in
     let at-frame-of = at-area-of .before in
     let at-if2 = at-frame-of .before .before in
     let at-if1 = at-if2 .before in
     let start = at-if1 .before .before .before in
-    grows (start .args .frame .now) (start .args .out .now) (accessed (frameOf (start .args .frame .now)) (areaOf (start .args .aux)) (start .args .new-bound)) (at-if1 .if1 .left) (at-if2 .if2 .left) (at-access .access .ensures ∙ (λ i. accessed (at-frame-of .frame-of .ensures i) (at-area-of .area-of .ensures i) (start .args .new-bound))) (at-put-one .put-one .ensures .0) (at-put-frame .put-frame .ensures) (at-put-one .put-one .ensures .1) (at-bit .bit .ensures)
+    grows (start .args .frame .now) (start .args .out .now) (accessed (frameOf (start .args .frame .now)) (areaOf (start .args .aux)) (start .args .new-bound)) (at-if1 .if1 .left) (at-if2 .if2 .left) (at-grow-frame .grow-frame .ensures ∙ (λ i. accessed (at-frame-of .frame-of .ensures i) (at-area-of .area-of .ensures i) (start .args .new-bound))) (at-put-one .put-one .ensures .0) (at-put-growth .put-growth .ensures) (at-put-one .put-one .ensures .1) (at-bit .bit .ensures)
 
 pub zp-grow-heap-spec : {M : Type 1} → statement M
 zp-grow-heap-spec =
@@ -63,8 +63,8 @@ zp-grow-heap-spec =
     returns-2
     frame-of-requires
     area-of-requires
-    access-requires
-    put-frame-requires
+    grow-frame-requires
+    put-growth-requires
     bit-requires
     put-one-requires
     same-length

@@ -1,7 +1,7 @@
 use mathlib.Core.Path.{refl, ap, _∙_}
 use Rattle.zincpapaya.proofs.ArithmeticLists.{pair-is}
 use Rattle.zincpapaya.proofs.ArithmeticGives.{unfit, given}
-use Rattle.zincpapaya.specs.Numbers.{all, gasNumbers}
+use Rattle.zincpapaya.specs.Numbers.{asTheyAre, gasNumbers}
 use Rattle.outcome.specs.Outcome.{done}
 use Rattle.state.specs.Access.{used}
 use borrow.Author.Needs.{needs}
@@ -12,7 +12,7 @@ returns : tie.Need-returns
 returns c =
     let at-if1 = c in
     let start = at-if1 .before .before in
-    unfit 2 all (start .args .out .now) (done (gasNumbers (used (start .args .gas) (start .args .amount)))) (at-if1 .if1 .taken)
+    unfit 2 asTheyAre (start .args .out .now) (done (gasNumbers (used (start .args .gas) (start .args .amount)))) (at-if1 .if1 .taken)
 
 use-gas-requires : tie.Need-use-gas-requires
 use-gas-requires c κs = tt
@@ -33,7 +33,7 @@ returns-2 c =
     let at-use-gas = at-bit .before .before in
     let at-if1 = at-use-gas .before in
     let start = at-if1 .before .before in
-    given 2 (gasNumbers (used (start .args .gas) (start .args .amount))) all (start .args .out .now) (at-if1 .if1 .left) (at-put-two .put-two .ensures .0) (at-put-two .put-two .ensures .1 ∙ pair-is refl (at-bit .bit .ensures) ∙ ap gasNumbers (at-use-gas .use-gas .ensures))
+    given 2 (gasNumbers (used (start .args .gas) (start .args .amount))) asTheyAre (start .args .out .now) (at-if1 .if1 .left) (at-put-two .put-two .ensures .0) (at-put-two .put-two .ensures .1 ∙ pair-is refl (at-bit .bit .ensures) ∙ ap gasNumbers (at-use-gas .use-gas .ensures))
 
 pub zp-use-gas-spec : {M : Type 1} → statement M
 zp-use-gas-spec =

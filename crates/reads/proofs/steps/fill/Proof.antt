@@ -1,0 +1,60 @@
+use mathlib.Core.Path.{_≡_, refl}
+use Prim.Native.Nat.{_-_, _≤_}
+use native.Mathlib.Omega.{arith}
+use lib.ListN.{length, length-set}
+use borrow.Author.Needs.{needs}
+use Rattle.reads.specs.Reading.{Put}
+use Rattle.reads.proofs.Puts.{put-none, put-more}
+use Rattle.reads.proofs.steps.fill.Statement.{statement}
+use Rattle.reads.proofs.steps.fill.Tie as tie
+
+abbrev Inv-loop : tie.InvT-loop
+Inv-loop out₀ to n i₀ out i = (i ≤ n) × (length out ≡ length out₀) × Put (λ j. 0) to i out₀ out
+
+abbrev μ-loop : tie.MeasureT-loop
+μ-loop out₀ to n i₀ out i = n - i
+
+loop-holds : tie.Need-loop-holds Inv-loop μ-loop
+loop-holds c = (search needs, refl, put-none _ _ _)
+
+add-out : tie.Need-add-out Inv-loop μ-loop
+add-out c = search needs
+
+slice-write-out : tie.Need-slice-write-out Inv-loop μ-loop
+slice-write-out c = search needs
+
+add-i : tie.Need-add-i Inv-loop μ-loop
+add-i c = search needs
+
+loop-less : tie.Need-loop-less Inv-loop μ-loop
+loop-less c = search needs
+
+loop-again : tie.Need-loop-again Inv-loop μ-loop
+loop-again c =
+    let at-loop = c .before in
+    (search needs, simp length-set (at-loop .loop .inv .1), put-more _ _ _ (at-loop .loop .i) _ (at-loop .loop .out) (search needs) refl (at-loop .loop .inv .2))
+
+same-length : tie.Need-same-length Inv-loop μ-loop
+same-length c = search needs
+
+returns : tie.Need-returns Inv-loop μ-loop
+returns c =
+    let at-loop-test = c in
+    let at-loop = at-loop-test .before in
+    let start = at-loop .before in
+    let e : at-loop .loop .i ≡ start .args .n = omega (arith, at-loop .loop .inv .0, at-loop-test .loop-test .left) in rw e at (at-loop .loop .inv .2)
+
+pub fill-spec : {M : Type 1} → statement M
+fill-spec =
+    tie.close
+    (tie.spec
+    Inv-loop
+    μ-loop
+    loop-holds
+    add-out
+    slice-write-out
+    add-i
+    loop-less
+    loop-again
+    same-length
+    returns)

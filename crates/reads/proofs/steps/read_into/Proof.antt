@@ -1,0 +1,89 @@
+use mathlib.Core.Path.{_≡_, refl, _∙_}
+use Prim.Native.Nat.{ℕ, _+_, _-_, _≤_, _<_}
+use native.Mathlib.Nat.{not-suc-le-zero}
+use native.Mathlib.Omega.{arith}
+use lib.ListN.{length, getD}
+use borrow.Author.Needs.{needs}
+use Rattle.formed.proofs.Same.{tab-is}
+use Rattle.store.specs.Mem.{mem}
+use Rattle.formed.specs.Parts.{byteAt}
+use Rattle.reads.proofs.Bytes.{part-on}
+use Rattle.reads.proofs.steps.read_into.Statement.{statement}
+use Rattle.reads.proofs.steps.read_into.Tie as tie
+
+abbrev Inv-loop : tie.InvT-loop
+Inv-loop bytes keys order words page start out₀ pos₀ out pos = (pos ≤ length out₀) × (length out ≡ length out₀) × ((i : ℕ) → i < pos → getD out i 0 ≡ byteAt (mem bytes keys order words) page (start + i))
+
+abbrev μ-loop : tie.MeasureT-loop
+μ-loop bytes keys order words page start out₀ pos₀ out pos = length out₀ - pos
+
+loop-holds : tie.Need-loop-holds Inv-loop μ-loop
+loop-holds c = (search needs, refl, λ i l. absurd (not-suc-le-zero l))
+
+add-a : tie.Need-add-a Inv-loop μ-loop
+add-a c = search needs
+
+sub-least : tie.Need-sub-least Inv-loop μ-loop
+sub-least c = search needs
+
+sub-least-2 : tie.Need-sub-least-2 Inv-loop μ-loop
+sub-least-2 c = search needs
+
+least-requires : tie.Need-least-requires Inv-loop μ-loop
+least-requires c κs = search needs
+
+read-part-requires : tie.Need-read-part-requires Inv-loop μ-loop
+read-part-requires c κs =
+    let at-least = c .before in
+    let at-loop-test = at-least .before in
+    let at-loop = at-loop-test .before in
+    let start = at-loop .before .before .before .before .before .before in
+    (start .pre .0, (omega (arith, at-least .least .ensures), omega (arith, at-least .least .ensures, at-loop .loop .inv .1, at-loop-test .loop-test .taken)))
+
+add-pos : tie.Need-add-pos Inv-loop μ-loop
+add-pos c = search needs
+
+loop-less : tie.Need-loop-less Inv-loop μ-loop
+loop-less c = search needs
+
+loop-again : tie.Need-loop-again Inv-loop μ-loop
+loop-again c =
+    let at-read-part = c .before .before in
+    let at-least = at-read-part .before .before in
+    let at-loop-test = at-least .before in
+    let at-loop = at-loop-test .before in
+    let start = at-loop .before .before .before .before .before .before in
+    let m = mem (start .args .bytes .now) (start .args .keys .now) (start .args .order .now) (start .args .words .now) in (
+      omega (arith, at-least .least .ensures, at-loop .loop .inv .1, at-loop-test .loop-test .taken),
+      at-read-part .read-part .ensures .long ∙ at-loop .loop .inv .1,
+      part-on m (start .pre .0) (start .args .page) (start .args .start) (at-loop .loop .pos) (at-least .least .result) (at-loop .loop .out) _ (at-loop .loop .inv .2) (at-read-part .read-part .ensures),
+    )
+
+same-length : tie.Need-same-length Inv-loop μ-loop
+same-length c = search needs
+
+returns : tie.Need-returns Inv-loop μ-loop
+returns c =
+    let at-loop-test = c in
+    let at-loop = at-loop-test .before in
+    let start = at-loop .before .before .before .before .before .before in
+    let m = mem (start .args .bytes .now) (start .args .keys .now) (start .args .order .now) (start .args .words .now) in
+    tab-is (length (start .args .out .now)) (λ i. byteAt m (start .args .page) (start .args .start + i)) (at-loop .loop .out) (at-loop .loop .inv .1) (λ i l. at-loop .loop .inv .2 i (omega (arith, at-loop .loop .inv .1, at-loop-test .loop-test .left)))
+
+pub read-into-spec : {M : Type 1} → statement M
+read-into-spec =
+    tie.close
+    (tie.spec
+    Inv-loop
+    μ-loop
+    loop-holds
+    add-a
+    sub-least
+    sub-least-2
+    least-requires
+    read-part-requires
+    add-pos
+    loop-less
+    loop-again
+    same-length
+    returns)

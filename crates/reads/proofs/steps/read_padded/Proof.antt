@@ -1,0 +1,29 @@
+use borrow.Author.Needs.{needs}
+use Rattle.store.specs.Mem.{mem}
+use Rattle.view.specs.View.{viewOf}
+use Rattle.reads.proofs.Answers.{padded-is}
+use Rattle.reads.proofs.steps.read_padded.Statement.{statement}
+use Rattle.reads.proofs.steps.read_padded.Tie as tie
+
+sub-read-into : tie.Need-sub-read-into
+sub-read-into c = search needs
+
+part-out-start : tie.Need-part-out-start
+part-out-start c = search needs
+
+part-out-end : tie.Need-part-out-end
+part-out-end c = search needs
+
+read-into-requires : tie.Need-read-into-requires
+read-into-requires c κs = search needs
+
+returns : tie.Need-returns
+returns c =
+    let at-read-into = c .before in
+    let start = at-read-into .before .before .before .before .before .before in
+    let m = mem (start .args .bytes .now) (start .args .keys .now) (start .args .order .now) (start .args .words .now) in
+    padded-is (viewOf m) (start .args .page) (start .args .start) (start .args .n) _ (start .pre .1) (at-read-into .read-into .ensures)
+
+pub read-padded-spec : {M : Type 1} → statement M
+read-padded-spec =
+    tie.close (tie.spec sub-read-into part-out-start part-out-end read-into-requires returns)

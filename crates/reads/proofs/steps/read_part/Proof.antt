@@ -1,0 +1,67 @@
+use borrow.Author.Needs.{needs}
+use Rattle.formed.proofs.Hints.{find-asked}
+use Rattle.store.specs.Mem.{mem}
+use Rattle.reads.proofs.Puts.{put-spread}
+use Rattle.reads.proofs.Bytes.{part-held, part-none}
+use Rattle.reads.proofs.steps.read_part.Statement.{statement}
+use Rattle.reads.proofs.steps.read_part.Tie as tie
+
+slot-at-requires : tie.Need-slot-at-requires
+slot-at-requires c κs =
+    let start = c .before .before .before .before .before in
+    let m = mem (start .args .bytes .now) (start .args .keys .now) (start .args .order .now) (start .args .words .now) in
+    find-asked m (start .pre .0)
+
+shared-slice-read-if1 : tie.Need-shared-slice-read-if1
+shared-slice-read-if1 c = search needs
+
+fill-requires : tie.Need-fill-requires
+fill-requires c κs = search needs
+
+same-length : tie.Need-same-length
+same-length c = search needs
+
+returns : tie.Need-returns
+returns c =
+    let at-fill = c .before .before in
+    let at-if1 = at-fill .before .before in
+    let at-slot-at = at-if1 .before .before in
+    let start = at-slot-at .before .before .before .before .before .before in
+    let m = mem (start .args .bytes .now) (start .args .keys .now) (start .args .order .now) (start .args .words .now) in
+    part-none m (start .pre .0) (start .args .page) (start .args .a) (start .args .n) (at-slot-at .slot-at .result) (start .pre .1 .0) (at-slot-at .slot-at .ensures (start .args .bytes .now)) (start .args .to) _ _ (at-if1 .if1 .taken) (at-fill .fill .ensures)
+
+mul-copy : tie.Need-mul-copy
+mul-copy c = search needs
+
+add-copy : tie.Need-add-copy
+add-copy c = search needs
+
+copy-requires : tie.Need-copy-requires
+copy-requires c κs = search needs
+
+same-length-2 : tie.Need-same-length-2
+same-length-2 c = search needs
+
+returns-2 : tie.Need-returns-2
+returns-2 c =
+    let at-copy = c .before .before in
+    let at-if1 = at-copy .before .before in
+    let at-slot-at = at-if1 .before .before in
+    let start = at-slot-at .before .before .before .before .before .before in
+    let m = mem (start .args .bytes .now) (start .args .keys .now) (start .args .order .now) (start .args .words .now) in
+    part-held m (start .pre .0) (start .args .page) (start .args .a) (start .args .n) (at-slot-at .slot-at .result) (start .pre .1 .0) (at-slot-at .slot-at .ensures (start .args .bytes .now)) (start .args .to) _ _ (at-if1 .if1 .left) (put-spread _ _ _ _ _ (at-copy .copy .kept .1 .1 .0) (at-copy .copy .ensures))
+
+pub read-part-spec : {M : Type 1} → statement M
+read-part-spec =
+    tie.close
+    (tie.spec
+    slot-at-requires
+    shared-slice-read-if1
+    fill-requires
+    same-length
+    returns
+    mul-copy
+    add-copy
+    copy-requires
+    same-length-2
+    returns-2)

@@ -1,0 +1,38 @@
+use native.Mathlib.Omega.{arith}
+use borrow.Author.Needs.{needs}
+use Rattle.store.specs.Mem.{mem}
+use Rattle.formed.proofs.Hints.{find-asked}
+use Rattle.writes.proofs.Words.{held-word}
+use Rattle.writes.proofs.steps.write_held.Statement.{statement}
+use Rattle.writes.proofs.steps.write_held.Tie as tie
+
+place-of-requires : tie.Need-place-of-requires
+place-of-requires c κs =
+    let start = c .before .before .before .before .before in
+    (find-asked (mem (start .args .bytes .now) (start .args .keys .now) (start .args .order .now) (start .args .words .now)) (start .pre .formed), omega (arith, start .fits .address))
+
+place-of-last-requires : tie.Need-place-of-last-requires
+place-of-last-requires c κs =
+    let at-place-of = c .before in
+    let start = at-place-of .before .before .before .before .before .before in
+    (find-asked (mem (start .args .bytes .now) (start .args .keys .now) (start .args .order .now) (start .args .words .now)) (start .pre .formed), at-place-of .place-of .ensures)
+
+write-at-requires : tie.Need-write-at-requires
+write-at-requires c κs =
+    let at-place-of-last = c .before .before in
+    let at-place-of = at-place-of-last .before .before in
+    let start = at-place-of .before .before .before .before .before .before in
+    held-word (mem (start .args .bytes .now) (start .args .keys .now) (start .args .order .now) (start .args .words .now)) (start .args .page) (start .args .address) (at-place-of .place-of .result) (at-place-of-last .place-of-last .result) (omega (arith, start .fits .address)) (start .pre) (at-place-of .place-of .ensures) (at-place-of-last .place-of-last .ensures)
+
+same-length : tie.Need-same-length
+same-length c = search needs
+
+same-length-2 : tie.Need-same-length-2
+same-length-2 c = search needs
+
+returns : tie.Need-returns
+returns c =
+    let at-write-at = c .before .before .before .before in at-write-at .write-at .ensures
+
+pub write-held-spec : {M : Type 1} → statement M
+write-held-spec = tie.close (tie.spec place-of-requires place-of-last-requires write-at-requires same-length same-length-2 returns)

@@ -1,8 +1,27 @@
-// Changes one element of a memory's buffers at a time: every call is then refused with 3, or the memory is still well formed.
+// Changes one element of a memory's buffers at a time. The memory is then refused, by every call and unchanged; or it is read as its buffers say.
+use crate::buffers;
+use crate::naive;
 use crate::step;
+use crate::step::Got;
 
-// A number that no count of refusals reaches: an answer was wrong.
-const WRONG: u64 = 1000000;
+// What a damaged memory got: it is accepted, or refused, or an answer was wrong.
+const ACCEPTED: u64 = 0;
+
+const REFUSED: u64 = 1;
+
+const WRONG: u64 = 2;
+
+// The refusal that no call gives, for a line with a wrong answer.
+const NO_ANSWER: u32 = 98;
+
+// Which elements are refused: as bits, the newest the lowest; how many, the first and the last. The last one with a wrong answer is counted from 1.
+pub struct Tally {
+    pub bits: u64,
+    pub count: u64,
+    pub first: u64,
+    pub last: u64,
+    pub wrong: u64,
+}
 
 // One more than x, 0, or the highest number.
 fn changed(x: u64, mode: u64, top: u64) -> u64 {
@@ -18,113 +37,6 @@ fn changed(x: u64, mode: u64, top: u64) -> u64 {
     x + 1
 }
 
-// 0 for a well-formed memory that can be read, 1 for one that is refused by a read and by another call.
-fn verdict(
-    bytes: &mut [u8],
-    keys: &mut [u64],
-    order: &mut [u32],
-    words: &mut [u64],
-    call: u8,
-) -> u64 {
-    let formed = formed::well_formed(bytes, keys, order, words);
-    let read = step::look(bytes, keys, order, words, b'r', 66, 0, 0);
-    if formed {
-        if read.refusal == 0 {
-            return 0;
-        }
-        return WRONG;
-    }
-    if read.refusal != 3 {
-        return WRONG;
-    }
-    let got = step::step(bytes, keys, order, words, call, 66, 0, 0);
-    if got.refusal == 3 {
-        return 1;
-    }
-    WRONG
-}
-
-fn poke_byte(bytes: &mut [u8], i: usize, x: u64) {
-    if bytes.len() <= i {
-        return;
-    }
-    bytes[i] = (x % 256) as u8;
-}
-
-fn poke_wide(numbers: &mut [u64], i: usize, x: u64) {
-    if numbers.len() <= i {
-        return;
-    }
-    numbers[i] = x;
-}
-
-fn poke_narrow(numbers: &mut [u32], i: usize, x: u64) {
-    if numbers.len() <= i {
-        return;
-    }
-    numbers[i] = step::narrow(x);
-}
-
-// Sets element i of one of the buffers.
-fn poke(
-    bytes: &mut [u8],
-    keys: &mut [u64],
-    order: &mut [u32],
-    words: &mut [u64],
-    buffer: u64,
-    i: usize,
-    x: u64,
-) {
-    if buffer == 0 {
-        poke_byte(bytes, i, x);
-        return;
-    }
-    if buffer == 1 {
-        poke_wide(keys, i, x);
-        return;
-    }
-    if buffer == 2 {
-        poke_narrow(order, i, x);
-        return;
-    }
-    poke_wide(words, i, x);
-}
-
-fn peek_byte(bytes: &[u8], i: usize) -> u64 {
-    if bytes.len() <= i {
-        return 0;
-    }
-    step::wide(bytes[i])
-}
-
-fn peek_wide(numbers: &[u64], i: usize) -> u64 {
-    if numbers.len() <= i {
-        return 0;
-    }
-    numbers[i]
-}
-
-fn peek_narrow(numbers: &[u32], i: usize) -> u64 {
-    if numbers.len() <= i {
-        return 0;
-    }
-    step::widened(numbers[i])
-}
-
-// Element i of one of the buffers.
-fn peek(bytes: &[u8], keys: &[u64], order: &[u32], words: &[u64], buffer: u64, i: usize) -> u64 {
-    if buffer == 0 {
-        return peek_byte(bytes, i);
-    }
-    if buffer == 1 {
-        return peek_wide(keys, i);
-    }
-    if buffer == 2 {
-        return peek_narrow(order, i);
-    }
-    peek_wide(words, i)
-}
-
 // The highest number of a buffer's elements.
 fn top(buffer: u64) -> u64 {
     if buffer == 0 {
@@ -136,14 +48,48 @@ fn top(buffer: u64) -> u64 {
     18446744073709551615
 }
 
-// The element before its change, and how many changes were refused.
-pub struct Work {
-    pub old: u64,
-    pub sum: u64,
+// What a memory got of which a read and another call are refused so, the buffers having these checksums before and after.
+fn judged(read: u32, call: u32, before: u64, after: u64) -> u64 {
+    if read != 3 {
+        return WRONG;
+    }
+    if call != 3 {
+        return WRONG;
+    }
+    if before != after {
+        return WRONG;
+    }
+    REFUSED
 }
 
-// A third of the work on an element, three turns to each: it is changed, the memory is tried, and the element is put back.
-fn turn(
+// What a memory got of which a read is accepted, 0 being a memory that is read as its buffers say.
+fn accepted(wrong: u64) -> u64 {
+    if wrong == 0 {
+        return ACCEPTED;
+    }
+    WRONG
+}
+
+// What a damaged memory gets.
+fn verdict(
+    bytes: &mut [u8],
+    keys: &mut [u64],
+    order: &mut [u32],
+    words: &mut [u64],
+    call: u8,
+) -> u64 {
+    let read = step::look(bytes, keys, order, words, b'r', 66, 0, 0);
+    if read.refusal == 0 {
+        return accepted(naive::wrong(bytes, keys, order, words));
+    }
+    let before = buffers::checksum(bytes, keys, order, words);
+    let got = step::step(bytes, keys, order, words, call, 66, 0, 0);
+    let after = buffers::checksum(bytes, keys, order, words);
+    judged(read.refusal, got.refusal, before, after)
+}
+
+// What the memory gets with element i changed; the element is put back.
+fn tried(
     bytes: &mut [u8],
     keys: &mut [u64],
     order: &mut [u32],
@@ -151,38 +97,57 @@ fn turn(
     buffer: u64,
     mode: u64,
     call: u8,
-    at: usize,
-    last: Work,
-) -> Work {
-    let i = at / 3;
-    let phase = at % 3;
-    let old = last.old;
-    let sum = last.sum;
-    if phase == 0 {
-        let now = peek(bytes, keys, order, words, buffer, i);
-        poke(
-            bytes,
-            keys,
-            order,
-            words,
-            buffer,
-            i,
-            changed(now, mode, top(buffer)),
-        );
-        return Work { old: now, sum: sum };
-    }
-    if phase == 1 {
-        let one = verdict(bytes, keys, order, words, call);
-        return Work {
-            old: old,
-            sum: std::num::wrapping_add_u64(sum, one),
-        };
-    }
-    poke(bytes, keys, order, words, buffer, i, old);
-    Work { old: old, sum: sum }
+    i: usize,
+) -> u64 {
+    let old = buffers::peek(bytes, keys, order, words, buffer, i);
+    let new = changed(old, mode, top(buffer));
+    buffers::poke(bytes, keys, order, words, buffer, i, new);
+    let got = verdict(bytes, keys, order, words, call);
+    buffers::poke(bytes, keys, order, words, buffer, i, old);
+    got
 }
 
-// How many changes are refused in n turns.
+// A tally with what element i got.
+fn tallied(t: Tally, i: u64, got: u64) -> Tally {
+    let mut next = t;
+    next.bits = std::num::wrapping_add_u64(t.bits, t.bits);
+    if got == WRONG {
+        next.wrong = std::num::wrapping_add_u64(i, 1);
+        return next;
+    }
+    if got == ACCEPTED {
+        return next;
+    }
+    if t.count == 0 {
+        next.first = i;
+    }
+    next.bits = std::num::wrapping_add_u64(next.bits, 1);
+    next.count = std::num::wrapping_add_u64(t.count, 1);
+    next.last = i;
+    next
+}
+
+// The answer of a line: the bits of at most 64 elements; else, in threes of digits, how many are refused, the first and the last.
+fn answer(t: Tally, n: usize) -> Got {
+    if t.wrong != 0 {
+        return Got {
+            refusal: NO_ANSWER,
+            value: t.wrong,
+        };
+    }
+    if n <= 64 {
+        return Got {
+            refusal: 0,
+            value: t.bits,
+        };
+    }
+    Got {
+        refusal: 0,
+        value: t.count % 1000 * 1000000 + t.first % 1000 * 1000 + t.last % 1000,
+    }
+}
+
+// Damages each of the first n elements of a buffer.
 pub fn refused(
     bytes: &mut [u8],
     keys: &mut [u64],
@@ -192,12 +157,19 @@ pub fn refused(
     mode: u64,
     call: u8,
     n: usize,
-) -> u64 {
-    let mut last = Work { old: 0, sum: 0 };
+) -> Got {
+    let mut t = Tally {
+        bits: 0,
+        count: 0,
+        first: 0,
+        last: 0,
+        wrong: 0,
+    };
     let mut i: usize = 0;
     while i < n {
-        last = turn(bytes, keys, order, words, buffer, mode, call, i, last);
+        let got = tried(bytes, keys, order, words, buffer, mode, call, i);
+        t = tallied(t, i as u64, got);
         i += 1;
     }
-    last.sum
+    answer(t, n)
 }

@@ -1,5 +1,7 @@
 // Walks the edges of a memory by running the library: each line of the input has a call and what a plain map of bytes answers.
+mod buffers;
 mod damage;
+mod naive;
 mod step;
 mod walk;
 

@@ -1,5 +1,6 @@
 // One call of the library, named by a letter, with numbers for its arguments.
 ghost use Prim.Native.Nat.{_≤_};
+use crate::buffers;
 use outcome::Answer;
 use page_ids::Address;
 use page_ids::Layout;
@@ -103,6 +104,14 @@ fn allocate_with(
     ))
 }
 
+// The word that a call writes.
+fn word_of(call: u8, x: u64) -> Word {
+    if call == b'c' {
+        return counting();
+    }
+    small(x)
+}
+
 // A call that writes.
 fn write(
     bytes: &mut [u8],
@@ -114,29 +123,18 @@ fn write(
     at: u32,
     x: u64,
 ) -> u32 {
-    if call == b'w' {
-        return number(writes::write_u256(
-            bytes,
-            keys,
-            order,
-            words,
-            PageId(page),
-            Address(at),
-            small(x),
-        ));
+    if call == b'b' {
+        return write_bytes(bytes, keys, order, words, page, at, x);
     }
-    if call == b'c' {
-        return number(writes::write_u256(
-            bytes,
-            keys,
-            order,
-            words,
-            PageId(page),
-            Address(at),
-            counting(),
-        ));
-    }
-    write_bytes(bytes, keys, order, words, page, at, x)
+    number(writes::write_u256(
+        bytes,
+        keys,
+        order,
+        words,
+        PageId(page),
+        Address(at),
+        word_of(call, x),
+    ))
 }
 
 // Whether a call writes.
@@ -218,6 +216,98 @@ fn range(
     }
 }
 
+// 0 or the number of a lookup's refusal, where the part is empty if it is refused and else has 256 bytes; no call gives 97.
+fn told(refusal: u32, length: usize) -> u32 {
+    if refusal == 0 {
+        if length == 256 {
+            return 0;
+        }
+        return 97;
+    }
+    if length == 0 {
+        return refusal;
+    }
+    97
+}
+
+// Byte i of a chunk, by a lookup with a zero block. The check beside it must say why the part is empty, where it is.
+fn chunk<'a>(
+    bytes: &'a [u8],
+    keys: &[u64],
+    order: &[u32],
+    words: &[u64],
+    page: u32,
+    k: u32,
+    i: usize,
+    block: &'a [u8],
+) -> Got {
+    let n = number(reads::chunk_check(bytes, keys, order, words, PageId(page), k, block));
+    let part = reads::chunk(bytes, keys, order, words, PageId(page), k, block);
+    Got {
+        refusal: told(n, part.len()),
+        value: buffers::peek_byte(part, i),
+    }
+}
+
+// Byte 0 of a chunk, by a lookup with n zeros, n being at most 600; or with 256 bytes of which byte n is 1.
+fn bad_block(
+    bytes: &[u8],
+    keys: &[u64],
+    order: &[u32],
+    words: &[u64],
+    call: u8,
+    page: u32,
+    k: u32,
+    n: u64,
+) -> Got {
+    let zeros = [0u8; 600];
+    let mut block = [0u8; 256];
+    block[(n % 256) as usize] = 1;
+    if call == b'n' {
+        return chunk(bytes, keys, order, words, page, k, 0, &block);
+    }
+    let end = at_most_600(n);
+    chunk(bytes, keys, order, words, page, k, 0, &zeros[0..end])
+}
+
+// A call that looks a chunk up.
+fn look_up(
+    bytes: &[u8],
+    keys: &[u64],
+    order: &[u32],
+    words: &[u64],
+    call: u8,
+    page: u32,
+    k: u32,
+    x: u64,
+) -> Got {
+    let zeros = [0u8; 256];
+    if call == b'k' {
+        return chunk(
+            bytes,
+            keys,
+            order,
+            words,
+            page,
+            k,
+            (x % 256) as usize,
+            &zeros,
+        );
+    }
+    bad_block(bytes, keys, order, words, call, page, k, x)
+}
+
+// Whether a call looks a chunk up.
+fn is_lookup(call: u8) -> bool {
+    if call == b'k' {
+        return true;
+    }
+    if call == b'z' {
+        return true;
+    }
+    call == b'n'
+}
+
 // A call that looks at a page.
 fn look_at(
     bytes: &[u8],
@@ -289,6 +379,9 @@ pub fn look(
             value: heap * 1000 + aux,
         };
     }
+    if is_lookup(call) {
+        return look_up(bytes, keys, order, words, call, narrow(a), narrow(b), x);
+    }
     look_at(bytes, keys, order, words, call, narrow(a), narrow(b), x)
 }
 
@@ -340,10 +433,10 @@ pub fn open(
     pages: u64,
     room: u64,
     n: u64,
-) -> u32 {
+) -> Got {
     let source = [239u8; 600];
     let end = at_most_600(n);
-    number(opening::open(
+    let refusal = number(opening::open(
         bytes,
         keys,
         order,
@@ -353,5 +446,9 @@ pub fn open(
         narrow(pages),
         narrow(room),
         &source[0..end],
-    ))
+    ));
+    Got {
+        refusal: refusal,
+        value: 0,
+    }
 }

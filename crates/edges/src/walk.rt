@@ -1,5 +1,6 @@
 // Walks lines of calls, and counts which answers are right. A memory is opened in the leading parts of larger buffers.
 ghost use Prim.Native.Nat.{_≤_};
+use crate::buffers;
 use crate::damage;
 use crate::step;
 use crate::step::Got;
@@ -32,8 +33,14 @@ fn new_line() -> Line {
     }
 }
 
-// A number with one digit more; one that grows too long stays as it is.
+// A number with one digit more; one that grows too long stays as it is. A dot and an 'x' are the digits 0 and 1 of a number in base two.
 fn longer(x: u64, digit: u8) -> u64 {
+    if digit == b'.' {
+        return std::num::wrapping_add_u64(x, x);
+    }
+    if digit == b'x' {
+        return std::num::wrapping_add_u64(std::num::wrapping_add_u64(x, x), 1);
+    }
     if digit < 48 {
         return x;
     }
@@ -107,7 +114,29 @@ fn layout_of(numbers: [u64; 13]) -> Layout {
     }
 }
 
+// The lesser of a length and what there is.
+fn least(length: usize, there: usize) -> usize
+    ensures { λ r. ⌜ r ≤ there ⌝ }
+{
+    if there < length {
+        return there;
+    }
+    length
+}
+
+// A refusal, where the buffers are as they were; no call gives 99.
+fn unchanged(refusal: u32, before: u64, after: u64) -> u32 {
+    if refusal == 0 {
+        return 0;
+    }
+    if before == after {
+        return refusal;
+    }
+    99
+}
+
 // Opens a memory, or calls one, in buffers of just the lengths that the counts of chunks, pages and journal words ask.
+// A refused call must leave all four as they were.
 fn lent(
     bytes: &mut [u8],
     keys: &mut [u64],
@@ -119,51 +148,22 @@ fn lent(
     let c = small(run.chunks);
     let p = small(run.pages);
     let j = small(run.room);
-    let b = 256 * c + 64 * j;
-    let k = c + p + 4;
-    let o = 3 * c + p + 4;
-    let w = 16 + 6 * j;
-    let none = Got {
-        refusal: 99,
-        value: 0,
-    };
-    if bytes.len() < b {
-        return none;
-    }
-    if keys.len() < k {
-        return none;
-    }
-    if order.len() < o {
-        return none;
-    }
-    if words.len() < w {
-        return none;
-    }
-    called(
+    let b = least(256 * c + 64 * j, bytes.len());
+    let k = least(c + p + 4, keys.len());
+    let o = least(3 * c + p + 4, order.len());
+    let w = least(16 + 6 * j, words.len());
+    let before = buffers::checksum(bytes, keys, order, words);
+    let got = called(
         &mut bytes[0..b],
         &mut keys[0..k],
         &mut order[0..o],
         &mut words[0..w],
         line,
-    )
-}
-
-// Damages one element at a time, of the first n, which are fewer than 2,000.
-fn damaged(
-    bytes: &mut [u8],
-    keys: &mut [u64],
-    order: &mut [u32],
-    words: &mut [u64],
-    buffer: u64,
-    mode: u64,
-    n: u64,
-    call: u64,
-) -> Got {
-    let count = (n % 2000) as usize;
-    let letter = (call % 256) as u8;
+    );
+    let after = buffers::checksum(bytes, keys, order, words);
     Got {
-        refusal: 0,
-        value: damage::refused(bytes, keys, order, words, buffer, mode, letter, 3 * count),
+        refusal: unchanged(got.refusal, before, after),
+        value: got.value,
     }
 }
 
@@ -178,23 +178,22 @@ fn called(
     let n = line.numbers;
     let call = line.call;
     if call == b'o' {
-        return Got {
-            refusal: step::open(
-                bytes,
-                keys,
-                order,
-                words,
-                layout_of(n),
-                n[7],
-                n[8],
-                n[9],
-                n[10],
-            ),
-            value: 0,
-        };
+        return step::open(
+            bytes,
+            keys,
+            order,
+            words,
+            layout_of(n),
+            n[7],
+            n[8],
+            n[9],
+            n[10],
+        );
     }
     if call == b'x' {
-        return damaged(bytes, keys, order, words, n[1], n[2], n[3], n[4]);
+        let count = (n[3] % 2000) as usize;
+        let letter = (n[4] % 256) as u8;
+        return damage::refused(bytes, keys, order, words, n[1], n[2], letter, count);
     }
     step::step(bytes, keys, order, words, call, n[1], n[2], n[3])
 }
@@ -256,44 +255,55 @@ fn ended(run: Run) -> Run {
     next
 }
 
-// Whether a line has no call: a title, a comment, or an empty line.
-fn is_silent(call: u8) -> bool {
-    if call == 0 {
-        return true;
-    }
-    if call == b't' {
-        return true;
-    }
-    call == b'#'
-}
-
-// Carries a line out.
-fn end_line(
-    bytes: &mut [u8],
-    keys: &mut [u64],
-    order: &mut [u32],
-    words: &mut [u64],
-    run: Run,
-    line: Line,
-) -> Run {
-    if is_silent(line.call) {
-        return run;
-    }
-    if line.call == b'.' {
-        return ended(run);
-    }
-    let next = sized(run, line);
-    let got = lent(bytes, keys, order, words, next, line);
-    if got.refusal != 0 {
-        return judged(run, line, got);
-    }
-    judged(next, line, got)
-}
-
 // A run that has read a part of a line.
 pub struct State {
     pub run: Run,
     pub line: Line,
+}
+
+// Whether a byte ends a line that has a call. A title, a comment, the end of a group and an empty line have none.
+fn ends_call(call: u8, byte: u8) -> bool {
+    if byte != b'\n' {
+        return false;
+    }
+    match call {
+        0 | b't' | b'#' | b'.' => false,
+        _ => true,
+    }
+}
+
+// Takes a byte that ends no call.
+fn quiet(state: State, byte: u8) -> State {
+    let run = state.run;
+    let line = state.line;
+    if byte != b'\n' {
+        return State {
+            run: run,
+            line: feed(line, byte),
+        };
+    }
+    if line.call == b'.' {
+        return State {
+            run: ended(run),
+            line: new_line(),
+        };
+    }
+    State {
+        run: run,
+        line: new_line(),
+    }
+}
+
+// A run after a line that gave this; a refused opening keeps the counts of the open memory.
+fn after(run: Run, line: Line, got: Got) -> State {
+    let mut next = run;
+    if got.refusal == 0 {
+        next = sized(run, line);
+    }
+    State {
+        run: judged(next, line, got),
+        line: new_line(),
+    }
 }
 
 // Takes one byte of the input: the last one of a line carries it out.
@@ -307,17 +317,11 @@ fn take(
 ) -> State {
     let run = state.run;
     let line = state.line;
-    if byte == b'\n' {
-        let next = end_line(bytes, keys, order, words, run, line);
-        return State {
-            run: next,
-            line: new_line(),
-        };
+    if !ends_call(line.call, byte) {
+        return quiet(state, byte);
     }
-    State {
-        run: run,
-        line: feed(line, byte),
-    }
+    let got = lent(bytes, keys, order, words, sized(run, line), line);
+    after(run, line, got)
 }
 
 // No memory is open, and nothing is read.

@@ -1,4 +1,4 @@
--- The loop keeps the length of each buffer. The measure is how many turns are left.
+-- The loop keeps the length of each buffer. The measure is how many elements are left.
 use mathlib.Core.Path.{_≡_, refl}
 use Prim.Native.Nat.{_-_, _≤_}
 use native.Mathlib.Omega.{arith}
@@ -8,16 +8,19 @@ use Rattle.edges.proofs.damage.refused.Statement.{statement}
 use Rattle.edges.proofs.damage.refused.Tie as tie
 
 abbrev Inv-loop : tie.InvT-loop
-Inv-loop bytes₀ keys₀ order₀ words₀ buffer mode call n last₀ i₀ bytes keys order words last i = (i ≤ n) × (length bytes ≡ length bytes₀) × (length keys ≡ length keys₀) × (length order ≡ length order₀) × (length words ≡ length words₀)
+Inv-loop bytes₀ keys₀ order₀ words₀ buffer mode call n t₀ i₀ bytes keys order words t i = (i ≤ n) × (length bytes ≡ length bytes₀) × (length keys ≡ length keys₀) × (length order ≡ length order₀) × (length words ≡ length words₀)
 
 abbrev μ-loop : tie.MeasureT-loop
-μ-loop bytes₀ keys₀ order₀ words₀ buffer mode call n last₀ i₀ bytes keys order words last i = n - i
+μ-loop bytes₀ keys₀ order₀ words₀ buffer mode call n t₀ i₀ bytes keys order words t i = n - i
 
 loop-holds : tie.Need-loop-holds Inv-loop μ-loop
 loop-holds c = (search needs, refl, refl, refl, refl)
 
-turn-requires : tie.Need-turn-requires Inv-loop μ-loop
-turn-requires c κs = search needs
+tried-requires : tie.Need-tried-requires Inv-loop μ-loop
+tried-requires c κs = search needs
+
+tallied-requires : tie.Need-tallied-requires Inv-loop μ-loop
+tallied-requires c κs = search needs
 
 add-i : tie.Need-add-i Inv-loop μ-loop
 add-i c = omega arith
@@ -27,6 +30,9 @@ loop-less c = omega arith
 
 loop-again : tie.Need-loop-again Inv-loop μ-loop
 loop-again c = omega arith
+
+answer-requires : tie.Need-answer-requires Inv-loop μ-loop
+answer-requires c κs = search needs
 
 same-length : tie.Need-same-length Inv-loop μ-loop
 same-length c = omega arith
@@ -50,10 +56,12 @@ refused-spec =
     Inv-loop
     μ-loop
     loop-holds
-    turn-requires
+    tried-requires
+    tallied-requires
     add-i
     loop-less
     loop-again
+    answer-requires
     same-length
     same-length-2
     same-length-3

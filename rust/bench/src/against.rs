@@ -3,10 +3,10 @@
 use std::hint::black_box;
 
 use vm2_example::testonly::speed::Plain;
-use zincpapaya::{Capacity, Heaps, Layout, PageId, Word};
+use zincpapaya::{Capacity, Heaps, Layout, PageId, Snapshot, Word};
 
 use crate::{
-    inner::Inner,
+    inner::{place, Inner},
     places::{self, heap, Walk},
     table::{row, timed},
 };
@@ -36,13 +36,18 @@ pub fn words(label: &str, pages: u32, chunks: u32) {
         ("two chunks", Walk::TwoChunks),
     ];
     for (title, walk) in walks {
-        let at = places::words(CALLS, pages, chunks, walk);
+        // A sequential walk goes through all that is held.
+        let calls = if walk == Walk::Sequential { CALLS.max(8 * chunks) } else { CALLS };
+        let at = places::words(calls, pages, chunks, walk);
+        let list: Vec<u64> = at.iter().map(|&(p, a)| place(p, a)).collect();
+        let (mut theirs, mut out) = (vec![[0; 4]; at.len()], vec![[0; 4]; at.len()]);
         row(
             &format!("read, {title}, {label}"),
             at.len(),
-            || timed(|| at.iter().for_each(|&(p, a)| _ = black_box(vm2.read_u256(p, a)))),
-            || timed(|| at.iter().for_each(|&(p, a)| _ = black_box(ours.read_u256(p, a)))),
+            || timed(|| vm2.read_words(&at, black_box(&mut theirs))),
+            || timed(|| ours.read_words(&list, black_box(&mut out))),
         );
+        assert!(theirs == out, "answers differ");
         row(
             &format!("write, {title}, {label}"),
             at.len(),
@@ -88,6 +93,8 @@ pub fn fresh(chunks: u32) {
             timed(|| fill_ours(&mut ours))
         },
     );
+    let alike = |a| vm2.read_u256(heap(0), a) == ours.read_u256(heap(0), a);
+    assert!((0..8 * chunks).all(|word| alike(32 * word)), "answers differ");
     assert!(ours.well_formed());
 }
 
@@ -110,6 +117,10 @@ pub fn blocks(chunks: u32) {
         || timed(|| at.iter().for_each(|&(p, a)| _ = black_box(vm2.read_range(p, a..a + 4096)))),
         || timed(|| at.iter().for_each(|&(p, a)| ours.read_range(p, a, black_box(&mut out)))),
     );
+    for &(page, a) in &at {
+        ours.read_range(page, a, &mut out);
+        assert!(vm2.read_range(page, a..a + 4096) == out, "answers differ");
+    }
 }
 
 /// 1,000 words of the bootloader heap: written, and rolled back.
@@ -174,6 +185,9 @@ pub fn free(others: u32, low: bool) {
             ns
         },
     );
+    let places = (0..).zip(counts).flat_map(|(g, count)| (0..count).map(move |c| (heap(g), c)));
+    let mut words = places.flat_map(|(page, c)| (0..8).map(move |w| (page, 256 * c + 32 * w)));
+    assert!(words.all(|(p, a)| vm2.read_u256(p, a) == ours.read_u256(p, a)), "answers differ");
     assert!(ours.well_formed());
 }
 
@@ -190,31 +204,56 @@ fn opened(chunks: u32) -> Heaps {
     Heaps::open(layout, capacity, &[]).expect("the counts are within bounds")
 }
 
-/// Calls that test the memory first, half of whose chunks are held.
+/// Calls that test the memory first, half of whose chunks are held: by a page of their own, but for those of the bootloader heap.
 pub fn checked(chunks: u32) {
-    let held = chunks / 2;
+    let held = chunks / 2 - 4;
     let (mut vm2, mut ours) = (Plain::new(), opened(chunks));
     for chunk in 0..held {
         vm2.write_u256(heap(0), chunk * 256, WORD);
         ours.write_u256(PageId(heap(0)), chunk * 256, Word(WORD)).expect("there is room");
     }
-    let at = places::words((2_000_000 / chunks).clamp(10, 2000), 1, held, Walk::Random);
+    let many = (2_000_000 / chunks).clamp(10, 2000);
+    let at = places::words(many, 1, held, Walk::Random);
+    let on = |&(p, a): &(u32, u32)| (PageId(p), a);
     row(
-        &format!("read, {chunks} chunks"),
+        &format!("word read, {chunks} chunks"),
         at.len(),
         || timed(|| at.iter().for_each(|&(p, a)| _ = black_box(vm2.read_u256(p, a)))),
-        || timed(|| at.iter().for_each(|&(p, a)| _ = black_box(ours.read_u256(PageId(p), a)))),
+        || timed(|| at.iter().map(on).for_each(|(p, a)| _ = black_box(ours.read_u256(p, a)))),
     );
     row(
-        &format!("write, {chunks} chunks"),
+        &format!("word write, {chunks} chunks"),
         at.len(),
         || timed(|| at.iter().for_each(|&(p, a)| vm2.write_u256(p, a, WORD))),
+        || timed(|| at.iter().map(on).for_each(|(p, a)| write(&mut ours, p, a))),
+    );
+    assert!(at.iter().all(|&(p, a)| Ok(Word(vm2.read_u256(p, a))) == ours.read_u256(PageId(p), a)));
+    let src = [7; 4096];
+    let starts = places::words(many, 1, held - 17, Walk::Random);
+    row(
+        &format!("byte write of 4 KiB, {chunks} chunks"),
+        starts.len(),
+        || timed(|| starts.iter().for_each(|&(p, a)| vm2.write_bytes(p, a, &src))),
+        || timed(|| starts.iter().map(on).for_each(|(p, a)| bytes(&mut ours, p, a, &src))),
+    );
+    row(
+        &format!("rollback of 100 words, {chunks} chunks"),
+        1,
         || {
-            timed(|| {
-                at.iter().for_each(|&(p, a)| {
-                    ours.write_u256(PageId(p), a, Word(WORD)).expect("it is held")
-                })
-            })
+            (0..100).for_each(|word| vm2.write_u256(5, word * 8, WORD));
+            timed(|| vm2.rollback_to_start())
+        },
+        || {
+            (0..100).for_each(|word| write(&mut ours, PageId(5), word * 8));
+            timed(|| ours.rollback(Snapshot { heap: 0, aux: 0 }).expect("it was 0"))
         },
     );
+}
+
+fn write(memory: &mut Heaps, page: PageId, address: u32) {
+    memory.write_u256(page, address, Word(WORD)).expect("there is room");
+}
+
+fn bytes(memory: &mut Heaps, page: PageId, start: u32, src: &[u8]) {
+    memory.write_bytes(page, start, src).expect("there is room");
 }

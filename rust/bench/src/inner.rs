@@ -7,9 +7,9 @@ mod ffi {
             b: *mut u8, bn: usize, k: *mut u64, kn: usize, o: *mut u32, on: usize, w: *mut u64, wn: usize,
             chunks: u32, pages: u32, room: u32,
         ) -> u32;
-        pub fn in_read_word(
+        pub fn in_read_words(
             b: *const u8, bn: usize, k: *const u64, kn: usize, o: *const u32, on: usize, w: *const u64, wn: usize,
-            page: u32, address: u32, out: *mut u64, out_len: usize,
+            places: *const u64, places_len: usize, out: *mut u64, out_len: usize,
         );
         pub fn in_write_word(
             b: *mut u8, bn: usize, k: *mut u64, kn: usize, o: *mut u32, on: usize, w: *mut u64, wn: usize,
@@ -36,6 +36,11 @@ mod ffi {
         ) -> bool;
         pub fn in_scan(b: *const u8, bn: usize) -> bool;
     }
+}
+
+/// A page and an address as one number.
+pub fn place(page: u32, address: u32) -> u64 {
+    u64::from(page) << 32 | u64::from(address)
 }
 
 /// Four buffers with an open memory of document 01's example layout.
@@ -99,11 +104,16 @@ impl Inner {
         assert_eq!(refusal, 0, "the opening was refused");
     }
 
-    #[inline]
+    /// Reads a list of words in one call, since inner functions have callers in Rattle alone.
+    pub fn read_words(&self, places: &[u64], out: &mut [[u64; 4]]) {
+        let out = out.as_flattened_mut();
+        look!(in_read_words, self, places.as_ptr(), places.len(), out.as_mut_ptr(), out.len());
+    }
+
     pub fn read_u256(&self, page: u32, address: u32) -> [u64; 4] {
-        let mut out = [0; 4];
-        look!(in_read_word, self, page, address, out.as_mut_ptr(), 4);
-        out
+        let mut out = [[0; 4]];
+        self.read_words(&[place(page, address)], &mut out);
+        out[0]
     }
 
     #[inline]

@@ -1,7 +1,7 @@
 //! Where the benchmarks read and write: the same places on both sides, the same in every run.
 
 /// An order in which words are touched.
-#[derive(Clone, Copy)]
+#[derive(Clone, Copy, PartialEq)]
 pub enum Walk {
     Sequential,
     Random,

@@ -2,6 +2,7 @@
 //! show. README.md tells how.
 
 mod alone;
+mod edges;
 mod framed;
 mod generate;
 mod list;
@@ -58,6 +59,7 @@ impl Shard {
 
     /// Compares until this shard's part of the calls is done, or something differs.
     fn run(&mut self) -> Result<(), Box<Finding>> {
+        self.edge_lists()?;
         let mut number = self.number;
         while self.tally.calls < self.options.calls.div_ceil(SHARDS) {
             self.random_list(number)?;
@@ -65,6 +67,22 @@ impl Shard {
         }
         if self.options.layout.is_none_or(|layout| layout == small::LAYOUT) {
             small::alphabets().iter().try_for_each(|alphabet| self.small_lists(alphabet))?;
+        }
+        Ok(())
+    }
+
+    /// Document 01's edges, on this shard's part of the layouts.
+    fn edge_lists(&mut self) -> Result<(), Box<Finding>> {
+        let mine = |at: usize| at as u64 % SHARDS == self.number;
+        for (_, (name, bank)) in self.banks.iter_mut().enumerate().filter(|(at, _)| mine(*at)) {
+            if self.options.layout.is_some_and(|layout| layout != *name) {
+                continue;
+            }
+            let list = List { layout: name, capacities: [store::CAPACITY; 2], steps: Vec::new() };
+            let mut steps = edges::edges(&bank.layout()).into_iter();
+            let looks = Looks::AtTheEnd;
+            pair::run(bank.as_mut(), &mut self.tally, list, looks, |_| steps.next())
+                .map_err(|finding| Box::new(shrink::shrink(bank.as_mut(), looks, *finding)))?;
         }
         Ok(())
     }

@@ -7,6 +7,7 @@ use oracle::{Answer, Bank, Call, HeapInstruction, LAYOUTS};
 use zincpapaya::Capacity;
 
 use crate::{
+    edges::edges,
     generate::{Generator, Sort},
     list::Step,
     model::{place, Model},
@@ -16,7 +17,7 @@ use crate::{
 };
 
 /// The capacity that no list of the sample goes beyond.
-const CAPACITY: Capacity = Capacity { chunks: 96, pages: 24, journal_words: 128 };
+pub const CAPACITY: Capacity = Capacity { chunks: 96, pages: 24, journal_words: 128 };
 
 /// Calls of each layout, at least; and of a list.
 const CALLS: usize = 1_300;
@@ -26,7 +27,7 @@ const LIST: u64 = 60;
 const HELD_EVERY: usize = 20;
 
 const HEAD: &str = "\
-# Calls with vm2's answers, written by `rust/compare-run --store`: every answer is vm2's own.
+# Calls with vm2's answers (commit 12acc209b1), written by `rust/compare-run --store`: every answer is vm2's own.
 # Memories of 96 chunks, 24 pages and 128 words of each journal have room for all of them.
 # rust/README.md describes the lines.";
 
@@ -39,7 +40,7 @@ struct Sample<'a> {
 
 /// Writes the sample; gives the number of its calls.
 pub fn store(file: &str, seed: u64) -> io::Result<usize> {
-    let (mut lines, mut calls) = (vec![HEAD.to_owned()], 0);
+    let (mut lines, mut calls) = (vec![format!("{HEAD} Seed {seed}.")], 0);
     for (at, layout) in LAYOUTS.into_iter().enumerate() {
         let mut bank = oracle::bank(layout).expect("a listed layout");
         lines.push(format!("\nt {layout}"));
@@ -52,9 +53,13 @@ pub fn store(file: &str, seed: u64) -> io::Result<usize> {
     Ok(calls)
 }
 
-/// Lists on one layout: the first two are about the top of pages and far groups.
+/// Lists on one layout: document 01's edges, then random ones; the first two of these are about the top of pages and far groups.
 fn sample(bank: &mut dyn Bank, seed: u64) -> (Vec<String>, usize) {
-    let (mut lines, mut calls) = (Vec::new(), 0);
+    let steps = edges(&bank.layout());
+    let mut list = Sample::start(bank);
+    steps.into_iter().for_each(|step| list.step(step));
+    list.held();
+    let (mut lines, mut calls) = (list.lines, list.calls);
     for number in 0.. {
         let sort = match number {
             0 => Sort::Top,

@@ -144,17 +144,24 @@ fn page_call(name: &str, fields: &mut Fields) -> Result<Option<Call>, String> {
     })))
 }
 
+/// Calls that take a frame.
 fn framed_call(name: &str, fields: &mut Fields, frame: Frame) -> Result<Option<Call>, String> {
-    let instruction = match name {
-        "use_gas" => {
-            let amount = fields.number("the amount")?;
-            return Ok(Some(Call::UseGas { frame, amount }));
-        }
+    Ok(Some(match name {
+        "use_gas" => Call::UseGas { frame, amount: fields.number("the amount")? },
         "grow_heap" => {
             let area = fields.area()?;
             let new_bound = fields.number("the new bound")?;
-            return Ok(Some(Call::GrowHeap { frame, area, new_bound }));
+            Call::GrowHeap { frame, area, new_bound }
         }
+        _ => match instruction(name, fields)? {
+            Some(instruction) => Call::Instruction { frame, instruction },
+            None => return Ok(None),
+        },
+    }))
+}
+
+fn instruction(name: &str, fields: &mut Fields) -> Result<Option<HeapInstruction>, String> {
+    Ok(Some(match name {
         "load" => HeapInstruction::Load {
             area: fields.area()?,
             operand: fields.operand()?,
@@ -182,6 +189,5 @@ fn framed_call(name: &str, fields: &mut Fields, frame: Frame) -> Result<Option<C
             increment: fields.increment()?,
         },
         _ => return Ok(None),
-    };
-    Ok(Some(Call::Instruction { frame, instruction }))
+    }))
 }

@@ -1,4 +1,4 @@
-//! vm2's `Heaps` for the benchmarks: each function hands over to the original's of the same name.
+//! vm2's `Heaps` for the benchmarks: each function hands over to the original's of the same name, `read_words` for each word of a list.
 
 use std::ops::Range;
 
@@ -19,6 +19,13 @@ impl Plain {
 
     pub fn read_u256(&self, page: u32, address: u32) -> [u64; 4] {
         self.0[id(page)].read_u256(address).0
+    }
+
+    /// The words at these places, one after the other: a loop in vm2's own crate, so that all of it can be compiled as one.
+    pub fn read_words(&self, places: &[(u32, u32)], out: &mut [[u64; 4]]) {
+        for (&(page, address), word) in places.iter().zip(out) {
+            *word = self.read_u256(page, address);
+        }
     }
 
     pub fn write_u256(&mut self, page: u32, address: u32, limbs: [u64; 4]) {

@@ -30,7 +30,7 @@ fn main() -> Result<(), Error> {
     println!("rolled back to {:#x}", heaps.read_u256(heap, 4065)?);
 
     if let Err(error) = heaps.write_u256(PageId(3), 0, Word::from(1)) {
-        println!("refused {}: {error}", error.number());
+        println!("refused with {error}");
     }
     println!("{} of {} chunks in use", heaps.usage().chunks, capacity.chunks);
     Ok(())

@@ -4,8 +4,9 @@ use std::fmt;
 
 /// Why a call was refused. A refused call has changed nothing: no byte, no journal, no frame.
 ///
-/// The variants stand in the order in which a call tests them, each with its number in the
-/// project's scope (document 01).
+/// The variants stand in the order in which a call tests them; only a comparison tests the two
+/// layouts later, after [`NotFormed`](Self::NotFormed). Each has the number that the project's scope
+/// paper (document 01) gives it. The text begins with that number, and says what to do.
 ///
 /// ```
 /// use zincpapaya::{Capacity, Error, Heaps, Layout, PageId, Word};
@@ -20,7 +21,7 @@ use std::fmt;
 /// let error = heaps.write_u256(PageId(66), 225, Word::from(7)).unwrap_err();
 /// assert_eq!(error, Error::NoChunk);
 /// assert_eq!(error.number(), 10);
-/// assert!(error.to_string().contains("open the memory with a larger `chunks`"));
+/// assert!(error.to_string().starts_with("10: the pool has too few chunks; open the memory with"));
 /// # Ok(())
 /// # }
 /// ```
@@ -43,7 +44,8 @@ pub enum Error {
     Allocated = 6,
     /// The page is not allocated.
     NotAllocated = 7,
-    /// A range, an output or a list has a length that does not fit.
+    /// A byte write passes the highest address, a partial read has more than 32 bytes, an output
+    /// has another length than its range, or a quote more than 4,096 addresses.
     Range = 8,
     /// No page entry is free.
     NoPage = 9,
@@ -51,11 +53,11 @@ pub enum Error {
     NoChunk = 10,
     /// The journal has too little room.
     NoJournal = 11,
-    /// A rollback goes past a journal's length.
+    /// The snapshot of a rollback lies past a journal's end.
     BadMark = 12,
     /// A truncation to more than the dynamic length.
     BadLength = 13,
-    /// Start and length of a fat pointer leave 32 bits.
+    /// Start plus length of a fat pointer is above 4,294,967,295.
     Pointer = 14,
     /// A hook cannot stop with a value of more than 32 bits.
     HookValue = 15,
@@ -87,40 +89,41 @@ impl Error {
     }
 }
 
-/// What happened and what to do about it, by rising number.
+/// What happened; and what to do about it. By rising number.
 const TEXTS: [&str; 15] = [
-    "the layout does not fit: make the four fixed page ids distinct and the stride at least 4, and \
+    "the layout does not fit; make the four fixed page ids distinct and the stride at least 4, and \
      compare only memories of one layout",
-    "the capacity is out of bounds: open the memory with `chunks` from 1 to 65536, `pages` from 1 \
+    "the capacity is out of bounds; open the memory with `chunks` from 1 to 65536, `pages` from 1 \
      to 4096 and `journal_words` from 0 to 65536",
-    "the memory is not well formed: something in the process has written to its buffers; trust \
+    "the memory is not well formed, so something in the process has written to its buffers; trust \
      none of its answers, open it again and run from the start",
-    "the page id is none of the layout's pages, or lies past 32 bits: check the page id and the \
+    "the page id is none of the layout's pages, or lies past 32 bits; check the page id and the \
      layout's base and stride",
-    "the page is a fixed one, which can be neither allocated nor freed: it is always there, so \
-     write to it as it is",
-    "the page is allocated already: free it before it is allocated again, or write to it as it is",
-    "the page is not allocated: free only pages that were allocated or written, and each once",
-    "a length does not fit: a byte write must not pass address 4294967295, a partial read has at \
+    "the page is a fixed one, which is always there and can be neither allocated nor freed; write \
+     to it as it is",
+    "the page is allocated already; free it before it is allocated again, or write to it as it is",
+    "the page is not allocated; free only pages that were allocated or written, and each once",
+    "a length does not fit; a byte write must not pass address 4294967295, a partial read has at \
      most 32 bytes, an output as many bytes as its range, and a quote at most 4096 addresses",
-    "no page entry is free: open the memory with a larger `pages`, or free pages that are no \
+    "no page entry is free; open the memory with a larger `pages`, or free pages that are no \
      longer needed",
-    "the pool has too few chunks: open the memory with a larger `chunks`, or free pages that are \
+    "the pool has too few chunks; open the memory with a larger `chunks`, or free pages that are \
      no longer needed",
-    "the journal has too little room: open the memory with a larger `journal_words`, or call \
+    "the journal has too little room; open the memory with a larger `journal_words`, or call \
      `delete_history` once nothing is to be rolled back any more",
-    "the snapshot is past a journal's end: it was taken before an earlier rollback or \
-     `delete_history`, or from another memory",
-    "the length is above the dynamic length: truncate to what `dynamic_len` gave, or to less",
-    "start and length of the fat pointer leave 32 bits: no valid pointer does, so check where \
-     this one was made",
-    "the hook's value has more than 32 bits: the store was not carried out; the bootloader must \
-     store a smaller value at its hook address",
+    "the snapshot lies past a journal's end: a rollback or `delete_history` has cut the journal \
+     since, or it is of another memory; roll back to an earlier one, or take a new one",
+    "the length is above the dynamic length; truncate to what `dynamic_len` gave, or to less",
+    "start plus length of the fat pointer is above 4294967295; no valid pointer's is, so check \
+     where this one was made",
+    "the hook's value has more than 32 bits, and the store was not carried out; the bootloader \
+     must store a smaller value at its hook address",
 ];
 
 impl fmt::Display for Error {
     fn fmt(&self, out: &mut fmt::Formatter<'_>) -> fmt::Result {
-        out.write_str(TEXTS[usize::from(self.number()) - 1])
+        let number = self.number();
+        write!(out, "{number}: {}", TEXTS[usize::from(number) - 1])
     }
 }
 

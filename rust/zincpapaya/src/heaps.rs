@@ -175,17 +175,19 @@ impl Heaps {
         Ok(output)
     }
 
-    /// Groups of dynamic pages up to the highest that was ever allocated or written, since the
-    /// latest truncation.
+    /// The dynamic length, in groups of dynamic pages. It is 0 in a memory just opened; an
+    /// allocation of a page of group `g`, or a write or store to one, makes it at least `g + 1`;
+    /// [`truncate_dynamic_to`](Self::truncate_dynamic_to) sets it. Nothing else changes it: a free
+    /// does not lower it.
     pub fn dynamic_len(&self) -> Result<u64, Error> {
         let mut out = [0];
         carried_out(ffi::dynamic_len(&self.memory, &mut out))?;
         Ok(out[0])
     }
 
-    /// Whether every page has the same bytes in both memories, and the same dynamic pages are
-    /// allocated. Capacities, journals and dynamic lengths do not count. Refused with
-    /// [`Error::Layout`] where the layouts differ.
+    /// Whether both memories look alike: equal bytes at each address of each page, and the same
+    /// dynamic pages, empty ones too. How large they are, their journals and their dynamic lengths
+    /// make no difference. Refused with [`Error::Layout`] where the layouts differ.
     ///
     /// ```
     /// # use zincpapaya::{Capacity, Error, Heaps, Layout, PageId, Word};
@@ -237,7 +239,7 @@ impl Heaps {
     }
 }
 
-/// Freeing. Freed chunks are zeroed into the pool and can be held again.
+/// Freeing. What is freed goes back to the pool as zeros, and can be held again.
 impl Heaps {
     /// Frees a page and its chunks. Refused with [`Error::Undecodable`], [`Fixed`](Error::Fixed) or
     /// [`NotAllocated`](Error::NotAllocated).

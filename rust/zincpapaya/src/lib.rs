@@ -1,9 +1,9 @@
 //! The EraVM's memory: heap pages, bootloader rollback and the five heap instructions.
 //!
-//! This is a safe interface to `libzincpapaya.a`, a library written in Rattle, every function of
-//! which is proved to meet its contract. Calls have the names that they have in vm2. Where vm2
-//! panics, a call here gives an [`Error`] and has changed nothing; and since the memory has a
-//! fixed capacity, a call may also be refused for want of room.
+//! This is a safe interface to `libzincpapaya.a`, a library written in Rattle: each of its
+//! functions has a contract, and a proof that it keeps it. Calls have the names that they have in
+//! vm2. Where vm2 panics, a call here gives an [`Error`] and has changed nothing; and since the
+//! memory has a fixed capacity, a call may also be refused for want of room.
 //!
 //! ```
 //! use zincpapaya::{Capacity, Heaps, Layout, PageId, Word};

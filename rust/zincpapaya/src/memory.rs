@@ -43,7 +43,7 @@ pub struct Buffers<'a> {
     pub bytes: &'a [u8],
     /// Where each chunk is held, then the page of each entry.
     pub keys: &'a [u64],
-    /// The two indexes.
+    /// The two indexes, then the hints of the lookup.
     pub order: &'a [u32],
     /// The head of 16 numbers, then the notes of both journals.
     pub words: &'a [u64],

@@ -220,7 +220,7 @@ fn usage_is_what_is_in_use() {
 fn errors_have_their_numbers_and_words_their_bytes() {
     for (at, error) in Error::ALL.into_iter().enumerate() {
         assert_eq!(usize::from(error.number()), at + 1);
-        assert!(!error.to_string().is_empty());
+        assert!(error.to_string().starts_with(&format!("{}: ", at + 1)));
     }
     let word = Word([1, 2, 3, 0xff << 56]);
     assert_eq!(Word::from_big_endian(&word.to_big_endian()), word);

@@ -14,6 +14,7 @@ impl U256 {
     }
 
     /// The number whose big-endian bytes these are; at most 32.
+    #[inline]
     pub fn from_big_endian(bytes: &[u8]) -> Self {
         let mut full = [0u8; 32];
         full[32 - bytes.len()..].copy_from_slice(bytes);
@@ -25,6 +26,7 @@ impl U256 {
     }
 
     /// Writes the 32 big-endian bytes.
+    #[inline]
     pub fn to_big_endian(&self, bytes: &mut [u8]) {
         for (part, limb) in bytes.chunks_exact_mut(8).zip(self.0.iter().rev()) {
             part.copy_from_slice(&limb.to_be_bytes());

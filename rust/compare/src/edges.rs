@@ -1,0 +1,216 @@
+//! Document 01's edges, as one list of calls for each layout: chunk edges, the top of a page, windows, pointers, bounds, the
+//! hook, marks, and the refusals of pages. Random lists come near all of them, but need not meet each on every layout.
+
+use oracle::{Area, Call, Frame, HeapInstruction, Kind, Layout, Operand, PageIds, Place, Word};
+
+use crate::{generate::pattern, list::Step, ours::LAST_CHUNK};
+
+const LAST_BYTE: u32 = u32::MAX;
+/// The highest operand that loads and stores take.
+const LAST_OPERAND: u64 = 4_294_967_263;
+const FREE: Frame = Frame { gas: u32::MAX, heap: 0, aux: 0, heap_bound: 0, aux_bound: 0 };
+
+/// The calls, all on the first memory.
+pub fn edges(layout: &Layout) -> Vec<Step> {
+    let [heap, aux] = [Kind::Heap, Kind::Aux].map(|kind| {
+        let place = Place::Dynamic { group: 0, kind };
+        layout.id(place).expect("every layout has a group 0")
+    });
+    let mut calls = pages(layout, heap);
+    for page in [layout.bootloader_heap, layout.static_memory, heap] {
+        calls.extend(words(page));
+    }
+    calls.extend(ranges(heap));
+    calls.extend(instructions(Frame { heap, aux, ..FREE }));
+    calls.extend(pointers(Frame { heap, aux, ..FREE }, heap));
+    calls.extend(windows(heap));
+    calls.extend(history(layout));
+    calls.extend(top(layout.bootloader_aux));
+    calls.extend(top(heap));
+    calls.into_iter().map(|call| Step { memory: 0, call, marked: false }).collect()
+}
+
+fn value(low: u64) -> Word {
+    Word([low, 2, 3, 1 << 63])
+}
+
+/// Refusals 4 to 7 and 13, and the arithmetic of page ids at the ends of 32 bits.
+fn pages(layout: &Layout, heap: u32) -> Vec<Call> {
+    let none = layout.base.wrapping_add(1);
+    let mut calls = vec![
+        Call::AllocateAt { page: layout.calldata },
+        Call::Deallocate { page: layout.static_memory },
+        Call::AllocateAt { page: none },
+        Call::Deallocate { page: none },
+        Call::WriteBytes { page: none, start: 0, bytes: Vec::new() },
+        Call::WriteU256 { page: none, address: 0, value: value(1) },
+        Call::ReadU256 { page: none, address: 0 },
+        Call::Deallocate { page: heap },
+        Call::TruncateDynamicTo { len: 1 },
+        Call::WriteBytes { page: heap, start: LAST_BYTE, bytes: Vec::new() },
+        Call::AllocateAt { page: heap },
+        Call::DynamicLen,
+        Call::TruncateDynamicTo { len: 1 },
+        Call::Deallocate { page: heap },
+        Call::TruncateDynamicTo { len: 0 },
+        Call::AllocateWithContentAt { page: heap, content: pattern(257, 1) },
+        Call::Deallocate { page: heap },
+    ];
+    for base in [u32::MAX - 3, u32::MAX - 2, u32::MAX - 1, u32::MAX] {
+        calls.push(Call::PageIds(PageIds::HeapPageFromBase(base)));
+        calls.push(Call::PageIds(PageIds::AuxHeapPageFromBase(base)));
+    }
+    for page in [0, 1, 2] {
+        calls.push(Call::PageIds(PageIds::BasePageFromHeap(page)));
+    }
+    let last = u32::MAX - layout.stride;
+    for base in [last, last.wrapping_add(1)] {
+        calls.push(Call::PageIds(PageIds::NextPageGroup(base)));
+    }
+    calls
+}
+
+/// Words at the edges of the first chunks, and what stands on both sides of an edge.
+fn words(page: u32) -> Vec<Call> {
+    let mut calls = Vec::new();
+    for address in [0, 224, 225, 255, 256] {
+        calls.push(Call::WriteU256 { page, address, value: value(u64::from(address) + 1) });
+        calls.push(Call::ReadU256 { page, address });
+    }
+    for address in [224, 256] {
+        calls.push(Call::ReadU256 { page, address });
+    }
+    calls.push(Call::ReadByte { page, address: 255 });
+    calls
+}
+
+/// Reads of ranges: whole, too long, empty and reversed.
+fn ranges(page: u32) -> Vec<Call> {
+    let mut calls = vec![Call::WriteBytes { page, start: 250, bytes: pattern(100, 3) }];
+    for (start, end) in [(250, 282), (250, 283), (300, 300), (301, 300), (240, 261)] {
+        calls.push(Call::ReadU256Partially { page, start, end });
+        calls.push(Call::ReadRangeBigEndian { page, start, end });
+    }
+    calls
+}
+
+fn run(frame: Frame, instruction: HeapInstruction) -> Call {
+    Call::Instruction { frame, instruction }
+}
+
+fn register(low: u64) -> Operand {
+    Operand::Register { word: Word([low, 0, 0, 0]), tagged: false }
+}
+
+fn store(area: Area, low: u64, value: Word, hook: Option<u32>) -> HeapInstruction {
+    HeapInstruction::Store { area, operand: register(low), value, increment: true, hook }
+}
+
+fn load(area: Area, low: u64) -> HeapInstruction {
+    HeapInstruction::Load { area, operand: register(low), increment: true }
+}
+
+/// The operand limit, the bounds of document 01, and the hook.
+fn instructions(frame: Frame) -> Vec<Call> {
+    let mut calls = Vec::new();
+    for low in [LAST_OPERAND, LAST_OPERAND + 1] {
+        calls.push(run(frame, load(Area::Heap, low)));
+        calls.push(run(frame, load(Area::Aux, low)));
+        let operand = register(low);
+        calls.push(run(frame, HeapInstruction::LoadStatic { operand, increment: true }));
+    }
+    for area in [Area::Heap, Area::Aux] {
+        calls.push(run(frame, store(area, LAST_OPERAND + 1, value(5), None)));
+    }
+    let operand = register(LAST_OPERAND + 1);
+    let store_static = HeapInstruction::StoreStatic { operand, value: value(6), increment: true };
+    calls.push(run(frame, store_static));
+    for gas in [1, 0] {
+        let paid = Frame { gas, heap_bound: 4096, aux_bound: 4096, ..frame };
+        for low in [4064, 4065] {
+            calls.push(run(paid, store(Area::Heap, low, value(low), None)));
+            calls.push(run(paid, load(Area::Aux, low)));
+        }
+    }
+    let fits = Word([u64::from(u32::MAX), 0, 0, 0]);
+    for (word, hook) in [(fits, 96), (fits, 97), (Word([1 << 32, 0, 0, 0]), 96), (value(0), 95)] {
+        calls.push(run(frame, store(Area::Heap, 96, word, Some(hook))));
+    }
+    calls
+}
+
+/// Offsets at the end of a pointer and past the limit, its end at and past 32 bits, and no tag.
+fn pointers(frame: Frame, page: u32) -> Vec<Call> {
+    let pointer = |offset: u32, start: u32, length: u32, tagged| {
+        let low = u64::from(page) << 32 | u64::from(offset);
+        let word = Word([low, u64::from(length) << 32 | u64::from(start), 9, 9]);
+        run(frame, HeapInstruction::LoadPointer { word, tagged, increment: true })
+    };
+    let limit = LAST_OPERAND as u32;
+    vec![
+        pointer(3, 10, 5, true),
+        pointer(5, 10, 5, true),
+        pointer(6, 10, 5, true),
+        pointer(0, 240, 40, true),
+        pointer(0, 10, 5, false),
+        pointer(limit, 10, 5, true),
+        pointer(limit + 1, 10, 5, true),
+        pointer(0, 1, u32::MAX - 1, true),
+        pointer(0, 1, u32::MAX, true),
+        pointer(limit + 1, 1, u32::MAX, true),
+        pointer(u32::MAX - 40, 40, u32::MAX - 40, true),
+    ]
+}
+
+/// Document 01's windows, an empty one, and those that end at and past 32 bits.
+fn windows(page: u32) -> Vec<Call> {
+    let mut calls = Vec::new();
+    for (start, length) in [(256, 256), (256, 257), (300, 300), (0, 1), (0, u32::MAX), (300, 0)] {
+        calls.push(Call::WriteBytes { page, start: 0, bytes: pattern(1024, 7) });
+        calls.push(Call::CompactToWindow { page, start, length });
+        calls.extend((0..4).map(|number| Call::Chunk { page, number }));
+    }
+    calls
+}
+
+/// A snapshot, two writes that overlap, a byte write over three words, and rollbacks, one past each journal.
+fn history(layout: &Layout) -> Vec<Call> {
+    let [heap, aux] = [layout.bootloader_heap, layout.bootloader_aux];
+    vec![
+        Call::DeleteHistory,
+        Call::WriteU256 { page: heap, address: 0, value: value(1) },
+        Call::Snapshot,
+        Call::WriteU256 { page: heap, address: 16, value: value(2) },
+        Call::WriteU256 { page: heap, address: 0, value: value(3) },
+        Call::WriteBytes { page: aux, start: 31, bytes: pattern(34, 9) },
+        Call::Rollback { heap: 4, aux: 0 },
+        Call::Rollback { heap: 1, aux: 4 },
+        Call::Rollback { heap: 1, aux: 0 },
+        Call::ReadU256 { page: heap, address: 0 },
+        Call::ReadU256 { page: heap, address: 16 },
+        Call::ReadU256 { page: aux, address: 31 },
+        Call::Rollback { heap: 1, aux: 0 },
+        Call::Snapshot,
+    ]
+}
+
+/// The last words and bytes of a page.
+fn top(page: u32) -> Vec<Call> {
+    vec![
+        Call::WriteBytes { page, start: LAST_BYTE, bytes: pattern(2, 1) },
+        Call::WriteBytes { page, start: LAST_BYTE, bytes: pattern(1, 1) },
+        Call::ReadByte { page, address: LAST_BYTE },
+        Call::WriteU256 { page, address: LAST_BYTE - 31, value: value(8) },
+        Call::WriteU256 { page, address: LAST_BYTE, value: value(9) },
+        Call::ReadU256 { page, address: LAST_BYTE - 31 },
+        Call::ReadU256 { page, address: LAST_BYTE },
+        Call::ReadRangeBigEndian { page, start: LAST_BYTE - 9, end: LAST_BYTE },
+        Call::ReadU256Partially { page, start: LAST_BYTE - 32, end: LAST_BYTE },
+        Call::Chunk { page, number: LAST_CHUNK },
+        Call::Chunk { page, number: LAST_CHUNK - 1 },
+        Call::CompactToWindow { page, start: 2, length: u32::MAX },
+        Call::Chunk { page, number: LAST_CHUNK },
+        Call::CompactToWindow { page, start: 0, length: u32::MAX },
+        Call::Chunk { page, number: LAST_CHUNK },
+    ]
+}

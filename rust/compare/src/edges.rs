@@ -119,12 +119,12 @@ fn instructions(frame: Frame) -> Vec<Call> {
         let operand = register(low);
         calls.push(run(frame, HeapInstruction::LoadStatic { operand, increment: true }));
     }
-    for area in [Area::Heap, Area::Aux] {
-        calls.push(run(frame, store(area, LAST_OPERAND + 1, value(5), None)));
+    for low in [LAST_OPERAND, LAST_OPERAND + 1] {
+        calls.push(run(frame, store(Area::Heap, low, value(5), None)));
+        calls.push(run(frame, store(Area::Aux, low, value(5), None)));
+        let (operand, value) = (register(low), value(6));
+        calls.push(run(frame, HeapInstruction::StoreStatic { operand, value, increment: true }));
     }
-    let operand = register(LAST_OPERAND + 1);
-    let store_static = HeapInstruction::StoreStatic { operand, value: value(6), increment: true };
-    calls.push(run(frame, store_static));
     for gas in [1, 0] {
         let paid = Frame { gas, heap_bound: 4096, aux_bound: 4096, ..frame };
         for low in [4064, 4065] {

@@ -1,5 +1,5 @@
 /*
- * A host in C: a memory in four buffers, a write, a snapshot, a load that pays for growth, a rollback, a refusal.
+ * A host in C: a memory in four buffers, a write, a snapshot, quotes, a load that pays for growth, a rollback, a refusal.
  * From the repository's folder:
  *
  *     rt staticlib zincpapaya
@@ -42,6 +42,15 @@ static uint64_t low_limb(uint32_t address) {
     return word[0];
 }
 
+/* What loads of these four addresses cost from the bound 4096 on, if they have this much gas. */
+static void show_quote(uint32_t gas) {
+    static const uint32_t list[4] = {4064, 4065, 0, 4070};
+    uint64_t out[3];
+    done("zp_quote", zp_quote(list, 4, gas, 4096, out, 3));
+    printf("quoted %" PRIu64 " gas, bound %" PRIu64 ", position %" PRIu64 ": %s\n", out[0], out[1],
+           out[2], out[2] == 4 ? "all go through" : "a panic");
+}
+
 int main(void) {
     static const uint8_t calldata[] = "calldata";
     done("zp_open", zp_open(MEMORY, STATIC, CALLDATA, BOOTLOADER_HEAP, BOOTLOADER_AUX, BASE, STRIDE,
@@ -51,6 +60,10 @@ int main(void) {
     done("zp_write_u256", zp_write_u256(MEMORY, BOOTLOADER_HEAP, 4065, 7, 0, 0, 0));
     uint64_t mark[2];
     done("zp_snapshot", zp_snapshot(MEMORY, mark, 2));
+
+    /* They pay 0, 1, 0 and 5; with 5 gas, the last one panics and takes what is left. */
+    show_quote(10);
+    show_quote(5);
 
     /* A load one byte past the bound of 4096 pays 1 gas. */
     uint32_t frame[6] = {10, BOOTLOADER_HEAP, BOOTLOADER_AUX, 4096, 4096, 0};

@@ -12,7 +12,7 @@ use Rattle.fat_pointer.specs.declared.FatPointer.{FatPointer}
 use Rattle.fat_pointer.specs.Pointer.{pointerOf, numberOf}
 use Rattle.state.specs.declared.Frame.{Frame}
 use Rattle.state.specs.declared.Area.the-variants.{Heap}
-use Rattle.state.specs.Access.{newBound, accessed}
+use Rattle.state.specs.Access.{frameAccessed}
 use Rattle.formed.specs.Parts.{tab}
 use Rattle.view.specs.View.{View, Setting}
 use Rattle.view.specs.Steps.{touchedCount, windowed}
@@ -67,7 +67,7 @@ abbrev pub access : Frame → ℕ → Outcome (ℕ × ℕ)
 access f address =
     firstOf
     (accessChecks (λ g. gasAndBound (g .frame)) Heap f address)
-    (done (gasAndBound (accessed f Heap (newBound address) .frame)))
+    (done (gasAndBound (frameAccessed f Heap address .frame)))
 
 -- ---- a row holds
 -- A window is one of page 66, a heap: of the chunks that it held it holds those of the list, and no others. A price is paid from any gas that reaches it.

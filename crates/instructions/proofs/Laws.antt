@@ -7,7 +7,7 @@ use Prim.Native.Nat.{ℕ, _+_, _*_, _%_, _^_, _<_, _≤_}
 use native.Mathlib.Omega.{arith}
 use native.Mathlib.Nat.{mod-eq-of-lt}
 use lib.Dec.{ltb}
-use borrow.Author.Tests.{lt-ltb, le-ltb, ltb-false}
+use borrow.Author.Tests.{lt-ltb, le-ltb, ltb-false, not-false}
 use Rattle.outcome.specs.Outcome.{Outcome, refused, panicked, done, carriedOut, firstOf}
 use Rattle.word.specs.Value.{bigEndian, wordBytes, lastAddress}
 use Rattle.fat_pointer.specs.declared.FatPointer.{FatPointer}
@@ -15,8 +15,8 @@ use Rattle.fat_pointer.specs.Pointer.{pointerOf}
 use Rattle.state.specs.declared.Frame.{Frame}
 use Rattle.state.specs.declared.Area.{Area}
 use Rattle.state.specs.declared.Step.{Step}
-use Rattle.state.specs.Access.{newBound, accessed}
-use Rattle.state.proofs.Laws.{no-wrap}
+use Rattle.state.specs.Access.{newBound, frameAccessed}
+use Rattle.state.proofs.Laws.{no-wrap, frame-within}
 use Rattle.store.specs.Mem.{Mem, layoutOf}
 use Rattle.formed.specs.Formed.{wellFormed}
 use Rattle.formed.specs.WellFormed.{WellFormed}
@@ -25,10 +25,10 @@ use Rattle.view.specs.View.{View, settingOf, viewOf}
 use Rattle.view.specs.Steps.{run, padded, wordWritten}
 use Rattle.view.specs.Checks.{Check, wordWriteChecks}
 use Rattle.view.specs.Does.{Shows}
-use Rattle.view.specs.Instructions.{Operand, Hook, Given, running, onHook, heapOf, staticOf, emptied, frameAlone, panic, incremented, hooked, accessChecks, loaded, stored, staticLoaded, staticStored, readFrom, readCount, pointed}
+use Rattle.view.specs.Instructions.{Operand, Hook, Given, running, onHook, heapOf, staticOf, frameAlone, panic, incremented, hooked, accessChecks, loaded, stored, staticLoaded, staticStored, readFrom, readCount, pointed}
 use Rattle.view.specs.Calls.{Call, Value, Load, Store, LoadPointer, LoadStatic, StoreStatic, given, outcomeOf, nextOf, answerOf}
 use Rattle.room.specs.Refusals.{number}
-use Rattle.instructions.specs.Executions.{stopOf, givenBy, toldBy, told, Runs, reached, carried}
+use Rattle.instructions.specs.Executions.{stopOf, givenBy, toldBy, told, Runs, carried}
 use Rattle.instructions.specs.declared.Execution.{Execution}
 use Rattle.instructions.specs.declared.ExecutionStatus.{ExecutionStatus}
 use Rattle.instructions.specs.declared.ExecutionStatus.the-variants.{Running, SuspendedOnHook, Panicked, Refused}
@@ -91,40 +91,28 @@ told-running : (r : Execution) (g : Given) → r .status ≡ Running → givenBy
 told-running r g s e = ap (λ (x : ExecutionStatus). toldBy x (givenBy r)) s ∙ ap (λ (x : Given). done (given x)) e
 
 -- ---- load and store: the access
-module _ (f : Frame) (area : Area) (x : ℕ) (s : Step) (is : s ≡ reached f area x) where
+module _ (f : Frame) (area : Area) (x : ℕ) (s : Step) (is : s ≡ frameAccessed f area x) where
+  same-paid : not (s .paid) ≡ not (frameAccessed f area x .paid)
+  same-paid = ap (λ (u : Step). not (u .paid)) is
+
   module _ {A : Type 0} (give : Given → A) (rest : List (Check A)) (o : Outcome A) where
     pub access-panics : not (s .paid) ≡ true → firstOf (accessChecks give area f x ++ rest) o ≡ panicked (give (panic (s .frame)))
-    access-panics e = go (ltb lastAddress x) (accessed f area (newBound x)) is
-      where
-        go : (b : Bool) (t : Step) → s ≡ cond b (record { frame = emptied f; paid = false }) t
-            → cond b (panicked (give (panic (emptied f)))) (cond (not (t .paid)) (panicked (give (panic (t .frame)))) (firstOf rest o)) ≡ panicked (give (panic (s .frame)))
-        go true t q = ap (λ (u : Step). panicked (give (panic (u .frame)))) (sym q)
-        go false t q = rw (sym (ap (λ (u : Step). not (u .paid)) q) ∙ e) (ap (λ (u : Step). panicked (give (panic (u .frame)))) (sym q))
+    access-panics e = rw (sym same-paid ∙ e) (ap (λ (u : Step). panicked (give (panic (u .frame)))) (sym is))
 
     pub access-passes : not (s .paid) ≡ false → firstOf (accessChecks give area f x ++ rest) o ≡ firstOf rest o
-    access-passes e = go (ltb lastAddress x) (accessed f area (newBound x)) is
-      where
-        go : (b : Bool) (t : Step) → s ≡ cond b (record { frame = emptied f; paid = false }) t
-            → cond b (panicked (give (panic (emptied f)))) (cond (not (t .paid)) (panicked (give (panic (t .frame)))) (firstOf rest o)) ≡ firstOf rest o
-        go true t q = absurd (false≢true (sym e ∙ ap (λ (u : Step). not (u .paid)) q))
-        go false t q = rw (sym (ap (λ (u : Step). not (u .paid)) q) ∙ e) refl
+    access-passes e = rw (sym same-paid ∙ e) refl
 
-  module _ (e : not (s .paid) ≡ false) where
-    pub within : ltb lastAddress x ≡ false
-    within = go (ltb lastAddress x) (accessed f area (newBound x)) is
-      where
-        go : (b : Bool) (t : Step) → s ≡ cond b (record { frame = emptied f; paid = false }) t → b ≡ false
-        go true t q = absurd (false≢true (sym e ∙ ap (λ (u : Step). not (u .paid)) q))
-        go false t q = refl
+  pub within : not (s .paid) ≡ false → ltb lastAddress x ≡ false
+  within e = le-ltb lastAddress x (frame-within f area x (not-false _ (sym same-paid ∙ e)))
 
-    pub frame-is : s .frame ≡ accessed f area (newBound x) .frame
-    frame-is = ap (λ (u : Step). u .frame) is ∙ ap (λ (b : Bool). cond b (record { frame = emptied f; paid = false }) (accessed f area (newBound x)) .frame) within
+  pub frame-is : s .frame ≡ frameAccessed f area x .frame
+  frame-is = ap (λ (u : Step). u .frame) is
 
 -- ---- load
 carried-is : {w w' y : ℕ} {t : Bool} {f f' : Frame} → w ≡ w' → f ≡ f' → carried Running w y t f ≡ carried Running w' y t f'
 carried-is {y = y} {t = t} d e = λ i. carried Running (d i) y t (e i)
 
-module _ (m : Mem) (area : Area) (f : Frame) (x : Operand) (formed : wellFormed m ≡ true) (s : Step) (is : s ≡ reached f area (x .word)) where
+module _ (m : Mem) (area : Area) (f : Frame) (x : Operand) (formed : wellFormed m ≡ true) (s : Step) (is : s ≡ frameAccessed f area (x .word)) where
   pub load-panics : (r : Execution) → not (s .paid) ≡ true → r .status ≡ Panicked → givenBy r ≡ panic (s .frame) → Runs m (Load area f x) f r m
   load-panics r e q g =
       panicked-runs m (Load area f x) f r (panic (s .frame)) q g
@@ -134,7 +122,7 @@ module _ (m : Mem) (area : Area) (f : Frame) (x : Operand) (formed : wellFormed 
       → r .status ≡ Running → givenBy r ≡ carried Running w (incremented (x .word)) (x .tag) (s .frame) → Runs m (Load area f x) f r m
   load-done e r w d q g =
       done-runs m (Load area f x) f r (loaded (viewOf m) area f x)
-      (told-running r (loaded (viewOf m) area f x) q (g ∙ carried-is d (frame-is f area (x .word) s is e)))
+      (told-running r (loaded (viewOf m) area f x) q (g ∙ carried-is d (frame-is f area (x .word) s is)))
       (well m (Load area f x) formed ∙ access-passes f area (x .word) s is given [] (done (given (loaded (viewOf m) area f x))) e)
       (shows-itself m formed)
 
@@ -152,7 +140,7 @@ told-stop : (hit : Bool) (k : ℕ) (g : Given) → toldBy (cond hit (SuspendedOn
 told-stop true k g = refl
 told-stop false k g = refl
 
-module _ (m : Mem) (area : Area) (f : Frame) (x : Operand) (n : ℕ) (h : Hook) (formed : wellFormed m ≡ true) (s : Step) (is : s ≡ reached f area (x .word)) where
+module _ (m : Mem) (area : Area) (f : Frame) (x : Operand) (n : ℕ) (h : Hook) (formed : wellFormed m ≡ true) (s : Step) (is : s ≡ frameAccessed f area (x .word)) where
   abbrev call : Call
   call = Store area f x n h
 
@@ -201,7 +189,7 @@ module _ (m : Mem) (area : Area) (f : Frame) (x : Operand) (n : ℕ) (h : Hook) 
         stop-is = ap stopOf stops ∙ suspended (hooked h (x .word)) n (store-passed (settingOf m) (viewOf m) (heapOf f area) (x .word) (hooked h (x .word)) n none .1)
 
         given-is : givenBy r ≡ stored area f x n h
-        given-is = g ∙ (λ i. record { word = z i; operand = record { word = incremented (x .word); tag = false }; frame = frame-is f area (x .word) s is e i; stop = stop-is i })
+        given-is = g ∙ (λ i. record { word = z i; operand = record { word = incremented (x .word); tag = false }; frame = frame-is f area (x .word) s is i; stop = stop-is i })
 
         answers : told r ≡ done (given (stored area f x n h))
         answers =

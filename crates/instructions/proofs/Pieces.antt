@@ -13,12 +13,13 @@ use Rattle.outcome.specs.Outcome.{refused}
 use Rattle.word.specs.Value.{lastAddress}
 use Rattle.state.specs.declared.Frame.{Frame}
 use Rattle.state.specs.declared.Area.{Area}
+use Rattle.state.specs.declared.Area.the-variants.{Heap, Aux}
 use Rattle.state.specs.declared.Step.{Step}
-use Rattle.state.specs.Access.{newBound, accessed}
+use Rattle.state.specs.Access.{newBound, frameGrown, frameAccessed}
 use Rattle.view.specs.Steps.{min}
-use Rattle.view.specs.Instructions.{emptied}
+use Rattle.view.proofs.Order.{emptied}
 use Rattle.room.specs.Refusals.{number}
-use Rattle.instructions.specs.Executions.{reached, carried}
+use Rattle.instructions.specs.Executions.{carried}
 use Rattle.instructions.specs.declared.ExecutionStatus.{ExecutionStatus}
 use Rattle.instructions.specs.declared.ExecutionStatus.the-variants.{Running, SuspendedOnHook}
 use Rattle.instructions.proofs.Lists.{fifteen}
@@ -26,13 +27,15 @@ use Rattle.instructions.proofs.Laws.{address-is}
 
 -- ---- the access
 module _ (f : Frame) (area : Area) (x : ℕ) where
-  pub reach-far : ltb lastAddress x ≡ true → record { frame = emptied f; paid = false } ≡ reached f area x
-  reach-far e = sym (ap (λ (b : Bool). cond b (record { frame = emptied f; paid = false }) (accessed f area (newBound x))) e)
+  pub reach-far : ltb lastAddress x ≡ true → record { frame = emptied f; paid = false } ≡ frameAccessed f area x
+  reach-far e = go area
+    where
+      go : (area : Area) → record { frame = emptied f; paid = false } ≡ frameAccessed f area x
+      go Heap = rw e refl
+      go Aux = rw e refl
 
-  pub reach-near : ltb lastAddress x ≡ false → (a b : ℕ) → a ≡ x % 2 ^ 32 → b ≡ newBound a → (s : Step) → s ≡ accessed f area b → s ≡ reached f area x
-  reach-near e a b d g s h =
-      h ∙ ap (accessed f area) (g ∙ ap newBound (d ∙ address-is x e))
-      ∙ sym (ap (λ (t : Bool). cond t (record { frame = emptied f; paid = false }) (accessed f area (newBound x))) e)
+  pub reach-near : ltb lastAddress x ≡ false → (a b : ℕ) → a ≡ x % 2 ^ 32 → b ≡ newBound a → (s : Step) → s ≡ frameGrown f area b → s ≡ frameAccessed f area x
+  reach-near e a b d g s h = h ∙ ap (frameGrown f area) (g ∙ ap newBound (d ∙ address-is x e)) ∙ rw e refl
 
 -- ---- the hook
 pub hook-off : (on b : Bool) → not on ≡ true → false ≡ (on && b)

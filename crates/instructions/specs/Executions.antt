@@ -1,18 +1,14 @@
 -- What the operands and answers of the instructions mean, and their contract.
 -- Assumes nothing.
 use mathlib.Core.Path.{_≡_}
-use mathlib.Core.Bool.{Bool, false, cond}
+use mathlib.Core.Bool.{Bool}
 use Prim.Native.Nat.{ℕ}
-use lib.Dec.{ltb}
 use Rattle.outcome.specs.Outcome.{Outcome, refused, panicked, done}
-use Rattle.word.specs.Value.{value, lastAddress}
+use Rattle.word.specs.Value.{value}
 use Rattle.state.specs.declared.Frame.{Frame}
-use Rattle.state.specs.declared.Area.{Area}
-use Rattle.state.specs.declared.Step.{Step}
-use Rattle.state.specs.Access.{newBound, accessed}
 use Rattle.store.specs.Mem.{Mem}
 use Rattle.view.specs.Instructions as view
-use Rattle.view.specs.Instructions.{Given, Stop, running, onHook, emptied, frameAlone}
+use Rattle.view.specs.Instructions.{Given, Stop, running, onHook, frameAlone}
 use Rattle.view.specs.Calls.{Call, Value, given, CallDoes}
 use Rattle.instructions.specs.declared.Operand.{Operand}
 use Rattle.instructions.specs.declared.Hook.{Hook}
@@ -55,9 +51,5 @@ pub record Runs (m : Mem) (c : Call) (f : Frame) (r : Execution) (m' : Mem) : Ty
   pub refusal : (n : ℕ) → told r ≡ refused n → givenBy r ≡ frameAlone f
 
 -- ---- what the parts do
--- the step of a load or a store at the operand x: paid, or the frame of the panic without its mark
-abbrev pub reached : Frame → Area → ℕ → Step
-reached f area x = cond (ltb lastAddress x) (record { frame = emptied f; paid = false }) (accessed f area (newBound x))
-
 abbrev pub carried : ExecutionStatus → (word operand : ℕ) → Bool → Frame → Given
 carried s w x t f = record { word = w; operand = record { word = x; tag = t }; frame = f; stop = stopOf s }

@@ -6,6 +6,7 @@ ghost use Prim.Native.Nat.{_-_, _%_, _^_, _≤_};
 ghost use lib.Dec.{ltb};
 ghost use Rattle.outcome.specs.Outcome.{refused};
 ghost use Rattle.word.specs.Value.{value};
+ghost use Rattle.state.specs.Access.{frameAccessed};
 ghost use Rattle.store.specs.Mem.{mem, layoutOf};
 ghost use Rattle.formed.specs.WellFormed.{WellFormed};
 ghost use Rattle.view.specs.View.{settingOf, viewOf};
@@ -13,7 +14,7 @@ ghost use Rattle.view.specs.Steps.{min};
 ghost use Rattle.view.specs.Checks.{wordWriteChecks};
 ghost use Rattle.view.specs.Instructions.{heapOf, staticOf, frameAlone, panic, hooked, incremented};
 ghost use Rattle.room.specs.Refusals.{number};
-ghost use Rattle.instructions.specs.Executions.{hookOf, givenBy, reached, carried};
+ghost use Rattle.instructions.specs.Executions.{hookOf, givenBy, carried};
 use crate::Execution;
 use crate::ExecutionStatus;
 use crate::Hook;
@@ -45,7 +46,7 @@ pub fn static_page(bytes: &[u8], keys: &[u64], order: &[u32], words: &[u64]) -> 
 
 // The access of a load or a store: paid, or not, and then the frame is that of the panic, without its mark.
 pub fn reach(frame: Frame, area: Area, operand: Word) -> Step
-    ensures { λ r. ⌜ r ≡ reached frame area (value (operand .limbs)) ⌝ }
+    ensures { λ r. ⌜ r ≡ frameAccessed frame area (value (operand .limbs)) ⌝ }
 {
     if word::bigger_than_last_address(operand) {
         let mut after = frame;
@@ -56,7 +57,7 @@ pub fn reach(frame: Frame, area: Area, operand: Word) -> Step
         };
     }
     let address = Address(word::low_u32(operand));
-    state::access(frame, area, state::new_bound(address))
+    state::growth_step(frame, area, state::new_bound(address))
 }
 
 // ---- the hook

@@ -11,17 +11,21 @@ use Rattle.formed.specs.Formed.{wellFormed}
 use Rattle.formed.proofs.Meaning.{well-formed-passes}
 use Rattle.view.specs.View.{View, Setting, settingOf, viewOf}
 use Rattle.view.specs.Does.{Shows, Does}
-use Rattle.view.specs.Calls.{Call, Value, Open, outcomeOf, nextOf, answerOf, CallDoes, OpenDoes}
+use Rattle.view.specs.Calls.{Call, Value, Open, Lookup, outcomeOf, nextOf, answerOf, CallDoes, OpenDoes}
 use Rattle.reads.proofs.Calls.{word-call, partial-call, range-call, byte-call, length-call, lookup-call, check-call, marks-call}
 use Rattle.lists.proofs.Compares.{left-call, right-call, both-call}
 use Rattle.plain.specs.Claim.{Contracts}
 use Rattle.plain.proofs.Good.{never}
 use Rattle.lists.specs.Steps.{Step, lent, rest, did-open, did-read-word, did-read-partial, did-read-range, did-read-byte, did-dynamic-length, did-lookup, did-lookup-check, did-snapshot, did-write-word, did-write-bytes, did-allocate, did-allocate-with, did-free, did-window, did-truncate, did-compare-left, did-compare-right, did-compare-both, did-rollback, did-delete-history, did-load, did-store, did-load-pointer, did-load-static, did-store-static}
 
--- an opening does its own; any other call, on a well-formed memory, what is shared
-record Meets (m : Mem) (c : Call) (o : Outcome Value) (m' : Mem) : Type 0 where
-  opens : (s : Setting) (calldata : List ℕ) → c ≡ Open s calldata → OpenDoes m s calldata o m'
-  calls : ((s : Setting) (calldata : List ℕ) → c ≡ Open s calldata → ⊥) → wellFormed m ≡ true → CallDoes m c o m'
+-- a lookup that is refused shows an empty part, so it meets the contract that is shared on a well-formed memory alone
+abbrev pub Shown : Mem → Call → Type 0
+Shown m c = (p k : ℕ) (z : List ℕ) → c ≡ Lookup p k z → wellFormed m ≡ true
+
+-- an opening does its own; any other call what is shared
+pub record Meets (m : Mem) (c : Call) (o : Outcome Value) (m' : Mem) : Type 0 where
+  pub opens : (s : Setting) (calldata : List ℕ) → c ≡ Open s calldata → OpenDoes m s calldata o m'
+  pub calls : ((s : Setting) (calldata : List ℕ) → c ≡ Open s calldata → ⊥) → Shown m c → CallDoes m c o m'
 
 by-open : {m m' : Mem} {o : Outcome Value} (s : Setting) (calldata : List ℕ) → OpenDoes m s calldata o m' → Meets m (Open s calldata) o m'
 by-open {m} {m'} {o} s calldata d = record {
@@ -32,18 +36,18 @@ by-open {m} {m'} {o} s calldata d = record {
   calls = λ n. absurd (n s calldata refl);
 }
 
-by-call : {m m' : Mem} {o : Outcome Value} (c : Call) → ((s : Setting) (calldata : List ℕ) → c ≡ Open s calldata → ⊥) → (wellFormed m ≡ true → CallDoes m c o m') → Meets m c o m'
+by-call : {m m' : Mem} {o : Outcome Value} (c : Call) → ((s : Setting) (calldata : List ℕ) → c ≡ Open s calldata → ⊥) → (Shown m c → CallDoes m c o m') → Meets m c o m'
 by-call c n d = record { opens = λ s calldata e. absurd (n s calldata e); calls = λ _. d }
 
 -- each line is the contract itself, that of a read by its law
-does : {m m' : Mem} {c : Call} {o : Outcome Value} → Step m c o m' → Meets m c o m'
+pub does : {m m' : Mem} {c : Call} {o : Outcome Value} → Step m c o m' → Meets m c o m'
 does (did-open w) = by-open _ _ (w .ensures)
 does (did-read-word w) = by-call _ (λ s d e. never (cc)) (λ _. word-call (lent (w .args)) (rest (w .args) .0 .0) (rest (w .args) .1 .0 .0) _ (w .ensures .answer))
 does (did-read-partial w) = by-call _ (λ s d e. never (cc)) (λ _. partial-call (lent (w .args)) (rest (w .args) .0 .0) (rest (w .args) .1 .0 .0) (rest (w .args) .1 .1 .0 .0) _ (w .ensures .answer))
 does (did-read-range w) = by-call _ (λ s d e. never (cc)) (λ _. range-call (lent (w .args)) (rest (w .args) .0 .0) (rest (w .args) .1 .0 .0) (rest (w .args) .1 .1 .0 .0) _ _ _ (w .ensures))
 does (did-read-byte w) = by-call _ (λ s d e. never (cc)) (λ _. byte-call (lent (w .args)) (rest (w .args) .0 .0) (rest (w .args) .1 .0 .0) _ (w .ensures .answer))
 does (did-dynamic-length w) = by-call _ (λ s d e. never (cc)) (λ _. length-call (lent (w .args)) _ (w .ensures .answer))
-does (did-lookup w) = by-call _ (λ s d e. never (cc)) (λ f. lookup-call (lent (w .args)) (rest (w .args) .0 .0) (rest (w .args) .1 .0) (now (rest (w .args) .1 .1 .0)) _ f (w .ensures))
+does (did-lookup w) = by-call _ (λ s d e. never (cc)) (λ f. lookup-call (lent (w .args)) (rest (w .args) .0 .0) (rest (w .args) .1 .0) (now (rest (w .args) .1 .1 .0)) _ (f _ _ _ refl) (w .ensures))
 does (did-lookup-check w) = by-call _ (λ s d e. never (cc)) (λ _. check-call (lent (w .args)) (rest (w .args) .0 .0) (rest (w .args) .1 .0) (now (rest (w .args) .1 .1 .0)) _ (w .ensures))
 does (did-snapshot w) = by-call _ (λ s d e. never (cc)) (λ _. marks-call (lent (w .args)) _ (w .ensures .answer))
 does (did-write-word w) = by-call _ (λ s d e. never (cc)) (λ _. w .ensures)
@@ -77,5 +81,5 @@ of-shown {m} {m'} c {o} {s} {v} h d =
 pub contracts : Contracts Step
 contracts = record {
   opens = λ {s = s} {calldata = calldata} x. does x .opens s calldata refl;
-  calls = λ {m = m} {c = c} n x h. of-shown c h (does x .calls n (well-formed-passes m (h .formed)));
+  calls = λ {m = m} {c = c} n x h. of-shown c h (does x .calls n (λ p k z e. well-formed-passes m (h .formed)));
 }

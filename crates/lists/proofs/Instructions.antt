@@ -6,12 +6,13 @@ use mathlib.Core.List.{List, [], _∷_, _++_}
 use Prim.Native.Nat.{ℕ, _≤_}
 use native.Mathlib.Omega.{arith}
 use lib.Dec.{ltb}
-use borrow.Author.Tests.{ltb-false}
+use borrow.Author.Tests.{ltb-false, not-false}
 use Rattle.outcome.specs.Outcome.{Outcome, refused, panicked, done, carriedOut, firstOf}
 use Rattle.word.specs.Value.{value, lastAddress}
 use Rattle.word.specs.declared.Word.{Word}
 use Rattle.state.specs.declared.Frame.{Frame}
 use Rattle.state.specs.declared.Area.{Area}
+use Rattle.state.proofs.Laws.{frame-within}
 use Rattle.store.specs.Mem.{Mem}
 use Rattle.formed.specs.Formed.{wellFormed}
 use Rattle.formed.proofs.Meaning.{well-formed-means}
@@ -126,7 +127,7 @@ module _ (f : Frame) (m : Mem) where
       ran : Ran (answerOf m (Load area f (operandOf x)))
       ran =
           answer-ran m c
-          (first-ran (accessChecks given area f (operandOf x .word)) (is-panicked _ refl, (is-panicked _ refl, tt))
+          (first-ran (accessChecks given area f (operandOf x .word)) (is-panicked _ refl, tt)
           (done (given (loaded (viewOf m) area f (operandOf x)))) (is-done (loaded (viewOf m) area f (operandOf x))))
 
   pointer-step : (x : Operand) → Step m (LoadPointer f (operandOf x)) (answerOf m (LoadPointer f (operandOf x))) m
@@ -219,8 +220,8 @@ module _ (f : Frame) (x : view.Operand) (n : ℕ) where
         → Reached (settingOf m) (nextOf (settingOf m) (Store area f x n h) (viewOf m))
     store-there w e =
         let c = clear (storeChecks given (settingOf m) (viewOf m) area f (x .word) n h) (given (stored area f x n h)) e in
-        let l : x .word ≤ lastAddress = ltb-false lastAddress (x .word) (c .0) in
-        word-there m (heapOf f area) (x .word) page (omega arith) n (well-formed-means m w, write-clear (settingOf m) (viewOf m) (heapOf f area) (x .word) ((hooked h (x .word) && ltb 4294967295 n, refused 15) ∷ []) (c .1 .1))
+        let l : x .word ≤ lastAddress = frame-within f area (x .word) (not-false _ (c .0)) in
+        word-there m (heapOf f area) (x .word) page (omega arith) n (well-formed-means m w, write-clear (settingOf m) (viewOf m) (heapOf f area) (x .word) ((hooked h (x .word) && ltb 4294967295 n, refused 15) ∷ []) (c .1))
 
   module _ (m : Mem) where
     static-there : wellFormed m ≡ true → carriedOut (outcomeOf (settingOf m) (StoreStatic f x n) (viewOf m)) ≡ true
@@ -265,7 +266,7 @@ store-ran : (area : Area) (f : Frame) (x : view.Operand) (n : ℕ) (h : view.Hoo
 store-ran area f x n h m =
     answer-ran m (Store area f x n h)
     (first-ran (storeChecks given (settingOf m) (viewOf m) area f (x .word) n h)
-    (is-panicked _ refl, (is-panicked _ refl, write-ran (settingOf m) (viewOf m) (heapOf f area) (x .word) ((hooked h (x .word) && ltb 4294967295 n, refused 15) ∷ []) (is-refused 15, tt)))
+    (is-panicked _ refl, write-ran (settingOf m) (viewOf m) (heapOf f area) (x .word) ((hooked h (x .word) && ltb 4294967295 n, refused 15) ∷ []) (is-refused 15, tt))
     (done (given (stored area f x n h))) (is-done (stored area f x n h)))
 
 static-ran : (f : Frame) (x : view.Operand) (n : ℕ) (m : Mem) → Ran (answerOf m (StoreStatic f x n))

@@ -1,5 +1,5 @@
 -- Contracts: what the contracts say of a step. Next: lists begin and go on, by Inhabited, Frees, Comparing and Instructions: every call has a step.
--- Theorem: the demand, with no hypothesis left.
+-- Theorem: the demand, with no hypothesis left. Charged: that a quote is what its loads pay, likewise.
 
 pub mod Compares
 pub mod Contracts
@@ -14,3 +14,4 @@ pub mod Comparing
 pub mod Instructions
 pub mod Next
 pub mod Theorem
+pub mod Charged

@@ -1,5 +1,7 @@
 -- Steps: the calls as their contracts tell them. Goes: that lists of them begin and go on. Demand: what is proved of them, in one type.
+-- Charged: that a quote is what its loads pay.
 
 pub mod Steps
 pub mod Goes
 pub mod Demand
+pub mod Charged

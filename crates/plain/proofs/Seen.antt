@@ -165,7 +165,7 @@ module _ (s : Setting) (v : View) where
   store-passed : (area : Area) (f : Frame) (x : Operand) (n : ℕ) (h : Hook) → carriedOut (outcomeOf s (Store area f x n h) v) ≡ true → Written s v (heapOf f area) (x .word) 32
   store-passed area f x n h e =
       let c = clear (storeChecks given s v area f (x .word) n h) (given (stored area f x n h)) e in
-      write-clear (heapOf f area) (x .word) ((hooked h (x .word) && ltb 4294967295 n, refused 15) ∷ []) (c .1 .1)
+      write-clear (heapOf f area) (x .word) ((hooked h (x .word) && ltb 4294967295 n, refused 15) ∷ []) (c .1)
 
   static-passed : (f : Frame) (x : Operand) (n : ℕ) → carriedOut (outcomeOf s (StoreStatic f x n) v) ≡ true → Written s v (staticOf (s .layout)) (x .word) 32
   static-passed f x n e =

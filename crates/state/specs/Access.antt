@@ -1,9 +1,9 @@
--- What an access pays: the one definition that loads, stores, `grow_heap` and the quote cite.
+-- What an access pays: the one definition that loads, stores and the quote cite. `grow_heap` is the part of it that pays for a new bound.
 -- Assumes nothing.
 use mathlib.Core.Bool.{Bool, true, false, cond}
 use mathlib.Core.List.{[], _∷_}
 use Prim.Native.Nat.{ℕ, _+_, _-_, _%_, _^_}
-use lib.Dec.{leb}
+use lib.Dec.{leb, ltb}
 use Rattle.outcome.specs.Outcome.{firstOf}
 use Rattle.state.specs.declared.Frame.{Frame}
 use Rattle.state.specs.declared.Gas.{Gas}
@@ -12,8 +12,8 @@ use Rattle.state.specs.declared.Step.{Step}
 use Rattle.state.specs.declared.Area.{Area}
 use Rattle.state.specs.declared.Area.the-variants.{Heap, Aux}
 
--- the last address to which 32 can be added within 32 bits: the operand limit of loads and stores, which the quote skips past
--- (word/specs/Value.antt has it for words; neither crate stands on the other)
+-- the last address to which 32 can be added within 32 bits: the operand limit
+-- (word/specs/Value.antt has it for words; neither crate depends on the other)
 abbrev pub lastAddress : ℕ
 lastAddress = 4294967263
 
@@ -40,17 +40,31 @@ grown gas bound new =
     ((leb new bound, record { gas = gas; bound = bound; paid = true }) ∷ [])
     (paying gas (due bound new) (λ left paid. record { gas = left; bound = cond paid new bound; paid = paid }))
 
--- the frame after it: its gas and the one bound alone change
-abbrev pub accessed : Frame → Area → ℕ → Step
-accessed f Heap new =
-    let g = grown (f .gas) (f .«heap_bound») new in
-    record {
-      frame = record { gas = g .gas; heap = f .heap; aux = f .aux; «heap_bound» = g .bound; «aux_bound» = f .«aux_bound»; panicked = f .panicked };
-      paid = g .paid;
-    }
-accessed f Aux new =
-    let g = grown (f .gas) (f .«aux_bound») new in
-    record {
-      frame = record { gas = g .gas; heap = f .heap; aux = f .aux; «heap_bound» = f .«heap_bound»; «aux_bound» = g .bound; panicked = f .panicked };
-      paid = g .paid;
-    }
+-- AN ACCESS at an operand x: above the limit it empties the gas and is not paid, else it pays for its new bound. One that is not paid panics
+abbrev pub accessed : (gas bound x : ℕ) → Growth
+accessed gas bound x = firstOf ((ltb lastAddress x, record { gas = 0; bound = bound; paid = false }) ∷ []) (grown gas bound (newBound x))
+
+-- ---- on a frame
+-- the bound of an area
+abbrev pub boundOf : Frame → Area → ℕ
+boundOf f Heap = f .«heap_bound»
+boundOf f Aux = f .«aux_bound»
+
+-- a growth of an area: the frame's gas and the one bound alone change
+abbrev pub withGrowth : Frame → Area → Growth → Step
+withGrowth f Heap g = record {
+  frame = record { gas = g .gas; heap = f .heap; aux = f .aux; «heap_bound» = g .bound; «aux_bound» = f .«aux_bound»; panicked = f .panicked };
+  paid = g .paid;
+}
+withGrowth f Aux g = record {
+  frame = record { gas = g .gas; heap = f .heap; aux = f .aux; «heap_bound» = f .«heap_bound»; «aux_bound» = g .bound; panicked = f .panicked };
+  paid = g .paid;
+}
+
+-- growth to a new bound: `grow_heap`
+abbrev pub frameGrown : Frame → Area → ℕ → Step
+frameGrown f area new = withGrowth f area (grown (f .gas) (boundOf f area) new)
+
+-- an access at an operand: loads and stores
+abbrev pub frameAccessed : Frame → Area → ℕ → Step
+frameAccessed f area x = withGrowth f area (accessed (f .gas) (boundOf f area) x)

@@ -1,11 +1,14 @@
 // A frame by value, its gas, and what an access to its heap or aux heap pays.
 // vm2: `use_gas` of state.rs and `grow_heap` of heap_access.rs.
 ghost use mathlib.Core.Path.{_≡_};
-ghost use Rattle.state.specs.Access.{newBound, used, grown, accessed};
+ghost use Rattle.state.specs.Access.{newBound, used, grown, accessed, frameGrown};
 use page_ids::Address;
 use page_ids::PageId;
 
 pub mod quote;
+
+// The last address to which 32 can be added without overflow.
+const LAST_ADDRESS: u32 = 4294967263;
 
 pub struct Frame {
     pub gas: u32,
@@ -90,9 +93,23 @@ pub fn grow(gas: u32, bound: u32, new: u32) -> Growth
     }
 }
 
-// The step that loads and stores take: the growth of one area is paid from the frame's gas.
-pub fn access(frame: Frame, area: Area, new: u32) -> Step
-    ensures { λ r. ⌜ r ≡ accessed frame area new ⌝ }
+// Gas and bound after an access at an address: one past the last empties the gas and is not paid.
+pub fn access(gas: u32, bound: u32, address: Address) -> Growth
+    ensures { λ r. ⌜ r ≡ accessed gas bound (address .0) ⌝ }
+{
+    if address.0 > LAST_ADDRESS {
+        return Growth {
+            gas: 0,
+            bound,
+            paid: false,
+        };
+    }
+    grow(gas, bound, new_bound(address))
+}
+
+// The growth of one area is paid from the frame's gas: the step that loads and stores take.
+pub fn growth_step(frame: Frame, area: Area, new: u32) -> Step
+    ensures { λ r. ⌜ r ≡ frameGrown frame area new ⌝ }
 {
     let mut after = frame;
     match area {
@@ -119,16 +136,16 @@ pub fn access(frame: Frame, area: Area, new: u32) -> Step
 
 // The same step on a frame that is lent: tells whether it paid, which is true where nothing is due.
 pub fn grow_heap(frame: &mut Frame, area: Area, new: u32) -> bool
-    ensures { λ r. ⌜ (now (frame .exit) ≡ accessed (now (frame .entry)) area new .frame) × (r ≡ accessed (now (frame .entry)) area new .paid) ⌝ }
+    ensures { λ r. ⌜ (now (frame .exit) ≡ frameGrown (now (frame .entry)) area new .frame) × (r ≡ frameGrown (now (frame .entry)) area new .paid) ⌝ }
 {
-    let after = access(*frame, area, new);
+    let after = growth_step(*frame, area, new);
     *frame = after.frame;
     after.paid
 }
 
 // `grow_heap` for a caller that has the frame by value: a copy is lent to it, and given back.
 pub fn grow_frame(frame: Frame, area: Area, new: u32) -> Step
-    ensures { λ r. ⌜ r ≡ accessed frame area new ⌝ }
+    ensures { λ r. ⌜ r ≡ frameGrown frame area new ⌝ }
 {
     let mut lent = frame;
     let paid = grow_heap(&mut lent, area, new);

@@ -1,50 +1,60 @@
-// The quote: what a list of accesses to one area would pay for its growth.
+// The quote: what a list of accesses to one area pays, one after another, and where the run ends.
 ghost use mathlib.Core.Path.{_≡_};
-ghost use Rattle.state.specs.Quote.{higher, highest, told, quoted};
-use crate::new_bound;
+ghost use Prim.Native.Nat.{_≤_};
+ghost use lib.ListN.{length};
+ghost use Rattle.state.specs.Quote.{walked, told, quoted};
+use crate::access;
 use page_ids::Address;
+
+// A longer list is refused.
+const MOST_ADDRESSES: usize = 4096;
+
+// The gas spent, the bound reached, and the position of the access that panics, or the list's length.
+pub struct RunEnd {
+    pub spent: u32,
+    pub bound: u32,
+    pub position: u32,
+}
 
 pub enum Quoted {
     Refused(u32),
-    Due(u32),
+    Ended(RunEnd),
 }
 
-// The higher of the bound that an access at `address` asks for and `bound`.
-fn higher_of(address: u32, bound: u32) -> u32
-    ensures { λ r. ⌜ r ≡ higher address bound ⌝ }
+// The accesses of the list, up to the first that panics.
+fn walk(list: &[u32], gas: u32, bound: u32) -> RunEnd
+    requires { ⌜ length (now list) ≤ 4096 ⌝ }
+    ensures { λ r. ⌜ r ≡ walked gas (now (list .entry)) gas bound 0 ⌝ }
 {
-    if address > 4294967263 {
-        return bound;
+    let mut left = gas;
+    let mut reached = bound;
+    let mut i = 0;
+    while i < list.len() {
+        let grown = access(left, reached, Address(list[i]));
+        left = grown.gas;
+        reached = grown.bound;
+        if !grown.paid {
+            return RunEnd {
+                spent: gas - left,
+                bound: reached,
+                position: i as u32,
+            };
+        }
+        i += 1;
     }
-    let new = new_bound(Address(address));
-    if bound < new {
-        return new;
+    RunEnd {
+        spent: gas - left,
+        bound: reached,
+        position: i as u32,
     }
-    bound
 }
 
-// The highest bound that the addresses ask for, 0 where nothing counts.
-fn highest_of(list: &[u32]) -> u32
-    ensures { λ r. ⌜ r ≡ highest (now (list .entry)) ⌝ }
+// What loads at these addresses, one after another, spend of the gas and make of the bound; stores, too.
+pub fn quote(list: &[u32], gas: u32, bound: u32) -> Quoted
+    ensures { λ r. ⌜ told r ≡ quoted (now (list .entry)) gas bound ⌝ }
 {
-    let mut i = list.len();
-    let mut bound = 0;
-    while i > 0 {
-        i -= 1;
-        bound = higher_of(list[i], bound);
-    }
-    bound
-}
-
-pub fn quote(list: &[u32], bound: u32) -> Quoted
-    ensures { λ r. ⌜ told r ≡ quoted (now (list .entry)) bound ⌝ }
-{
-    if list.len() > 4096 {
+    if list.len() > MOST_ADDRESSES {
         return Quoted::Refused(8);
     }
-    let new = highest_of(list);
-    if new > bound {
-        return Quoted::Due(new - bound);
-    }
-    Quoted::Due(0)
+    Quoted::Ended(walk(list, gas, bound))
 }

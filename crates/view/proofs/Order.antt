@@ -1,10 +1,9 @@
 -- An EraVM panic precedes the instruction's 4, 9, 10, 11, 14 and 15, and what it leaves of the frame.
 -- Assumes nothing.
 use mathlib.Core.Path.{_≡_, refl, ap}
-use mathlib.Core.Bool.{Bool, true, false, cond, true≢false}
-use Prim.Native.Nat.{ℕ, _-_, _<_, _≤_}
-use lib.Dec.{leb}
-use borrow.Author.Tests.{lt-ltb, le-ltb}
+use mathlib.Core.Bool.{true, false}
+use Prim.Native.Nat.{ℕ, _<_}
+use borrow.Author.Tests.{lt-ltb}
 use Rattle.outcome.specs.Outcome.{panicked}
 use Rattle.word.specs.Value.{lastAddress}
 use Rattle.fat_pointer.specs.Pointer.{pointerOf}
@@ -12,48 +11,41 @@ use Rattle.state.specs.declared.Frame.{Frame}
 use Rattle.state.specs.declared.Growth.{Growth}
 use Rattle.state.specs.declared.Area.{Area}
 use Rattle.state.specs.declared.Area.the-variants.{Heap, Aux}
-use Rattle.state.specs.Access.{newBound, due, grown, accessed}
+use Rattle.state.specs.Access.{withGrowth, frameAccessed}
+use Rattle.state.proofs.Laws.{accessed-short}
 use Rattle.view.specs.View.{View, Setting}
-use Rattle.view.specs.Instructions.{Operand, Hook, panic, emptied}
+use Rattle.view.specs.Instructions.{Operand, Hook, panic}
 use Rattle.view.specs.Calls.{Load, Store, LoadPointer, LoadStatic, StoreStatic, given, outcomeOf}
 
--- too little gas empties it and keeps the bound
-short : (gas bound new : ℕ) → grown gas bound new .paid ≡ false → grown gas bound new ≡ record { gas = 0; bound = bound; paid = false }
-short gas bound new e = go (leb new bound) (leb (due bound new) gas) e
-  where
-    growth : Bool → Bool → Growth
-    growth a b = cond a (record { gas = gas; bound = bound; paid = true }) (cond b (record { gas = gas - due bound new; bound = new; paid = true }) (record { gas = 0; bound = bound; paid = false }))
+abbrev pub emptied : Frame → Frame
+emptied f = record { gas = 0; heap = f .heap; aux = f .aux; «heap_bound» = f .«heap_bound»; «aux_bound» = f .«aux_bound»; panicked = f .panicked }
 
-    go : (a b : Bool) → growth a b .paid ≡ false → growth a b ≡ record { gas = 0; bound = bound; paid = false }
-    go true b q = absurd (true≢false q)
-    go false true q = absurd (true≢false q)
-    go false false q = refl
+-- an access that is not paid leaves the frame with its gas emptied, and no more
+pub unpaid : (f : Frame) (area : Area) (x : ℕ) → frameAccessed f area x .paid ≡ false → frameAccessed f area x .frame ≡ emptied f
+unpaid f Heap x e = ap (λ (g : Growth). withGrowth f Heap g .frame) (accessed-short (f .gas) (f .«heap_bound») x e)
+unpaid f Aux x e = ap (λ (g : Growth). withGrowth f Aux g .frame) (accessed-short (f .gas) (f .«aux_bound») x e)
 
--- a growth that is not paid leaves the frame with its gas emptied, and no more
-pub unpaid : (f : Frame) (area : Area) (new : ℕ) → accessed f area new .paid ≡ false → accessed f area new .frame ≡ emptied f
-unpaid f Heap new e =
-    ap (λ (g : Growth). record { gas = g .gas; heap = f .heap; aux = f .aux; «heap_bound» = g .bound; «aux_bound» = f .«aux_bound»; panicked = f .panicked })
-    (short (f .gas) (f .«heap_bound») new e)
-unpaid f Aux new e =
-    ap (λ (g : Growth). record { gas = g .gas; heap = f .heap; aux = f .aux; «heap_bound» = f .«heap_bound»; «aux_bound» = g .bound; panicked = f .panicked })
-    (short (f .gas) (f .«aux_bound») new e)
+-- an operand above the limit is not paid for
+past : (f : Frame) (area : Area) (x : ℕ) → lastAddress < x → frameAccessed f area x .paid ≡ false
+past f Heap x l = rw (lt-ltb lastAddress x l) refl
+past f Aux x l = rw (lt-ltb lastAddress x l) refl
 
 -- whatever the memory, the page, the value and the hook are
 module _ (s : Setting) (v : View) (f : Frame) (x : Operand) where
   module _ (area : Area) where
-    module _ (l : lastAddress < x .word) where
-      pub load-limit : outcomeOf s (Load area f x) v ≡ panicked (given (panic (emptied f)))
-      load-limit = rw (lt-ltb lastAddress (x .word) l)
-
-      pub store-limit : (n : ℕ) (h : Hook) → outcomeOf s (Store area f x n h) v ≡ panicked (given (panic (emptied f)))
-      store-limit n h = rw (lt-ltb lastAddress (x .word) l)
-
-    module _ (l : x .word ≤ lastAddress) (e : accessed f area (newBound (x .word)) .paid ≡ false) where
+    module _ (e : frameAccessed f area (x .word) .paid ≡ false) where
       pub load-unpaid : outcomeOf s (Load area f x) v ≡ panicked (given (panic (emptied f)))
-      load-unpaid = rw (le-ltb lastAddress (x .word) l, e, unpaid f area (newBound (x .word)) e)
+      load-unpaid = rw (e, unpaid f area (x .word) e)
 
       pub store-unpaid : (n : ℕ) (h : Hook) → outcomeOf s (Store area f x n h) v ≡ panicked (given (panic (emptied f)))
-      store-unpaid n h = rw (le-ltb lastAddress (x .word) l, e, unpaid f area (newBound (x .word)) e)
+      store-unpaid n h = rw (e, unpaid f area (x .word) e)
+
+    module _ (l : lastAddress < x .word) where
+      pub load-limit : outcomeOf s (Load area f x) v ≡ panicked (given (panic (emptied f)))
+      load-limit = load-unpaid (past f area (x .word) l)
+
+      pub store-limit : (n : ℕ) (h : Hook) → outcomeOf s (Store area f x n h) v ≡ panicked (given (panic (emptied f)))
+      store-limit = store-unpaid (past f area (x .word) l)
 
   -- without charge
   module _ (l : lastAddress < x .word) where

@@ -12,7 +12,7 @@ use Rattle.fat_pointer.specs.Pointer.{pointerOf}
 use Rattle.state.specs.declared.Frame.{Frame}
 use Rattle.state.specs.declared.Area.{Area}
 use Rattle.state.specs.declared.Area.the-variants.{Heap, Aux}
-use Rattle.state.specs.Access.{newBound, accessed}
+use Rattle.state.specs.Access.{frameAccessed}
 use Rattle.view.specs.View.{View, Setting}
 use Rattle.view.specs.Steps.{min, run, padded}
 use Rattle.view.specs.Checks.{Check, wordWriteChecks}
@@ -49,9 +49,6 @@ heapOf f Aux = f .aux .0
 abbrev pub staticOf : Layout → ℕ
 staticOf l = l .«static_memory» .0
 
-abbrev pub emptied : Frame → Frame
-emptied f = record { gas = 0; heap = f .heap; aux = f .aux; «heap_bound» = f .«heap_bound»; «aux_bound» = f .«aux_bound»; panicked = f .panicked }
-
 abbrev pub marked : Frame → Frame
 marked f = record { gas = f .gas; heap = f .heap; aux = f .aux; «heap_bound» = f .«heap_bound»; «aux_bound» = f .«aux_bound»; panicked = true }
 
@@ -68,19 +65,16 @@ abbrev pub incremented : ℕ → ℕ
 incremented x = (x + 32) % 2 ^ 256
 
 -- ---- load and store, of the word at an operand's number
--- an operand above 4,294,967,263 empties the gas and panics; so does a growth that the gas does not pay, and the bound is kept
+-- an access that is not paid panics: an operand above 4,294,967,263, or a growth that the gas does not pay; it empties the gas and keeps the bound
 abbrev pub accessChecks : {A : Type 0} → (Given → A) → Area → Frame → ℕ → List (Check A)
-accessChecks give area f x =
-    (ltb lastAddress x, panicked (give (panic (emptied f))))
-    ∷ (not (accessed f area (newBound x) .paid), panicked (give (panic (accessed f area (newBound x) .frame))))
-    ∷ []
+accessChecks give area f x = (not (frameAccessed f area x .paid), panicked (give (panic (frameAccessed f area x .frame)))) ∷ []
 
 -- a load keeps the operand's tag; of an undecodable page it reads zeros, and pays all the same
 abbrev pub loaded : View → Area → Frame → Operand → Given
 loaded v area f x = record {
   word = bigEndian (run v (heapOf f area) (x .word) 32);
   operand = record { word = incremented (x .word); tag = x .tag };
-  frame = accessed f area (newBound (x .word)) .frame;
+  frame = frameAccessed f area (x .word) .frame;
   stop = running;
 }
 
@@ -97,7 +91,7 @@ abbrev pub stored : Area → Frame → Operand → ℕ → Hook → Given
 stored area f x n h = record {
   word = 0;
   operand = record { word = incremented (x .word); tag = false };
-  frame = accessed f area (newBound (x .word)) .frame;
+  frame = frameAccessed f area (x .word) .frame;
   stop = cond (hooked h (x .word)) (onHook n) running;
 }
 

@@ -73,8 +73,8 @@ difference-plain a b = either (ltb a b) refuses answers
 pub decoding-plain : (l : Layout) (id : ℕ) → Plain (decoding l id)
 decoding-plain l id = either (badLayout l) refuses answers
 
-pub quoted-plain : (list : List ℕ) (bound : ℕ) → Plain (quoted list bound)
-quoted-plain list bound = either (ltb 4096 (length list)) refuses answers
+pub quoted-plain : (list : List ℕ) (gas bound : ℕ) → Plain (quoted list gas bound)
+quoted-plain list gas bound = either (ltb 4096 (length list)) refuses answers
 
 -- ---- what the parts tell
 pub done-told : {A : Type 0} {numbers : A → List ℕ} {o : Outcome A} {a : A} → o ≡ done a → {out : List ℕ} {r : ℕ} {out' : List ℕ} → r ≡ 0 → out' ≡ numbers a → Tells numbers o out r out'

@@ -37,6 +37,9 @@ one-put l h {v} {a} e = overwritten (v ∷ []) l h ∙ ap (λ (x : ℕ). x ∷ [
 pub two-put : (l : List ℕ) → length l ≡ 2 → {v w a b : ℕ} → v ≡ a → w ≡ b → set (set l 0 v) 1 w ≡ a ∷ b ∷ []
 two-put l h {v} {w} d e = overwritten (v ∷ w ∷ []) l h ∙ pair-is d e
 
+pub three-put : (l : List ℕ) → length l ≡ 3 → {u v w a b c : ℕ} → u ≡ a → v ≡ b → w ≡ c → set (set (set l 0 u) 1 v) 2 w ≡ a ∷ b ∷ c ∷ []
+three-put l h {u} {v} {w} d e f = overwritten (u ∷ v ∷ w ∷ []) l h ∙ (λ i. d i ∷ e i ∷ f i ∷ [])
+
 pub frame-put : (f : Frame) (l : List ℕ) → length l ≡ 6 → (b : ℕ) → b ≡ bit (f .panicked)
     → set (set (set (set (set (set l 0 (f .gas)) 1 (f .heap .0)) 2 (f .aux .0)) 3 (f .«heap_bound»)) 4 (f .«aux_bound»)) 5 b ≡ frameNumbers f
 frame-put f l h b e =

@@ -51,13 +51,13 @@ module _ (m : Mem) (f : Frame) (x : Operand) where
   writes p a rest h = next (refuses refl) (next (refuses refl) (next (refuses refl) (next (refuses refl) h)))
 
   pub load-tellable : (area : Area) → Tellable (answerOf m (Load area f x))
-  load-tellable area = formed (first (accessChecks given area f (x .word)) (next panics (next panics end)) (gives {g = loaded (viewOf m) area f x}))
+  load-tellable area = formed (first (accessChecks given area f (x .word)) (next panics end) (gives {g = loaded (viewOf m) area f x}))
 
   pub store-tellable : (area : Area) (n : ℕ) (h : Hook) → Tellable (answerOf m (Store area f x n h))
   store-tellable area n h =
       formed
       (first (storeChecks given (settingOf m) (viewOf m) area f (x .word) n h)
-      (next panics (next panics (writes (heapOf f area) (x .word) ((hooked h (x .word) && ltb 4294967295 n, refused 15) ∷ []) (next (refuses refl) end))))
+      (next panics (writes (heapOf f area) (x .word) ((hooked h (x .word) && ltb 4294967295 n, refused 15) ∷ []) (next (refuses refl) end)))
       (gives {g = stored area f x n h}))
 
   pub pointer-tellable : Tellable (answerOf m (LoadPointer f x))

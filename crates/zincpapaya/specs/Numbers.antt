@@ -9,6 +9,7 @@ use Rattle.page_ids.specs.Decode.{Page, none, page}
 use Rattle.fat_pointer.specs.declared.FatPointer.{FatPointer}
 use Rattle.state.specs.declared.Gas.{Gas}
 use Rattle.state.specs.declared.Step.{Step}
+use Rattle.state.specs.declared.quote.RunEnd.{RunEnd}
 use Rattle.zincpapaya.specs.Executing.{bit, grownNumbers}
 
 -- ---- what `out` means
@@ -44,6 +45,10 @@ pageNumbers p = kindOf p ∷ groupOf p ∷ []
 -- the gas that is left, and whether the amount was paid
 abbrev pub gasNumbers : Gas → List ℕ
 gasNumbers g = g .left ∷ bit (g .paid) ∷ []
+
+-- where a run ends: the gas spent, the bound reached, and the position of the access that panics, or the list's length
+abbrev pub endNumbers : RunEnd → List ℕ
+endNumbers end = end .spent ∷ end .bound ∷ end .position ∷ []
 
 -- THE CONTRACT of a growth that takes a frame to a step, has the status r and leaves frame' and out'
 pub record Grows (frame out : List ℕ) (step : Step) (r : ℕ) (frame' out' : List ℕ) : Type 0 where

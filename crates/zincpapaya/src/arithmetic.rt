@@ -8,13 +8,13 @@ ghost use Rattle.page_ids.specs.Arithmetic.{toldPage, toldBase, sum, difference
 ghost use Rattle.page_ids.specs.Decode.{pageOf, decoding};
 ghost use Rattle.page_ids.specs.Decode as decodes;
 ghost use Rattle.fat_pointer.specs.Pointer.{pointerOf, numberOf};
-ghost use Rattle.state.specs.Access.{used, accessed};
+ghost use Rattle.state.specs.Access.{used, frameGrown};
 ghost use Rattle.state.specs.Quote.{quoted};
 ghost use Rattle.state.specs.Quote as quotes;
 ghost use Rattle.zincpapaya.specs.Executing.{areaOf, frameOf};
 ghost use Rattle.zincpapaya.specs.Interface.{Gives};
 ghost use Rattle.opening.specs.Opening.{layoutFrom};
-ghost use Rattle.zincpapaya.specs.Numbers.{one, asTheyAre, pointerAt, pointer, kindOf, groupOf, pageNumbers, gasNumbers, Grows, alone, Tells};
+ghost use Rattle.zincpapaya.specs.Numbers.{one, asTheyAre, pointerAt, pointer, kindOf, groupOf, pageNumbers, gasNumbers, endNumbers, Grows, alone, Tells};
 use crate::frames;
 use fat_pointer::FatPointer;
 use page_ids::BaseAnswer;
@@ -43,6 +43,16 @@ fn put_two(out: &mut [u64], a: u32, b: u32) -> u32
 {
     out[0] = frames::wide(a);
     out[1] = frames::wide(b);
+    0
+}
+
+fn put_three(out: &mut [u64], a: u32, b: u32, c: u32) -> u32
+    requires { ⌜ length (now out) ≡ 3 ⌝ }
+    ensures { λ r. ⌜ (r ≡ 0) × (now (out .exit) ≡ a ∷ b ∷ c ∷ []) ⌝ }
+{
+    out[0] = frames::wide(a);
+    out[1] = frames::wide(b);
+    out[2] = frames::wide(c);
     0
 }
 
@@ -113,12 +123,12 @@ fn put_decoding(out: &mut [u64], decoding: Decoding) -> u32
 }
 
 fn put_quoted(out: &mut [u64], quoted: Quoted) -> u32
-    requires { ⌜ length (now out) ≡ 1 ⌝ }
-    ensures { λ r. ⌜ Tells alone (quotes.told quoted) (now (out .entry)) r (now (out .exit)) ⌝ }
+    requires { ⌜ length (now out) ≡ 3 ⌝ }
+    ensures { λ r. ⌜ Tells asTheyAre (mapped endNumbers (quotes.told quoted)) (now (out .entry)) r (now (out .exit)) ⌝ }
 {
     match quoted {
         Quoted::Refused(number) => number,
-        Quoted::Due(amount) => put_one(out, amount),
+        Quoted::Ended(end) => put_three(out, end.spent, end.bound, end.position),
     }
 }
 
@@ -291,7 +301,7 @@ pub extern "C" fn zp_use_gas(gas: u32, amount: u32, out: &mut [u64]) -> u32
 // The growth of one area is paid from the frame's gas, as instructions do it; `out` tells whether it was.
 #[no_mangle]
 pub extern "C" fn zp_grow_heap(frame: &mut [u32], aux: bool, new_bound: u32, out: &mut [u64]) -> u32
-    ensures { λ r. ⌜ Grows (now (frame .entry)) (now (out .entry)) (accessed (frameOf (now (frame .entry))) (areaOf aux) «new_bound») r (now (frame .exit)) (now (out .exit)) ⌝ }
+    ensures { λ r. ⌜ Grows (now (frame .entry)) (now (out .entry)) (frameGrown (frameOf (now (frame .entry))) (areaOf aux) «new_bound») r (now (frame .exit)) (now (out .exit)) ⌝ }
 {
     if frame.len() != 6 {
         return 102;
@@ -305,13 +315,13 @@ pub extern "C" fn zp_grow_heap(frame: &mut [u32], aux: bool, new_bound: u32, out
     put_one(out, frames::bit(step.paid))
 }
 
-// What a list of accesses to one area would pay.
+// What loads of one area at these addresses, one after another, spend of the gas, the bound that they reach, and where they end.
 #[no_mangle]
-pub extern "C" fn zp_quote(list: &[u32], bound: u32, out: &mut [u64]) -> u32
-    ensures { λ r. ⌜ Gives 1 (quoted (now (list .entry)) bound) one r (now (out .entry)) (now (out .exit)) ⌝ }
+pub extern "C" fn zp_quote(list: &[u32], gas: u32, bound: u32, out: &mut [u64]) -> u32
+    ensures { λ r. ⌜ Gives 3 (mapped endNumbers (quoted (now (list .entry)) gas bound)) asTheyAre r (now (out .entry)) (now (out .exit)) ⌝ }
 {
-    if out.len() != 1 {
+    if out.len() != 3 {
         return 102;
     }
-    put_quoted(out, state::quote::quote(list, bound))
+    put_quoted(out, state::quote::quote(list, gas, bound))
 }

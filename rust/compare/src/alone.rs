@@ -3,11 +3,11 @@
 use std::ops::Range;
 
 use oracle::{Area, Call, Frame, HeapInstruction, Layout};
-use zincpapaya::{quote, Capacity, Error, Heaps, Outcome, PageId, Usage, Word};
+use zincpapaya::{Capacity, Error, Heaps, PageId, Usage, Word};
 
 use crate::{
     list::Mismatch,
-    model::{self, Model, LAST_ADDRESS},
+    model::{self, Model},
     ours::{self, Reply, UNWRITTEN},
     rng::Rng,
 };
@@ -152,9 +152,8 @@ fn aux_hook(heaps: &Heaps, call: &Call, frame: &Frame) -> Result<(), Mismatch> {
     expect("what it wrote", other.buffers(), copy.buffers())
 }
 
-/// Refusals of openings and comparisons, and the quote: vm2 has none of them.
+/// Refusals of openings and comparisons: vm2 has none of them.
 pub fn extras(rng: &mut Rng, layout: &Layout, heaps: &Heaps) -> Result<(), Mismatch> {
-    quotes(rng, heaps)?;
     bad_openings(rng, layout)?;
     let mut copy = heaps.clone();
     let too_long = vec![1; 256 * heaps.capacity().chunks as usize + 1];
@@ -166,31 +165,6 @@ pub fn extras(rng: &mut Rng, layout: &Layout, heaps: &Heaps) -> Result<(), Misma
     other.base ^= 1 + rng.below32(7);
     let refused = copy.reopen(other, &[]).and_then(|()| heaps.equal(&copy));
     expect("a comparison of two layouts", Err(Error::Layout), refused)
-}
-
-/// A quote is what loads of its addresses pay.
-fn quotes(rng: &mut Rng, heaps: &Heaps) -> Result<(), Mismatch> {
-    let edges = [0, 31, 4064, 4065, 4096, LAST_ADDRESS - 1, LAST_ADDRESS, u32::MAX - 31, u32::MAX];
-    let many = rng.below(8);
-    let addresses: Vec<u32> = (0..many).map(|_| rng.pick(&edges)).collect();
-    let bound = rng.pick(&[0, 32, 4096, 4097, u32::MAX - 1, u32::MAX]);
-    let allowed: Vec<u32> = addresses.iter().copied().filter(|at| *at <= LAST_ADDRESS).collect();
-    let highest = allowed.iter().map(|address| address + 32).max().unwrap_or(0);
-    expect("a quote", Ok(highest.saturating_sub(bound)), quote(&addresses, bound))?;
-
-    let page = PageId(0);
-    let (gas, heap_bound, aux_bound) = (u32::MAX, bound, 0);
-    let mut frame =
-        zincpapaya::Frame { gas, heap: page, aux: page, heap_bound, aux_bound, panicked: false };
-    for address in allowed {
-        let loaded = heaps.load(&mut frame, zincpapaya::Area::Heap, address.into());
-        let running = matches!(loaded, Ok(Outcome::Running { .. }));
-        expect("a load of a quoted address", true, running)?;
-    }
-    expect("a quote beside its loads", quote(&addresses, bound), Ok(u32::MAX - frame.gas))?;
-    let long = vec![0; 4096 + rng.below(2) as usize];
-    let due = if long.len() > 4096 { Err(Error::Range) } else { Ok(32) };
-    expect("a quote of many addresses", due, quote(&long, 0))
 }
 
 /// Layouts and counts around their bounds.

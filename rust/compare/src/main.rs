@@ -10,6 +10,7 @@ mod model;
 mod options;
 mod ours;
 mod pair;
+mod quotes;
 mod rng;
 mod shrink;
 mod small;
@@ -22,13 +23,14 @@ mod written;
 use std::{process::ExitCode, thread, time::Instant};
 
 use oracle::{Bank, LAYOUTS};
-use zincpapaya::Capacity;
+use zincpapaya::{Capacity, Heaps};
 
 use crate::{
     generate::{Generator, Sort},
-    list::{Finding, List},
+    list::{Finding, List, Mismatch},
     options::Options,
     pair::Looks,
+    quotes::Quotes,
     rng::Rng,
     small::Alphabet,
     tally::Tally,
@@ -50,11 +52,6 @@ impl Shard {
     fn new(number: u64, options: Options) -> Self {
         let banks = LAYOUTS.map(|name| (name, oracle::bank(name).expect("a listed layout")));
         Self { number, options, banks: banks.into(), tally: Tally::default() }
-    }
-
-    fn bank(&mut self, layout: &str) -> &mut dyn Bank {
-        let found = self.banks.iter_mut().find(|(name, _)| *name == layout);
-        found.expect("a listed layout").1.as_mut()
     }
 
     /// Compares until this shard's part of the calls is done, or something differs.
@@ -81,8 +78,11 @@ impl Shard {
             let list = List { layout: name, capacities: [store::CAPACITY; 2], steps: Vec::new() };
             let mut steps = edges::edges(&bank.layout()).into_iter();
             let looks = Looks::AtTheEnd;
-            pair::run(bank.as_mut(), &mut self.tally, list, looks, |_| steps.next())
+            let heaps = pair::run(bank.as_mut(), &mut self.tally, list, looks, |_| steps.next())
                 .map_err(|finding| Box::new(shrink::shrink(bank.as_mut(), looks, *finding)))?;
+            Quotes::new(bank.as_mut(), &mut self.tally, &heaps)
+                .edges(&mut Rng::new(self.options.seed, 0))
+                .map_err(|mismatch| after_list(name, &heaps, mismatch))?;
         }
         Ok(())
     }
@@ -111,7 +111,7 @@ impl Shard {
         let mut generator = Generator::new(rng, bank.layout(), sort, capacities, calls);
         let next = |models: &_| generator.next(models);
         match pair::run(bank, &mut self.tally, list, looks, next) {
-            Ok(heaps) => self.extras(layout, extra_rng, &heaps),
+            Ok(heaps) => self.extras(layout, sort, extra_rng, &heaps),
             Err(finding) => {
                 let looks = if sort.is_dear() { looks } else { Looks::Always };
                 Err(Box::new(shrink::shrink(bank, looks, *finding)))
@@ -119,20 +119,25 @@ impl Shard {
         }
     }
 
-    /// What is looked at of the library alone, on the memories that a list has left.
+    /// What is looked at on the memories that a list has left: quotes, and then the library alone.
     fn extras(
         &mut self,
         layout: &'static str,
+        sort: Sort,
         rng: &mut Rng,
-        heaps: &[zincpapaya::Heaps],
+        heaps: &[Heaps],
     ) -> Result<(), Box<Finding>> {
-        let numbers = self.bank(layout).layout();
-        self.tally.count_alone("rounds of quotes, openings and layouts");
-        alone::extras(rng, &numbers, &heaps[0]).map_err(|mismatch| {
-            let capacities = [heaps[0].capacity(), heaps[1].capacity()];
-            let list = List { layout, capacities, steps: Vec::new() };
-            Box::new(Finding { list, mismatch })
-        })
+        let found = |mismatch| after_list(layout, heaps, mismatch);
+        let bank = self.banks.iter_mut().find(|(name, _)| *name == layout);
+        let bank = bank.expect("a listed layout").1.as_mut();
+        let numbers = bank.layout();
+        let mut quotes = Quotes::new(bank, &mut self.tally, heaps);
+        quotes.round(rng).map_err(found)?;
+        if !sort.is_dear() && rng.one_in(8) {
+            quotes.untouched(&heaps[0]).map_err(found)?;
+        }
+        self.tally.count_alone("rounds of openings and layouts");
+        alone::extras(rng, &numbers, &heaps[0]).map_err(found)
     }
 
     /// This shard's part of all short lists over an alphabet.
@@ -148,6 +153,14 @@ impl Shard {
         }
         Ok(())
     }
+}
+
+/// What differs on the memories that a list has left. It does not rest on what they hold, so no call
+/// of the list is told.
+fn after_list(layout: &'static str, heaps: &[Heaps], mismatch: Mismatch) -> Box<Finding> {
+    let capacities = [heaps[0].capacity(), heaps[1].capacity()];
+    let list = List { layout, capacities, steps: Vec::new() };
+    Box::new(Finding { list, mismatch })
 }
 
 /// Counts for a memory of the library: so small that most lists meet them, or larger.

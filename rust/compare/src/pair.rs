@@ -217,7 +217,7 @@ fn shown(reply: &Reply) -> String {
 
 /// Compares every held chunk, every allocated page and both journals with vm2's state. Gives the
 /// numbers of chunks and of journalled words, or what vm2 has and what the library has.
-fn held_alike(
+pub fn held_alike(
     heaps: &Heaps,
     view: &View,
     layout: &oracle::Layout,

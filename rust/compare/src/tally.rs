@@ -5,6 +5,8 @@ use std::{collections::BTreeMap, fmt};
 use lines::spell;
 use oracle::{Answer, Call};
 
+use crate::model::LAST_ADDRESS;
+
 #[derive(Default)]
 pub struct Tally {
     /// Calls that both sides answered.
@@ -20,11 +22,32 @@ pub struct Tally {
     pub no_room: BTreeMap<u8, u64>,
     /// Checks of the library alone, by what they are about.
     pub alone: BTreeMap<&'static str, u64>,
+    pub quotes: Quotes,
     /// Looks at all that a memory holds, on both sides.
     pub looks: u64,
     /// Chunks compared byte by byte, and journalled words.
     pub chunks: u64,
     pub words: u64,
+}
+
+/// Quotes that were compared with vm2's loads.
+#[derive(Default)]
+pub struct Quotes {
+    all: u64,
+    /// Loads that both sides answered for them.
+    pub loads: u64,
+    /// Quotes that end at a panic, and those of them that end at an address above the operand limit.
+    panics: u64,
+    high: u64,
+}
+
+impl Quotes {
+    /// Counts a quote; `last` is the address whose access panics, if one does.
+    pub fn count(&mut self, last: Option<&u32>) {
+        self.all += 1;
+        self.panics += u64::from(last.is_some());
+        self.high += u64::from(last.is_some_and(|address| *address > LAST_ADDRESS));
+    }
 }
 
 impl Tally {
@@ -57,6 +80,10 @@ impl Tally {
         self.looks += other.looks;
         self.chunks += other.chunks;
         self.words += other.words;
+        self.quotes.all += other.quotes.all;
+        self.quotes.loads += other.quotes.loads;
+        self.quotes.panics += other.quotes.panics;
+        self.quotes.high += other.quotes.high;
         for (name, (all, carried_out)) in &other.names {
             let sum = self.names.entry(name).or_default();
             *sum = (sum.0 + all, sum.1 + carried_out);
@@ -97,6 +124,12 @@ impl fmt::Display for Tally {
         writeln!(out, "refused by both: {}", counts(&self.refusals))?;
         writeln!(out, "refused for want of room, not put to vm2: {}", counts(&self.no_room))?;
         writeln!(out, "library alone: {}", counts(&self.alone))?;
+        let Quotes { all, loads, panics, high } = self.quotes;
+        writeln!(
+            out,
+            "{all} quotes compared with {loads} loads: {panics} end at a panic, {high} of them at the \
+             operand limit"
+        )?;
         let Self { looks, chunks, words, .. } = self;
         writeln!(
             out,

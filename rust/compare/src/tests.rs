@@ -1,10 +1,17 @@
-//! That the comparison finds what is wrong: vm2's answers are tampered with on their way.
+//! That the comparison finds what is wrong: vm2's answers are tampered with on their way, or the
+//! library's quotes are.
 
 use oracle::{Answer, Bank, Call, Frame, Layout, Ran, RustPanic, View};
+use zincpapaya::{quote, Heaps, Quote};
 
 use crate::{
-    list::{Finding, Step},
+    list::{Finding, Mismatch, Step},
+    model::LAST_ADDRESS,
     options::Options,
+    ours,
+    quotes::{Asked, Quoter, Quotes},
+    rng::Rng,
+    store,
     tally::Tally,
     Shard,
 };
@@ -127,4 +134,91 @@ fn a_wrong_word_of_a_journal_is_found() {
     }
     let finding = find(Tampered { view: forget, ..Tampered::new() }).expect("old words are lost");
     assert!(steps(&finding).len() <= 2, "{:?}", finding.lines());
+}
+
+/// What `look` finds where these quotes stand in for the library's.
+fn find_quote(
+    mut bank: Tampered,
+    quote: Quoter,
+    look: impl FnOnce(&mut Quotes, &mut Rng) -> Result<(), Mismatch>,
+) -> Option<Mismatch> {
+    let layout = ours::layout(&bank.layout());
+    let heaps = Heaps::open(layout, store::CAPACITY, &[]).expect("a layout and its counts");
+    let (heaps, mut tally) = ([heaps.clone(), heaps], Tally::default());
+    let quotes = Quotes::new(&mut bank, &mut tally, &heaps);
+    look(&mut Quotes { quote, ..quotes }, &mut Rng::new(7, 0)).err()
+}
+
+/// Passes over addresses above the limit.
+const SKIPS: Quoter = |list, gas, bound| {
+    let low = list.iter().copied().filter(|address| *address <= LAST_ADDRESS);
+    quote(&low.collect::<Vec<_>>(), gas, bound)
+};
+
+const WRONG: [Quoter; 6] = [
+    SKIPS,
+    // What was paid before the panic, and not all the gas.
+    |list, gas, bound| {
+        let given = quote(list, gas, bound)?;
+        Ok(Quote { spent: quote(&list[..given.position], gas, bound)?.spent, ..given })
+    },
+    // The bound that the panicking access asks for.
+    |list, gas, bound| {
+        let given = quote(list, gas, bound)?;
+        let asked = list.get(given.position).map_or(0, |address| address.saturating_add(32));
+        Ok(Quote { bound: given.bound.max(asked), ..given })
+    },
+    // Positions from 1.
+    |list, gas, bound| {
+        let given = quote(list, gas, bound)?;
+        Ok(Quote { position: given.position + usize::from(given.panics), ..given })
+    },
+    // The order of the list is lost.
+    |list, gas, bound| {
+        let mut list = list.to_vec();
+        list.sort_unstable();
+        quote(&list, gas, bound)
+    },
+    // A panic wherever all the gas is spent.
+    |list, gas, bound| {
+        let given = quote(list, gas, bound)?;
+        Ok(Quote { panics: given.spent == gas, ..given })
+    },
+];
+
+#[test]
+fn a_wrong_quote_is_told_with_all_that_repeats_it() {
+    let asked = Asked { list: vec![0, u32::MAX], gas: 100, bound: 0 };
+    let found = find_quote(Tampered::new(), SKIPS, |quotes, rng| quotes.compare(rng, &asked));
+    let Mismatch { what, vm2, library } = found.expect("a high address is skipped");
+    let due = Quote { spent: 100, bound: 32, position: 1, panics: true };
+    assert_eq!(vm2, format!("Ok({due:?})"));
+    assert_eq!(library, format!("{:?}", quote(&[0], 100, 0)));
+    for part in ["list: [0, 4294967295], gas: 100, bound: 0", "area: Heap", "heap_bound: 0"] {
+        assert!(what.contains(part), "{part} is not in {what}");
+    }
+}
+
+#[test]
+fn every_wrong_quote_is_found_among_those_that_are_drawn() {
+    let drawn = |quotes: &mut Quotes, rng: &mut Rng| (0..20).try_for_each(|_| quotes.round(rng));
+    let found = find_quote(Tampered::new(), quote, drawn);
+    assert!(found.is_none(), "{found:?}");
+    for (at, wrong) in WRONG.into_iter().enumerate() {
+        let found = find_quote(Tampered::new(), wrong, drawn);
+        assert!(found.is_some(), "the wrong quote {at} is not found");
+    }
+}
+
+#[test]
+fn a_wrong_load_of_a_quote_is_found() {
+    let answer = |_: &Call, answer| match answer {
+        Answer::EraPanic(frame) => Answer::EraPanic(Frame { aux_bound: 77, ..frame }),
+        answer => answer,
+    };
+    let bank = Tampered { answer, ..Tampered::new() };
+    let asked = Asked { list: vec![0, 32], gas: 32, bound: 0 };
+    let found = find_quote(bank, quote, |quotes, rng| quotes.compare(rng, &asked));
+    let what = found.expect("a panic sets a bound").what;
+    assert!(what.starts_with("the load at position 1 of Loads"), "{what}");
 }

@@ -139,7 +139,7 @@ declare! {
         out: *mut u64, out_len: usize,
     );
     plain fn zp_quote(
-        list: *const u32, list_len: usize, bound: u32, out: *mut u64, out_len: usize,
+        list: *const u32, list_len: usize, gas: u32, bound: u32, out: *mut u64, out_len: usize,
     );
 }
 
@@ -506,7 +506,7 @@ pub(crate) fn grow_heap(
     }
 }
 
-pub(crate) fn quote(list: &[u32], bound: u32, out: &mut [u64; 1]) -> u32 {
+pub(crate) fn quote(list: &[u32], gas: u32, bound: u32, out: &mut [u64; 3]) -> u32 {
     // SAFETY: `list` is only read, and `out` is borrowed by `&mut`.
-    unsafe { zp_quote(list.as_ptr(), list.len(), bound, out.as_mut_ptr(), out.len()) }
+    unsafe { zp_quote(list.as_ptr(), list.len(), gas, bound, out.as_mut_ptr(), out.len()) }
 }

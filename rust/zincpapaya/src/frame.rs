@@ -99,16 +99,62 @@ pub fn use_gas(gas: u32, amount: u32) -> (u32, bool) {
     (out[0] as u32, out[1] != 0)
 }
 
-/// The gas that growth will cost if these addresses are loaded from or stored to, in any order,
-/// in an area of this bound. Addresses at which every access panics are skipped. Refused with
-/// [`Error::Range`] where there are more than 4,096 addresses.
+/// What a list of accesses costs, and where it ends; see [`quote`].
+#[derive(Debug, Clone, Copy, PartialEq, Eq, Hash)]
+pub struct Quote {
+    /// The gas that is spent: where an access panics, all that was given.
+    pub spent: u32,
+    /// The bound that is reached: the last one that was paid for.
+    pub bound: u32,
+    /// The position, counted from 0, of the access that panics; where none does, the number of
+    /// addresses.
+    pub position: usize,
+    /// Whether the access at [`position`](Self::position) panics; else all accesses go through.
+    /// The gas does not tell: accesses that go through may spend all of it; and with gas 0, an
+    /// access that panics spends 0 and keeps the bound.
+    pub panics: bool,
+}
+
+/// What loads or stores at these addresses of one area cost if they run in this order. The first
+/// access is given `gas` and `bound`, each later one the gas and the bound that the one before it
+/// left; each pays for its growth. The quote ends at the first access that panics: its address is
+/// above 4,294,967,263, or its growth costs more than the gas that is left. That access takes all
+/// the gas and keeps the bound, and the addresses after it are not looked at.
+///
+/// A quote that ends at a panic is `Ok` too, and [`Quote::panics`] tells it. Refused with
+/// [`Error::Range`] where there are more than 4,096 addresses, before any of them is looked at.
+///
+/// A quote knows no memory: it says what stores pay, but not whether there is room for them.
 ///
 /// ```
-/// assert_eq!(zincpapaya::quote(&[0, 4065, 64], 4096), Ok(1));
-/// assert_eq!(zincpapaya::quote(&[4064], 4096), Ok(0));
+/// use zincpapaya::{quote, Quote};
+///
+/// # fn main() -> Result<(), zincpapaya::Error> {
+/// // From the bound 4096 on, these pay 0, 1, 0 and 5 gas.
+/// let addresses = [4064, 4065, 0, 4070];
+/// let quoted = quote(&addresses, 10, 4096)?;
+/// assert_eq!(quoted, Quote { spent: 6, bound: 4102, position: 4, panics: false });
+///
+/// // Of 5 gas, 4 are left for the last access: it panics and takes them.
+/// let quoted = quote(&addresses, 5, 4096)?;
+/// assert_eq!(quoted, Quote { spent: 5, bound: 4097, position: 3, panics: true });
+/// assert_eq!(addresses[quoted.position], 4070);
+///
+/// // An address above the limit takes all the gas.
+/// let quoted = quote(&[0, u32::MAX, 32], 100, 0)?;
+/// assert_eq!(quoted, Quote { spent: 100, bound: 32, position: 1, panics: true });
+///
+/// // With gas 0 a panic spends nothing, and is a panic all the same.
+/// let quoted = quote(&[4065], 0, 4096)?;
+/// assert_eq!(quoted, Quote { spent: 0, bound: 4096, position: 0, panics: true });
+/// # Ok(())
+/// # }
 /// ```
-pub fn quote(addresses: &[u32], bound: u32) -> Result<u32, Error> {
-    let mut out = [0];
-    carried_out(ffi::quote(addresses, bound, &mut out))?;
-    Ok(out[0] as u32)
+pub fn quote(addresses: &[u32], gas: u32, bound: u32) -> Result<Quote, Error> {
+    let mut out = [0; 3];
+    carried_out(ffi::quote(addresses, gas, bound, &mut out))?;
+    let [spent, bound, position] = out;
+    let position = position as usize;
+    let panics = position < addresses.len();
+    Ok(Quote { spent: spent as u32, bound: bound as u32, position, panics })
 }

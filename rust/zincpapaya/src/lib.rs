@@ -56,7 +56,7 @@ mod tests;
 mod word;
 
 pub use error::Error;
-pub use frame::{quote, use_gas, Area, Frame};
+pub use frame::{quote, use_gas, Area, Frame, Quote};
 pub use heaps::{Heaps, Snapshot};
 pub use instructions::{Operand, Outcome};
 pub use memory::{Buffers, Capacity, Usage};

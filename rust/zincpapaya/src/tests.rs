@@ -1,7 +1,10 @@
 //! What the public interface does not show: outputs and frames of refused calls as the library
-//! leaves them, and memories that are not well formed.
+//! leaves them, and memories that are not well formed. And edges of openings and quotes.
 
-use crate::{ffi, memory::Memory, Capacity, Error, Frame, Heaps, Layout, PageId, Snapshot, Word};
+use crate::{
+    ffi, memory::Memory, quote, Area, Capacity, Error, Frame, Heaps, Layout, Outcome, PageId,
+    Quote, Snapshot, Word,
+};
 
 const LAYOUT: Layout = Layout {
     static_memory: PageId(1),
@@ -156,7 +159,80 @@ fn outputs_of_refused_calls_are_as_they_were() {
     assert_eq!(put(|out| ffi::base_page_from_heap(1, out)), 4);
     assert_eq!(put(|out| ffi::next_page_group(u32::MAX, 1, out)), 4);
     assert_eq!(put(|out| ffi::decode([1, 1, 5, 6, 64, 8], 66, out)), 1);
-    assert_eq!(put(|out| ffi::quote(&[0; 4097], 0, out)), 8);
+    assert_eq!(put(|out| ffi::quote(&[0; 4097], 0, 0, out)), 8);
+}
+
+/// Addresses, gas and bound; then the gas spent, the bound reached and the position.
+type Quoted = (&'static [u32], u32, u32, (u32, u32, usize));
+
+const LAST_ADDRESS: u32 = 4_294_967_263;
+const FOUR: &[u32] = &[4064, 4065, 0, 4070];
+
+const QUOTED: [Quoted; 16] = [
+    // These pay 0, 1, 0 and 5.
+    (FOUR, 10, 4096, (6, 4102, 4)),
+    (FOUR, 6, 4096, (6, 4102, 4)),
+    (FOUR, 5, 4096, (5, 4097, 3)),
+    (&[4064], 0, 4096, (0, 4096, 1)),
+    (&[4065], 0, 4096, (0, 4096, 0)),
+    (&[], 7, 4096, (0, 4096, 0)),
+    (&[0, 4065, 64], 9, 4096, (1, 4097, 3)),
+    // The operand limit.
+    (&[LAST_ADDRESS], u32::MAX, 0, (u32::MAX, u32::MAX, 1)),
+    (&[LAST_ADDRESS + 1], 7, 0, (7, 0, 0)),
+    (&[0, u32::MAX], 100, 0, (100, 32, 1)),
+    // The bootloader has paid for all.
+    (&[LAST_ADDRESS], 7, u32::MAX, (0, u32::MAX, 1)),
+    (&[LAST_ADDRESS + 1], 7, u32::MAX, (7, u32::MAX, 0)),
+    // The longest list.
+    (&[0; 4096], 32, 0, (32, 32, 4096)),
+    (&[0; 4096], 31, 0, (31, 0, 0)),
+    // The order counts.
+    (&[32, 0], 40, 0, (40, 0, 0)),
+    (&[0, 32], 40, 0, (40, 32, 1)),
+];
+
+/// What loads of these addresses come to, one after another, up to the first that panics.
+fn loaded(heaps: &Heaps, area: Area, addresses: &[u32], gas: u32, bound: u32) -> Quote {
+    let (heap_bound, aux_bound) = if area.is_aux() { (5, bound) } else { (bound, 5) };
+    let aux = PageId(67);
+    let mut frame = Frame { gas, heap: HEAP, aux, heap_bound, aux_bound, panicked: false };
+    let panic = addresses.iter().position(|address| {
+        heaps.load(&mut frame, area, (*address).into()).unwrap() == Outcome::Panicked
+    });
+    let (bound, other) = if area.is_aux() {
+        (frame.aux_bound, frame.heap_bound)
+    } else {
+        (frame.heap_bound, frame.aux_bound)
+    };
+    assert_eq!((frame.heap, frame.aux, other), (HEAP, aux, 5));
+    let position = panic.unwrap_or(addresses.len());
+    Quote { spent: gas - frame.gas, bound, position, panics: frame.panicked }
+}
+
+#[test]
+fn quotes_are_what_loads_come_to() {
+    let heaps = opened();
+    for (addresses, gas, bound, (spent, reached, position)) in QUOTED {
+        let panics = position < addresses.len();
+        let due = Quote { spent, bound: reached, position, panics };
+        let shown = &addresses[..addresses.len().min(4)];
+        let asked = format!("{shown:?} and so on, gas {gas}, bound {bound}");
+        assert_eq!(quote(addresses, gas, bound), Ok(due), "{asked}");
+        for area in [Area::Heap, Area::Aux] {
+            assert_eq!(loaded(&heaps, area, addresses, gas, bound), due, "{asked}, {area:?}");
+        }
+    }
+}
+
+#[test]
+fn quotes_of_more_than_4096_addresses_are_refused_before_any_is_looked_at() {
+    for (address, gas, bound) in [(0, u32::MAX, 0), (0, 0, 0), (u32::MAX, 0, u32::MAX)] {
+        assert!(quote(&[address; 4096], gas, bound).is_ok());
+        for length in [4097, 4098, 65_536, 65_537] {
+            assert_eq!(quote(&vec![address; length], gas, bound), Err(Error::Range));
+        }
+    }
 }
 
 #[test]

@@ -1,28 +1,20 @@
-use mathlib.Core.Path.{sym, ap}
+use mathlib.Core.Path.{refl, sym}
+use borrow.Author.Tests.{lt-ltb, le-ltb}
 use borrow.Author.Needs.{needs}
-use Rattle.state.specs.Access.{accessed}
-use Rattle.state.specs.declared.Area.{Area}
 use Rattle.state.proofs.access.Statement.{statement}
 use Rattle.state.proofs.access.Tie as tie
 
-enum-told : tie.Need-enum-told
-enum-told c = search needs
+returns : tie.Need-returns
+returns c = rw (lt-ltb 4294967263 _ (c .if1 .taken)) refl
+
+new-bound-requires : tie.Need-new-bound-requires
+new-bound-requires c κs = search needs
 
 grow-requires : tie.Need-grow-requires
 grow-requires c κs = search needs
 
-returns : tie.Need-returns
-returns c = let start = c .before .before .before in rw (c .grow .ensures) (sym (ap (λ (area : Area). accessed (start .args .frame) area (start .args .new)) (c .before .enum-told .given .1)))
-
-enum-told-2 : tie.Need-enum-told-2
-enum-told-2 c = search needs
-
-grow-requires-2 : tie.Need-grow-requires-2
-grow-requires-2 c κs = search needs
-
 returns-2 : tie.Need-returns-2
-returns-2 c = let start = c .before .before .before in rw (c .grow2 .ensures) (sym (ap (λ (area : Area). accessed (start .args .frame) area (start .args .new)) (c .before .enum-told2 .given .1)))
+returns-2 c = rw (le-ltb _ _ (c .before .before .if1 .left), sym (c .before .new-bound .ensures)) (c .grow .ensures)
 
 pub access-spec : {M : Type 1} → statement M
-access-spec =
-    tie.close (tie.spec enum-told grow-requires returns enum-told-2 grow-requires-2 returns-2)
+access-spec = tie.close (tie.spec returns new-bound-requires grow-requires returns-2)

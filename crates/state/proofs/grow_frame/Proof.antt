@@ -42,7 +42,7 @@ use denote.Triple.Clauses.{ensured, lasts}
 use denote.Triple.Table.{entered, cited}
 use denote.Triple.Walked.{says, Stays, stay-none, walkOf, goes-none, Walks, ends-at, walked, walk-meets}
 use denote.Exit.{yes}
-use Rattle.state.specs.Access.{accessed}
+use Rattle.state.specs.Access.{frameGrown}
 use Rattle.state.specs.declared.Frame.{Frame}
 use Rattle.state.specs.declared.Step.{Step}
 use Rattle.state.specs.declared.Area.{Area}
@@ -109,7 +109,7 @@ module _ {M : Type 1} (𝓤 : URA M) (H : Heap 𝓤) (A : Atoms 𝓤) (W : Given
 
   -- what `grow_heap` leaves: the last frame, and whether it was paid
   abbrev Told : Frame → Bool → Type 0
-  Told f p = (f ≡ accessed h a n .frame) × (p ≡ accessed h a n .paid)
+  Told f p = (f ≡ frameGrown h a n .frame) × (p ≡ frameGrown h a n .paid)
 
   step-is : (f : Frame) (p : Bool) → Is T.the-row f (frameVal f ∷ []) → Is S.the-row (record { frame = f; paid = p }) (stepVal (record { frame = f; paid = p }) ∷ [])
   step-is f p is = LL.owes S.the-type S′.the-laws (record { frame = f; paid = p }) (is, (refl, tt))

@@ -21,18 +21,18 @@ low-u32-requires c κs = search needs
 new-bound-requires : tie.Need-new-bound-requires
 new-bound-requires c κs = search needs
 
-access-requires : tie.Need-access-requires
-access-requires c κs = search needs
+growth-step-requires : tie.Need-growth-step-requires
+growth-step-requires c κs = search needs
 
 returns-2 : tie.Need-returns-2
 returns-2 c =
-    let at-access = c in
-    let at-new-bound = at-access .before in
+    let at-growth-step = c in
+    let at-new-bound = at-growth-step .before in
     let at-low-u32 = at-new-bound .before in
     let at-if1 = at-low-u32 .before in
     let at-bigger-than-last-address = at-if1 .before in
     let start = at-bigger-than-last-address .before in
-    reach-near (start .args .frame) (start .args .area) (value (start .args .operand .limbs)) (sym (at-bigger-than-last-address .bigger-than-last-address .ensures) ∙ at-if1 .if1 .left) (at-low-u32 .low-u32 .result) (at-new-bound .new-bound .result) (at-low-u32 .low-u32 .ensures) (at-new-bound .new-bound .ensures) (at-access .access .result) (at-access .access .ensures)
+    reach-near (start .args .frame) (start .args .area) (value (start .args .operand .limbs)) (sym (at-bigger-than-last-address .bigger-than-last-address .ensures) ∙ at-if1 .if1 .left) (at-low-u32 .low-u32 .result) (at-new-bound .new-bound .result) (at-low-u32 .low-u32 .ensures) (at-new-bound .new-bound .ensures) (at-growth-step .growth-step .result) (at-growth-step .growth-step .ensures)
 
 pub reach-spec : {M : Type 1} → statement M
-reach-spec = tie.close (tie.spec bigger-than-last-address-requires returns low-u32-requires new-bound-requires access-requires returns-2)
+reach-spec = tie.close (tie.spec bigger-than-last-address-requires returns low-u32-requires new-bound-requires growth-step-requires returns-2)

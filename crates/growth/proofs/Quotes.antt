@@ -1,0 +1,129 @@
+-- A quote is what its loads pay.
+-- Assumes nothing.
+use mathlib.Core.Path.{_≡_, refl, sym, ap, _∙_}
+use mathlib.Core.Bool.{Bool, true, false, cond, not, false≢true}
+use mathlib.Core.List.{List, [], _∷_}
+use Prim.Native.Nat.{ℕ, suc, _+_, _≤_}
+use native.Mathlib.Omega.{arith}
+use lib.ListN.{length}
+use borrow.Author.Tests.{le-ltb}
+use Rattle.outcome.specs.Outcome.{Outcome, refused, panicked, done}
+use Rattle.state.specs.declared.Frame.{Frame}
+use Rattle.state.specs.declared.Growth.{Growth}
+use Rattle.state.specs.declared.quote.RunEnd.{RunEnd}
+use Rattle.state.specs.declared.Area.{Area}
+use Rattle.state.specs.declared.Area.the-variants.{Heap, Aux}
+use Rattle.state.specs.Access.{accessed, boundOf, frameAccessed}
+use Rattle.state.specs.Quote.{endOf, walked, quoted}
+use Rattle.state.proofs.Laws.{accessed-less}
+use Rattle.store.specs.Mem.{Mem}
+use Rattle.formed.specs.Formed.{wellFormed}
+use Rattle.view.specs.View.{viewOf}
+use Rattle.view.specs.Instructions.{Operand, Given, panic, loaded}
+use Rattle.view.specs.Calls.{Value, nothing, given, number, lengths, bytes, verdict, Load, answerOf}
+use Rattle.plain.specs.Claim.{Steps}
+use Rattle.growth.specs.Quotes.{Instructs, Loads, none, more, ends, QuoteOfLoads}
+
+-- ---- an access on a frame is one on its gas and its area's bound
+abbrev growthOf : Area → Frame → Bool → Growth
+growthOf area f paid = record { gas = f .gas; bound = boundOf f area; paid = paid }
+
+on-frame : (area : Area) (f : Frame) (x : ℕ) → accessed (f .gas) (boundOf f area) x ≡ growthOf area (frameAccessed f area x .frame) (frameAccessed f area x .paid)
+on-frame Heap f x = refl
+on-frame Aux f x = refl
+
+-- a panic's mark is neither
+marks-neither : (area : Area) (f : Frame) (b : Bool) → growthOf area (panic f .frame) b ≡ growthOf area f b
+marks-neither Heap f b = refl
+marks-neither Aux f b = refl
+
+-- ---- what a load tells
+abbrev isDone : Outcome Value → Bool
+isDone (refused n) = false
+isDone (panicked v) = false
+isDone (done v) = true
+
+abbrev isPanic : Outcome Value → Bool
+isPanic (refused n) = false
+isPanic (panicked v) = true
+isPanic (done v) = false
+
+-- the frame that it gives, f where it gives none
+abbrev frameIn : Frame → Value → Frame
+frameIn f (given r) = r .frame
+frameIn f nothing = f
+frameIn f (number n) = f
+frameIn f (lengths heap aux) = f
+frameIn f (bytes bs) = f
+frameIn f (verdict b) = f
+
+abbrev frameOf : Frame → Outcome Value → Frame
+frameOf f (refused n) = f
+frameOf f (panicked v) = frameIn f v
+frameOf f (done v) = frameIn f v
+
+module _ (m : Mem) (area : Area) (f : Frame) (x : Operand) (r : Given) where
+  abbrev after : Frame
+  after = frameAccessed f area (x .word) .frame
+
+  -- by whether the memory is well formed, and whether the access is paid
+  abbrev answer : Bool → Bool → Outcome Value
+  answer b p = cond (not b) (refused 3) (cond (not p) (panicked (given (panic after))) (done (given (loaded (viewOf m) area f x))))
+
+  carried-out : done (given r) ≡ answerOf m (Load area f x) → growthOf area (r .frame) true ≡ accessed (f .gas) (boundOf f area) (x .word)
+  carried-out = go (wellFormed m) (frameAccessed f area (x .word) .paid) refl
+    where
+      go : (b p : Bool) → frameAccessed f area (x .word) .paid ≡ p → done (given r) ≡ answer b p → growthOf area (r .frame) true ≡ accessed (f .gas) (boundOf f area) (x .word)
+      go false p q e = absurd (false≢true (sym (ap isDone e)))
+      go true false q e = absurd (false≢true (sym (ap isDone e)))
+      go true true q e =
+          ap (λ (o : Outcome Value). growthOf area (frameOf f o) true) e
+          ∙ ap (growthOf area after) (sym q) ∙ sym (on-frame area f (x .word))
+
+  panics : panicked (given r) ≡ answerOf m (Load area f x) → growthOf area (r .frame) false ≡ accessed (f .gas) (boundOf f area) (x .word)
+  panics = go (wellFormed m) (frameAccessed f area (x .word) .paid) refl
+    where
+      go : (b p : Bool) → frameAccessed f area (x .word) .paid ≡ p → panicked (given r) ≡ answer b p → growthOf area (r .frame) false ≡ accessed (f .gas) (boundOf f area) (x .word)
+      go false p q e = absurd (false≢true (sym (ap isPanic e)))
+      go true false q e =
+          ap (λ (o : Outcome Value). growthOf area (frameOf f o) false) e
+          ∙ marks-neither area after false ∙ ap (growthOf area after) (sym q) ∙ sym (on-frame area f (x .word))
+      go true true q e = absurd (false≢true (sym (ap isPanic e)))
+
+-- ---- the run
+-- from an access on, by what that access leaves
+abbrev from : (gas : ℕ) → List ℕ → ℕ → Growth → RunEnd
+from gas list at g = cond (g .paid) (walked gas list (g .gas) (g .bound) (suc at)) (endOf gas (g .gas) (g .bound) at)
+
+module _ (S : Steps) (I : Instructs S) {area : Area} where
+  pub falls : {f g : Frame} {list : List ℕ} {n : ℕ} → Loads S area f list n g → g .gas ≤ f .gas
+  falls none = omega arith
+  falls {f} (more {m} {x = x} {r = r} s rest) =
+      let one = accessed-less (f .gas) (boundOf f area) (x .word) (f .gas) (omega arith) (carried-out m area f x r (I .loads s .answer)) in
+      let others = falls rest in
+      omega (arith, one, others)
+  falls {f} (ends {m} {x = x} {r = r} s) =
+      let one = accessed-less (f .gas) (boundOf f area) (x .word) (f .gas) (omega arith) (panics m area f x r (I .loads s .answer)) in
+      omega (arith, one)
+
+  module _ (gas : ℕ) where
+    walks : {f g : Frame} {list : List ℕ} {n : ℕ} → Loads S area f list n g → (at : ℕ)
+        → walked gas list (f .gas) (boundOf f area) at ≡ endOf gas (g .gas) (boundOf g area) (at + n)
+    unfolding walked
+    walks {f} none at = let e : at ≡ at + 0 = omega arith in ap (endOf gas (f .gas) (boundOf f area)) e
+    walks {f} {g} (more {m} {x = x} {r = r} {list = list} {n = n} s rest) at =
+        let e : suc at + n ≡ at + suc n = omega arith in
+        ap (from gas list at) (sym (carried-out m area f x r (I .loads s .answer))) ∙ walks rest (suc at) ∙ ap (endOf gas (g .gas) (boundOf g area)) e
+    walks {f} {g} (ends {m} {x = x} {r = r} {list = list} s) at =
+        let e : at ≡ at + 0 = omega arith in
+        let stops : walked gas (x .word ∷ list) (f .gas) (boundOf f area) at ≡ endOf gas (g .gas) (boundOf g area) at = ap (from gas list at) (sym (panics m area f x r (I .loads s .answer))) in
+        stops ∙ ap (endOf gas (g .gas) (boundOf g area)) e
+
+  equals : {f g : Frame} {list : List ℕ} {n : ℕ} → length list ≤ 4096 → Loads S area f list n g
+      → quoted list (f .gas) (boundOf f area) ≡ done (endOf (f .gas) (g .gas) (boundOf g area) n)
+  equals {f} {g} {list} {n} few l =
+      let e : 0 + n ≡ n = omega arith in
+      rw (le-ltb 4096 (length list) few) (ap (λ (end : RunEnd). done end) (walks (f .gas) l 0 ∙ ap (endOf (f .gas) (g .gas) (boundOf g area)) e))
+
+pub quote-of-loads : (S : Steps) → Instructs S → QuoteOfLoads S
+quote-of-loads S I = record { equals = λ {area = area} few l. equals S I {area = area} few l; falls = λ {area = area} l. falls S I {area = area} l }

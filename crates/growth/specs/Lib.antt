@@ -1,0 +1,2 @@
+-- Quotes: a quote is what its loads pay.
+pub mod Quotes

@@ -1,0 +1,35 @@
+-- A QUOTE IS WHAT ITS LOADS PAY, one after another, a panicking one included. As the claim about lists it is stated of any relation S:
+-- `S m c o m'` says that the call c, lent the buffers m, may have the outcome o and leave the buffers m' (plain/specs/Claim.antt).
+-- Assumes nothing.
+use mathlib.Core.Path.{_≡_}
+use mathlib.Core.List.{List, [], _∷_}
+use Prim.Native.Nat.{ℕ, suc, _≤_}
+use lib.ListN.{length}
+use Rattle.outcome.specs.Outcome.{Outcome, panicked, done}
+use Rattle.state.specs.declared.Frame.{Frame}
+use Rattle.state.specs.declared.Area.{Area}
+use Rattle.state.specs.Access.{boundOf}
+use Rattle.state.specs.Quote.{endOf, quoted}
+use Rattle.store.specs.Mem.{Mem}
+use Rattle.view.specs.Instructions.{Operand, Given}
+use Rattle.view.specs.Calls.{Value, Load, given, CallDoes}
+use Rattle.plain.specs.Claim.{Steps}
+
+-- what is known of S: a load meets its contract on any buffers, well formed or not
+pub record Instructs (S : Steps) : Type 0 where
+  pub loads : {m m' : Mem} {area : Area} {f : Frame} {x : Operand} {o : Outcome Value} → S m (Load area f x) o m' → CallDoes m (Load area f x) o m'
+
+-- Loads of one area at the addresses of a list, one after another, up to the first that panics: each is given the frame that the last one left, and any
+-- memory. The first frame is f and the last one g; n loads were carried out, so n is the position of the one that panicked, or the list's length
+pub data Loads (S : Steps) (area : Area) : (f : Frame) (list : List ℕ) (n : ℕ) (g : Frame) → Type 0 where
+  none : {f : Frame} → Loads S area f [] 0 f
+  more : {m m' : Mem} {f g : Frame} {x : Operand} {r : Given} {list : List ℕ} {n : ℕ}
+      → S m (Load area f x) (done (given r)) m' → Loads S area (r .frame) list n g → Loads S area f (x .word ∷ list) (suc n) g
+  ends : {m m' : Mem} {f : Frame} {x : Operand} {r : Given} {list : List ℕ} → S m (Load area f x) (panicked (given r)) m' → Loads S area f (x .word ∷ list) 0 (r .frame)
+
+pub record QuoteOfLoads (S : Steps) : Type 0 where
+  -- of a list of at most 4,096 addresses, with a frame's gas and its area's bound: the gas that the loads spend, the bound that they reach, and where they end
+  pub equals : {area : Area} {f g : Frame} {list : List ℕ} {n : ℕ} → length list ≤ 4096 → Loads S area f list n g
+      → quoted list (f .gas) (boundOf f area) ≡ done (endOf (f .gas) (g .gas) (boundOf g area) n)
+  -- what is spent is a difference that never stops at 0
+  pub falls : {area : Area} {f g : Frame} {list : List ℕ} {n : ℕ} → Loads S area f list n g → g .gas ≤ f .gas

@@ -1,0 +1,62 @@
+-- A QUOTE IS WHAT ITS LOADS PAY, of the code's own `quote` and `load`: both meet their contracts, and these make them equal. No hypothesis is left.
+-- Assumes nothing.
+use mathlib.Core.Path.{_≡_}
+use mathlib.Core.Bool.{true}
+use mathlib.Core.List.{List}
+use Prim.Native.Nat.{ℕ, _≤_}
+use lib.ListN.{length}
+use denote.Ref.{now}
+use Rattle.outcome.specs.Outcome.{done}
+use Rattle.state.specs.declared.Frame.{Frame}
+use Rattle.state.specs.declared.Area.{Area}
+use Rattle.state.specs.Access.{boundOf}
+use Rattle.state.specs.Quote.{endOf, told}
+use Rattle.state.proofs.quote.quote.Kinds as quote-kinds
+use Rattle.state.proofs.quote.quote.Reads as quote-reads
+use Rattle.state.proofs.quote.quote.Statement as quote-says
+use Rattle.instructions.proofs.load.Statement as load-says
+use Rattle.store.specs.Mem.{Mem}
+use Rattle.formed.specs.Formed.{wellFormed}
+use Rattle.growth.specs.Quotes.{Loads}
+use Rattle.lists.specs.Steps.{Went, Step}
+
+-- a call of `quote`, as its contract tells it: its list, gas and bound
+abbrev pub Quote : Type 0
+Quote = Went quote-kinds.ps quote-kinds.r quote-reads.Asked quote-reads.Learnt
+
+abbrev pub listOf : Quote → List ℕ
+listOf q = now (q .args .0)
+
+abbrev pub gasOf : Quote → ℕ
+gasOf q = q .args .1 .0
+
+abbrev pub firstBound : Quote → ℕ
+firstBound q = q .args .1 .1 .0
+
+-- there are loads of a list from the frame f
+pub record Loaded (area : Area) (f : Frame) (list : List ℕ) : Type 0 where
+  pub position : ℕ
+  pub last : Frame
+  pub loads : Loads Step area f list position last
+
+-- there is a quote of a list
+pub record Asked (list : List ℕ) (gas bound : ℕ) : Type 0 where
+  pub quote : Quote
+  pub list-is : listOf quote ≡ list
+  pub gas-is : gasOf quote ≡ gas
+  pub bound-is : firstBound quote ≡ bound
+
+pub record Charged : Type 2 where
+  pub quote : {M : Type 1} → quote-says.statement M
+  pub load : {M : Type 1} → load-says.statement M
+  -- a quote of at most 4,096 addresses, with the gas and the area's bound of the frame f, tells what loads of them from f on spend, reach, and where they end
+  pub equals : (q : Quote) → length (listOf q) ≤ 4096 → {area : Area} {f g : Frame} {n : ℕ} → gasOf q ≡ f .gas → firstBound q ≡ boundOf f area
+      → Loads Step area f (listOf q) n g → told (q .result) ≡ done (endOf (f .gas) (g .gas) (boundOf g area) n)
+  -- what is spent is a difference that never stops at 0
+  pub falls : {area : Area} {f g : Frame} {list : List ℕ} {n : ℕ} → Loads Step area f list n g → g .gas ≤ f .gas
+  -- there are such loads, of every area, frame and list, on every well-formed memory
+  pub loaded : (m : Mem) → wellFormed m ≡ true → (area : Area) (f : Frame) (list : List ℕ) → Loaded area f list
+  -- there is such a memory
+  pub formed : (m : Mem) × (wellFormed m ≡ true)
+  -- there are such quotes
+  pub asked : (list : List ℕ) (gas bound : ℕ) → Asked list gas bound

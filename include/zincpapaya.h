@@ -204,14 +204,15 @@ uint32_t zp_use_gas(uint32_t gas, uint32_t amount, uint64_t *out, size_t out_len
 /* out: 1 number, whether the growth was paid; frame: its gas and that bound may change. Never refused */
 uint32_t zp_grow_heap(uint32_t *frame, size_t frame_len, bool aux, uint32_t new_bound, uint64_t *out,
                       size_t out_len);
-/* What loads or stores at these addresses of one area cost if they run in this order. The first access is given `gas`
- * and `bound`, each later one the gas and the bound that the one before it left; each pays for its growth. The quote ends
- * at the first access that panics: its address is above 4,294,967,263, or its growth costs more than the gas that is
- * left. That access takes all the gas and keeps the bound, and the addresses after it are not looked at.
- * out: 3 numbers: the gas spent; the bound reached; the position, counted from 0, of the access that panics, or list_len
- * where none does. A quote that ends at a panic returns 0 too, and only out[2] tells it: all accesses go through where
- * out[2] is list_len. The gas does not tell: accesses that go through may spend all of it; and with gas 0, an access that
- * panics spends 0 and keeps the bound.
+/* What loads at these addresses of one area cost if they run in this order. The first load is given `gas` and `bound`,
+ * each later one the gas and the bound that the one before it left; each pays for its growth. The quote ends at the first
+ * load that panics: its address is above 4,294,967,263, or its growth costs more than the gas that is left. That load takes
+ * all the gas and keeps the bound, and the addresses after it are not looked at.
+ * out: 3 numbers: the gas spent; the bound reached; the position, counted from 0, of the load that panics, or list_len
+ * where none does. A quote that ends at a panic returns 0 too, and only out[2] tells it: all loads go through where out[2]
+ * is list_len. The gas does not tell: loads that go through may spend all of it; and with gas 0, a load that panics spends
+ * 0 and keeps the bound.
+ * A store pays what a load pays, unless it is refused; a quote knows no memory, and so no refusals.
  * ZP_RANGE above 4,096 addresses, before any of them is looked at */
 uint32_t zp_quote(const uint32_t *list, size_t list_len, uint32_t gas, uint32_t bound, uint64_t *out,
                   size_t out_len);

@@ -2,8 +2,8 @@
 -- Assumes nothing.
 use mathlib.Core.Path.{_≡_, refl, sym, ap, _∙_}
 use mathlib.Core.Bool.{Bool, true, false, cond, not, false≢true}
-use mathlib.Core.List.{List, [], _∷_}
-use Prim.Native.Nat.{ℕ, suc, _+_, _≤_}
+use mathlib.Core.List.{List, _∷_}
+use Prim.Native.Nat.{ℕ, suc, _+_, _≤_, _<_}
 use native.Mathlib.Omega.{arith}
 use lib.ListN.{length}
 use borrow.Author.Tests.{le-ltb}
@@ -15,14 +15,14 @@ use Rattle.state.specs.declared.Area.{Area}
 use Rattle.state.specs.declared.Area.the-variants.{Heap, Aux}
 use Rattle.state.specs.Access.{accessed, boundOf, frameAccessed}
 use Rattle.state.specs.Quote.{endOf, walked, quoted}
-use Rattle.state.proofs.Laws.{accessed-less}
+use Rattle.state.proofs.Laws.{accessed-less, accessed-short}
 use Rattle.store.specs.Mem.{Mem}
 use Rattle.formed.specs.Formed.{wellFormed}
 use Rattle.view.specs.View.{viewOf}
 use Rattle.view.specs.Instructions.{Operand, Given, panic, loaded}
 use Rattle.view.specs.Calls.{Value, nothing, given, number, lengths, bytes, verdict, Load, answerOf}
 use Rattle.plain.specs.Claim.{Steps}
-use Rattle.growth.specs.Quotes.{Instructs, Loads, none, more, ends, QuoteOfLoads}
+use Rattle.growth.specs.Quotes.{LoadsMeet, Loads, none, more, ends, QuoteOfLoads}
 
 -- ---- an access on a frame is one on its gas and its area's bound
 abbrev growthOf : Area → Frame → Bool → Growth
@@ -95,8 +95,8 @@ module _ (m : Mem) (area : Area) (f : Frame) (x : Operand) (r : Given) where
 abbrev from : (gas : ℕ) → List ℕ → ℕ → Growth → RunEnd
 from gas list at g = cond (g .paid) (walked gas list (g .gas) (g .bound) (suc at)) (endOf gas (g .gas) (g .bound) at)
 
-module _ (S : Steps) (I : Instructs S) {area : Area} where
-  pub falls : {f g : Frame} {list : List ℕ} {n : ℕ} → Loads S area f list n g → g .gas ≤ f .gas
+module _ (S : Steps) (I : LoadsMeet S) {area : Area} where
+  falls : {f g : Frame} {list : List ℕ} {n : ℕ} → Loads S area f list n g → g .gas ≤ f .gas
   falls none = omega arith
   falls {f} (more {m} {x = x} {r = r} s rest) =
       let one = accessed-less (f .gas) (boundOf f area) (x .word) (f .gas) (omega arith) (carried-out m area f x r (I .loads s .answer)) in
@@ -105,6 +105,13 @@ module _ (S : Steps) (I : Instructs S) {area : Area} where
   falls {f} (ends {m} {x = x} {r = r} s) =
       let one = accessed-less (f .gas) (boundOf f area) (x .word) (f .gas) (omega arith) (panics m area f x r (I .loads s .answer)) in
       omega (arith, one)
+
+  empties : {f g : Frame} {list : List ℕ} {n : ℕ} → Loads S area f list n g → n < length list → g .gas ≡ 0
+  empties none l = absurd (omega arith)
+  empties (more s rest) l = empties rest (omega arith)
+  empties {f} (ends {m} {x = x} {r = r} s) l =
+      let e = panics m area f x r (I .loads s .answer) in
+      ap (λ (g : Growth). g .gas) (e ∙ accessed-short (f .gas) (boundOf f area) (x .word) (sym (ap (λ (g : Growth). g .paid) e)))
 
   module _ (gas : ℕ) where
     walks : {f g : Frame} {list : List ℕ} {n : ℕ} → Loads S area f list n g → (at : ℕ)
@@ -125,5 +132,5 @@ module _ (S : Steps) (I : Instructs S) {area : Area} where
       let e : 0 + n ≡ n = omega arith in
       rw (le-ltb 4096 (length list) few) (ap (λ (end : RunEnd). done end) (walks (f .gas) l 0 ∙ ap (endOf (f .gas) (g .gas) (boundOf g area)) e))
 
-pub quote-of-loads : (S : Steps) → Instructs S → QuoteOfLoads S
-quote-of-loads S I = record { equals = λ {area = area} few l. equals S I {area = area} few l; falls = λ {area = area} l. falls S I {area = area} l }
+pub quote-of-loads : (S : Steps) → LoadsMeet S → QuoteOfLoads S
+quote-of-loads S I = record { equals = λ {area = area} few l. equals S I {area = area} few l; falls = λ {area = area} l. falls S I {area = area} l; empties = λ {area = area} l k. empties S I {area = area} l k }

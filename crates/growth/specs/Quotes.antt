@@ -3,7 +3,7 @@
 -- Assumes nothing.
 use mathlib.Core.Path.{_≡_}
 use mathlib.Core.List.{List, [], _∷_}
-use Prim.Native.Nat.{ℕ, suc, _≤_}
+use Prim.Native.Nat.{ℕ, suc, _≤_, _<_}
 use lib.ListN.{length}
 use Rattle.outcome.specs.Outcome.{Outcome, panicked, done}
 use Rattle.state.specs.declared.Frame.{Frame}
@@ -16,7 +16,7 @@ use Rattle.view.specs.Calls.{Value, Load, given, CallDoes}
 use Rattle.plain.specs.Claim.{Steps}
 
 -- what is known of S: a load meets its contract on any buffers, well formed or not
-pub record Instructs (S : Steps) : Type 0 where
+pub record LoadsMeet (S : Steps) : Type 0 where
   pub loads : {m m' : Mem} {area : Area} {f : Frame} {x : Operand} {o : Outcome Value} → S m (Load area f x) o m' → CallDoes m (Load area f x) o m'
 
 -- Loads of one area at the addresses of a list, one after another, up to the first that panics: each is given the frame that the last one left, and any
@@ -31,5 +31,7 @@ pub record QuoteOfLoads (S : Steps) : Type 0 where
   -- of a list of at most 4,096 addresses, with a frame's gas and its area's bound: the gas that the loads spend, the bound that they reach, and where they end
   pub equals : {area : Area} {f g : Frame} {list : List ℕ} {n : ℕ} → length list ≤ 4096 → Loads S area f list n g
       → quoted list (f .gas) (boundOf f area) ≡ done (endOf (f .gas) (g .gas) (boundOf g area) n)
-  -- what is spent is a difference that never stops at 0
+  -- loads leave no more gas than they are given, so that what is spent is a true difference
   pub falls : {area : Area} {f g : Frame} {list : List ℕ} {n : ℕ} → Loads S area f list n g → g .gas ≤ f .gas
+  -- loads that end before the list does leave no gas: a panic spends all of it
+  pub empties : {area : Area} {f g : Frame} {list : List ℕ} {n : ℕ} → Loads S area f list n g → n < length list → g .gas ≡ 0

@@ -1,6 +1,6 @@
 -- What loads pay, of the steps that the code's contracts give.
 -- Assumes nothing.
-use mathlib.Core.Path.{_≡_, refl, sym, ap, _∙_, subst}
+use mathlib.Core.Path.{_≡_, refl, ap, _∙_, subst}
 use mathlib.Core.Bool.{Bool, true, false, cond, not}
 use mathlib.Core.List.{List, [], _∷_}
 use Prim.Native.Nat.{ℕ, suc, _≤_}
@@ -9,7 +9,6 @@ use lib.ListN.{length}
 use Rattle.outcome.specs.Outcome.{Outcome, refused, panicked, done}
 use Rattle.state.specs.declared.Frame.{Frame}
 use Rattle.state.specs.declared.Area.{Area}
-use Rattle.state.specs.declared.quote.RunEnd.{RunEnd}
 use Rattle.state.specs.declared.quote.Quoted.{Quoted}
 use Rattle.state.specs.declared.quote.Quoted.the-variants.{Refused, Ended}
 use Rattle.state.specs.Access.{boundOf, frameAccessed}
@@ -25,24 +24,27 @@ use Rattle.view.specs.Calls.{Value, Load, given, answerOf}
 use Rattle.plain.specs.Claim.{none}
 use Rattle.plain.proofs.Good.{never}
 use Rattle.growth.specs.Quotes as growth
-use Rattle.growth.specs.Quotes.{Instructs, Loads, more, ends}
+use Rattle.growth.specs.Quotes.{LoadsMeet, Loads, more, ends, QuoteOfLoads}
 use Rattle.growth.proofs.Quotes.{quote-of-loads}
 use Rattle.lists.specs.Steps.{Step}
-use Rattle.lists.specs.Charged.{Quote, listOf, gasOf, firstBound, Loaded, Asked, Charged}
-use Rattle.lists.proofs.Contracts.{does, contracts}
+use Rattle.lists.specs.Charged.{Quote, listOf, gasOf, firstBound, LoadsExist, QuoteExists, Charged}
+use Rattle.lists.proofs.Contracts.{does}
 use Rattle.lists.proofs.Inhabited.{ref}
 use Rattle.lists.proofs.Instructions.{can-load}
 use Rattle.lists.proofs.Next.{not-empty}
 use Rattle.lists.proofs.Theorem.{theorem}
 
-instructs : Instructs Step
-instructs = record { loads = λ s. does s .calls (λ t calldata e. never (cc)) (λ p k z e. absurd (never (cc))) }
+loads-meet : LoadsMeet Step
+loads-meet = record { loads = λ s. does s .calls (λ t calldata e. never (cc)) (λ p k z e. absurd (never (cc))) }
+
+defined : QuoteOfLoads Step
+defined = quote-of-loads Step loads-meet
 
 -- ---- the code's quote
 quote-equals : (q : Quote) → length (listOf q) ≤ 4096 → {area : Area} {f g : Frame} {n : ℕ} → gasOf q ≡ f .gas → firstBound q ≡ boundOf f area
     → Loads Step area f (listOf q) n g → told (q .result) ≡ done (endOf (f .gas) (g .gas) (boundOf g area) n)
 quote-equals q few {area} {f} {g} {n} d e l =
-    q .ensures ∙ (λ i. quoted (listOf q) (d i) (e i)) ∙ quote-of-loads Step instructs .equals {area = area} few l
+    q .ensures ∙ (λ i. quoted (listOf q) (d i) (e i)) ∙ defined .equals {area = area} few l
 
 -- ---- there are such loads
 abbrev at : ℕ → Operand
@@ -59,11 +61,11 @@ module _ (m : Mem) (w : wellFormed m ≡ true) (area : Area) where
   next : (f : Frame) (a : ℕ) {o : Outcome Value} → answerOf m (Load area f (at a)) ≡ o → Step m (Load area f (at a)) o m
   next f a e = subst (λ (o : Outcome Value). Step m (Load area f (at a)) o m) e (can-load area f (at a) m)
 
-  pub can-run : (f : Frame) (list : List ℕ) → Loaded area f list
+  pub can-run : (f : Frame) (list : List ℕ) → LoadsExist area f list
   can-run f [] = record { position = 0; last = f; loads = growth.none }
   can-run f (a ∷ list) = go (frameAccessed f area a .paid) (load-is f a) (can-run (frameAccessed f area a .frame) list)
     where
-      go : (p : Bool) → answerOf m (Load area f (at a)) ≡ answer f a p → Loaded area (frameAccessed f area a .frame) list → Loaded area f (a ∷ list)
+      go : (p : Bool) → answerOf m (Load area f (at a)) ≡ answer f a p → LoadsExist area (frameAccessed f area a .frame) list → LoadsExist area f (a ∷ list)
       go false e rest = record { position = 0; last = panic (frameAccessed f area a .frame) .frame; loads = ends {x = at a} (next f a e) }
       go true e rest = record { position = suc (rest .position); last = rest .last; loads = more {x = at a} (next f a e) (rest .loads) }
 
@@ -79,7 +81,7 @@ module _ (list : List ℕ) (gas bound : ℕ) where
   answering true = (Refused 8, refl)
   answering false = (Ended (walked gas list gas bound 0), refl)
 
-  quote-asked : Asked list gas bound
+  quote-asked : QuoteExists list gas bound
   quote-asked =
       let a = answering (ltb 4096 (length list)) in
       record {
@@ -102,8 +104,8 @@ pub charged : Charged
 charged = record {
   quote = λ {M}. quote-met.met {M = M};
   load = λ {M}. load-met.met {M = M};
+  defined = defined;
   equals = λ q few d e l. quote-equals q few d e l;
-  falls = λ {area = area} l. quote-of-loads Step instructs .falls {area = area} l;
   loaded = λ m w area f list. can-run m w area f list;
   formed = formed-one;
   asked = quote-asked;

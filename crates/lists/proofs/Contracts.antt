@@ -18,7 +18,7 @@ use Rattle.plain.specs.Claim.{Contracts}
 use Rattle.plain.proofs.Good.{never}
 use Rattle.lists.specs.Steps.{Step, lent, rest, did-open, did-read-word, did-read-partial, did-read-range, did-read-byte, did-dynamic-length, did-lookup, did-lookup-check, did-snapshot, did-write-word, did-write-bytes, did-allocate, did-allocate-with, did-free, did-window, did-truncate, did-compare-left, did-compare-right, did-compare-both, did-rollback, did-delete-history, did-load, did-store, did-load-pointer, did-load-static, did-store-static}
 
--- a lookup that is refused shows an empty part, so it meets the contract that is shared on a well-formed memory alone
+-- a refused lookup shows an empty part, so a lookup meets the shared contract only on a well-formed memory
 abbrev pub Shown : Mem → Call → Type 0
 Shown m c = (p k : ℕ) (z : List ℕ) → c ≡ Lookup p k z → wellFormed m ≡ true
 

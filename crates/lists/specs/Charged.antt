@@ -17,7 +17,7 @@ use Rattle.state.proofs.quote.quote.Statement as quote-says
 use Rattle.instructions.proofs.load.Statement as load-says
 use Rattle.store.specs.Mem.{Mem}
 use Rattle.formed.specs.Formed.{wellFormed}
-use Rattle.growth.specs.Quotes.{Loads}
+use Rattle.growth.specs.Quotes.{Loads, QuoteOfLoads}
 use Rattle.lists.specs.Steps.{Went, Step}
 
 -- a call of `quote`, as its contract tells it: its list, gas and bound
@@ -34,13 +34,13 @@ abbrev pub firstBound : Quote → ℕ
 firstBound q = q .args .1 .1 .0
 
 -- there are loads of a list from the frame f
-pub record Loaded (area : Area) (f : Frame) (list : List ℕ) : Type 0 where
+pub record LoadsExist (area : Area) (f : Frame) (list : List ℕ) : Type 0 where
   pub position : ℕ
   pub last : Frame
   pub loads : Loads Step area f list position last
 
--- there is a quote of a list
-pub record Asked (list : List ℕ) (gas bound : ℕ) : Type 0 where
+-- there is a quote of a list, with this gas and bound
+pub record QuoteExists (list : List ℕ) (gas bound : ℕ) : Type 0 where
   pub quote : Quote
   pub list-is : listOf quote ≡ list
   pub gas-is : gasOf quote ≡ gas
@@ -49,14 +49,15 @@ pub record Asked (list : List ℕ) (gas bound : ℕ) : Type 0 where
 pub record Charged : Type 2 where
   pub quote : {M : Type 1} → quote-says.statement M
   pub load : {M : Type 1} → load-says.statement M
-  -- a quote of at most 4,096 addresses, with the gas and the area's bound of the frame f, tells what loads of them from f on spend, reach, and where they end
+  -- the definition of a quote tells what loads spend, the bound that they reach, and where they end
+  pub defined : QuoteOfLoads Step
+  -- A call of the code's `quote` of at most 4,096 addresses, with the gas and the area's bound of f, answers what loads from f on spend, the bound that
+  -- they reach, and where they end
   pub equals : (q : Quote) → length (listOf q) ≤ 4096 → {area : Area} {f g : Frame} {n : ℕ} → gasOf q ≡ f .gas → firstBound q ≡ boundOf f area
       → Loads Step area f (listOf q) n g → told (q .result) ≡ done (endOf (f .gas) (g .gas) (boundOf g area) n)
-  -- what is spent is a difference that never stops at 0
-  pub falls : {area : Area} {f g : Frame} {list : List ℕ} {n : ℕ} → Loads Step area f list n g → g .gas ≤ f .gas
   -- there are such loads, of every area, frame and list, on every well-formed memory
-  pub loaded : (m : Mem) → wellFormed m ≡ true → (area : Area) (f : Frame) (list : List ℕ) → Loaded area f list
+  pub loaded : (m : Mem) → wellFormed m ≡ true → (area : Area) (f : Frame) (list : List ℕ) → LoadsExist area f list
   -- there is such a memory
   pub formed : (m : Mem) × (wellFormed m ≡ true)
   -- there are such quotes
-  pub asked : (list : List ℕ) (gas bound : ℕ) → Asked list gas bound
+  pub asked : (list : List ℕ) (gas bound : ℕ) → QuoteExists list gas bound

@@ -6,11 +6,12 @@ use state::Area;
 use state::Frame;
 use word::Word;
 
-// How loads ended: the gas left, the area's bound, and how many were carried out.
+// How loads ended: the gas left, the area's bound, how many were carried out, and whether one panicked.
 pub struct Ran {
     pub gas: u32,
     pub bound: u32,
     pub count: u64,
+    pub panicked: bool,
 }
 
 // A frame whose bound of the other area is 9.
@@ -46,6 +47,7 @@ fn ended(last: Frame, area: Area, count: u64) -> Ran {
         gas: last.gas,
         bound: bound,
         count: count,
+        panicked: last.panicked,
     }
 }
 

@@ -33,9 +33,9 @@ fn line(
     let quoted = state::quote::quote(list, gas, bound);
     report::told(quoted);
     let heap = loads::run(bytes, keys, order, words, list, gas, bound, Area::Heap);
-    report::loads(quoted, gas, b"; heap loads ", heap);
+    report::loads(quoted, list.len(), gas, b"; heap loads ", heap);
     let aux = loads::run(bytes, keys, order, words, list, gas, bound, Area::Aux);
-    report::loads(quoted, gas, b"; aux loads ", aux);
+    report::loads(quoted, list.len(), gas, b"; aux loads ", aux);
     io::write_all(1, b"\n");
 }
 

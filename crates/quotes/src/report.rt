@@ -49,8 +49,12 @@ pub fn told(quoted: Quoted) {
     }
 }
 
-// Whether loads that were given this gas ended as the quote says.
-fn same(end: RunEnd, gas: u32, ran: Ran) -> bool {
+// Whether loads of a list that were given this gas ended as the quote says, and panicked if they ended before the list.
+fn same(end: RunEnd, length: usize, gas: u32, ran: Ran) -> bool {
+    let early = ran.count < length as u64;
+    if early != ran.panicked {
+        return false;
+    }
     if end.spent as u64 + ran.gas as u64 != gas as u64 {
         return false;
     }
@@ -61,12 +65,12 @@ fn same(end: RunEnd, gas: u32, ran: Ran) -> bool {
 }
 
 // A refused quote has no loads beside it.
-pub fn loads(quoted: Quoted, gas: u32, area: &[u8], ran: Ran) {
+pub fn loads(quoted: Quoted, length: usize, gas: u32, area: &[u8], ran: Ran) {
     match quoted {
         Quoted::Refused(_) => {}
         Quoted::Ended(end) => {
             io::write_all(1, area);
-            if same(end, gas, ran) {
+            if same(end, length, gas, ran) {
                 io::write_all(1, b"the same");
             } else {
                 io::write_all(1, b"OTHERWISE: gas left ");

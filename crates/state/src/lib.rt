@@ -31,20 +31,20 @@ pub struct Gas {
     pub paid: bool,
 }
 
-// Gas and bound after an access, and whether it was paid.
+// Gas and bound after a growth or an access, and whether it was paid.
 pub struct Growth {
     pub gas: u32,
     pub bound: u32,
     pub paid: bool,
 }
 
-// The frame after an access, and whether it was paid.
+// The frame after a growth or an access, and whether it was paid.
 pub struct Step {
     pub frame: Frame,
     pub paid: bool,
 }
 
-// The bound that an access at an address asks for: a wrapping sum, which the operand limit keeps from wrapping.
+// The bound that an access at an address requires: a wrapping sum, which the operand limit keeps from wrapping.
 pub fn new_bound(address: Address) -> u32
     ensures { λ r. ⌜ r ≡ newBound (address .0) ⌝ }
 {
@@ -67,7 +67,7 @@ pub fn use_gas(gas: u32, amount: u32) -> Gas
     }
 }
 
-// Gas and bound after an access that asks for the bound `new`.
+// Gas and bound after a growth to the bound `new`.
 pub fn grow(gas: u32, bound: u32, new: u32) -> Growth
     ensures { λ r. ⌜ r ≡ grown gas bound new ⌝ }
 {
@@ -93,7 +93,7 @@ pub fn grow(gas: u32, bound: u32, new: u32) -> Growth
     }
 }
 
-// Gas and bound after an access at an address: one past the last empties the gas and is not paid.
+// Gas and bound after an access at an address. An address above the limit empties the gas, and the access is not paid.
 pub fn access(gas: u32, bound: u32, address: Address) -> Growth
     ensures { λ r. ⌜ r ≡ accessed gas bound (address .0) ⌝ }
 {

@@ -49,7 +49,7 @@ fn walk(list: &[u32], gas: u32, bound: u32) -> RunEnd
     }
 }
 
-// What loads at these addresses, one after another, spend of the gas and make of the bound; stores, too.
+// What loads at these addresses, one after another, spend of the gas, which bound they reach, and where they end.
 pub fn quote(list: &[u32], gas: u32, bound: u32) -> Quoted
     ensures { λ r. ⌜ told r ≡ quoted (now (list .entry)) gas bound ⌝ }
 {

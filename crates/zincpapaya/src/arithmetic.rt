@@ -315,7 +315,7 @@ pub extern "C" fn zp_grow_heap(frame: &mut [u32], aux: bool, new_bound: u32, out
     put_one(out, frames::bit(step.paid))
 }
 
-// What loads of one area at these addresses, one after another, spend of the gas, the bound that they reach, and where they end.
+// What loads at these addresses of one area, one after another, spend of the gas, which bound they reach, and where they end.
 #[no_mangle]
 pub extern "C" fn zp_quote(list: &[u32], gas: u32, bound: u32, out: &mut [u64]) -> u32
     ensures { λ r. ⌜ Gives 3 (mapped endNumbers (quoted (now (list .entry)) gas bound)) asTheyAre r (now (out .entry)) (now (out .exit)) ⌝ }

@@ -155,8 +155,8 @@ impl Shard {
     }
 }
 
-/// What differs on the memories that a list has left. It does not rest on what they hold, so no call
-/// of the list is told.
+/// What differs on the memories that a list has left. The list's calls are not told: quotes and
+/// openings do not depend on them. Where a load has changed a memory, the seed repeats it.
 fn after_list(layout: &'static str, heaps: &[Heaps], mismatch: Mismatch) -> Box<Finding> {
     let capacities = [heaps[0].capacity(), heaps[1].capacity()];
     let list = List { layout, capacities, steps: Vec::new() };

@@ -126,7 +126,7 @@ impl<'a> Quotes<'a> {
             let (last, position) = self.run(&loads)?;
             let reached = area_of(&last, area).1;
             let due = with(first, area, last.gas, reached);
-            same("the loads' last frame (second: what is due)", &loads, &last, &due)?;
+            same("vm2's last frame, and what loads may make of it", &loads, &last, &due)?;
             let (spent, panics) = (gas.wrapping_sub(last.gas), position < list.len());
             let due = Quote { spent, bound: reached, position, panics };
             same("a quote beside its loads", &loads, &Ok(due), &given)?;

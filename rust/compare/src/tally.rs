@@ -22,7 +22,7 @@ pub struct Tally {
     pub no_room: BTreeMap<u8, u64>,
     /// Checks of the library alone, by what they are about.
     pub alone: BTreeMap<&'static str, u64>,
-    pub quotes: Quotes,
+    pub quotes: QuoteCounts,
     /// Looks at all that a memory holds, on both sides.
     pub looks: u64,
     /// Chunks compared byte by byte, and journalled words.
@@ -32,7 +32,7 @@ pub struct Tally {
 
 /// Quotes that were compared with vm2's loads.
 #[derive(Default)]
-pub struct Quotes {
+pub struct QuoteCounts {
     all: u64,
     /// Loads that both sides answered for them.
     pub loads: u64,
@@ -41,7 +41,7 @@ pub struct Quotes {
     high: u64,
 }
 
-impl Quotes {
+impl QuoteCounts {
     /// Counts a quote; `last` is the address whose access panics, if one does.
     pub fn count(&mut self, last: Option<&u32>) {
         self.all += 1;
@@ -124,7 +124,7 @@ impl fmt::Display for Tally {
         writeln!(out, "refused by both: {}", counts(&self.refusals))?;
         writeln!(out, "refused for want of room, not put to vm2: {}", counts(&self.no_room))?;
         writeln!(out, "library alone: {}", counts(&self.alone))?;
-        let Quotes { all, loads, panics, high } = self.quotes;
+        let QuoteCounts { all, loads, panics, high } = self.quotes;
         writeln!(
             out,
             "{all} quotes compared with {loads} loads: {panics} end at a panic, {high} of them at the \

@@ -99,32 +99,32 @@ pub fn use_gas(gas: u32, amount: u32) -> (u32, bool) {
     (out[0] as u32, out[1] != 0)
 }
 
-/// What a list of accesses costs, and where it ends; see [`quote`].
+/// What loads at a list of addresses cost, and where they end; see [`quote`].
 #[derive(Debug, Clone, Copy, PartialEq, Eq, Hash)]
 pub struct Quote {
-    /// The gas that is spent: where an access panics, all that was given.
+    /// The gas that is spent: where a load panics, all that was given.
     pub spent: u32,
     /// The bound that is reached: the last one that was paid for.
     pub bound: u32,
-    /// The position, counted from 0, of the access that panics; where none does, the number of
+    /// The position, counted from 0, of the load that panics; where none does, the number of
     /// addresses.
     pub position: usize,
-    /// Whether the access at [`position`](Self::position) panics; else all accesses go through.
-    /// The gas does not tell: accesses that go through may spend all of it; and with gas 0, an
-    /// access that panics spends 0 and keeps the bound.
+    /// Whether the load at [`position`](Self::position) panics; else all loads go through. The gas
+    /// does not tell: loads that go through may spend all of it; and with gas 0, a load that panics
+    /// spends 0 and keeps the bound.
     pub panics: bool,
 }
 
-/// What loads or stores at these addresses of one area cost if they run in this order. The first
-/// access is given `gas` and `bound`, each later one the gas and the bound that the one before it
-/// left; each pays for its growth. The quote ends at the first access that panics: its address is
-/// above 4,294,967,263, or its growth costs more than the gas that is left. That access takes all
-/// the gas and keeps the bound, and the addresses after it are not looked at.
+/// What loads at these addresses of one area cost if they run in this order. The first load is
+/// given `gas` and `bound`, each later one the gas and the bound that the one before it left; each
+/// pays for its growth. The quote ends at the first load that panics: its address is above
+/// 4,294,967,263, or its growth costs more than the gas that is left. That load takes all the gas
+/// and keeps the bound, and the addresses after it are not looked at.
 ///
 /// A quote that ends at a panic is `Ok` too, and [`Quote::panics`] tells it. Refused with
 /// [`Error::Range`] where there are more than 4,096 addresses, before any of them is looked at.
 ///
-/// A quote knows no memory: it says what stores pay, but not whether there is room for them.
+/// A store pays what a load pays, unless it is refused. A quote knows no memory, and so no refusals.
 ///
 /// ```
 /// use zincpapaya::{quote, Quote};
@@ -135,7 +135,7 @@ pub struct Quote {
 /// let quoted = quote(&addresses, 10, 4096)?;
 /// assert_eq!(quoted, Quote { spent: 6, bound: 4102, position: 4, panics: false });
 ///
-/// // Of 5 gas, 4 are left for the last access: it panics and takes them.
+/// // Of 5 gas, 4 are left for the last load: it panics and takes them.
 /// let quoted = quote(&addresses, 5, 4096)?;
 /// assert_eq!(quoted, Quote { spent: 5, bound: 4097, position: 3, panics: true });
 /// assert_eq!(addresses[quoted.position], 4070);

@@ -35,10 +35,10 @@ module _ (s : Setting) (v : View) (f : Frame) (x : Operand) where
   module _ (area : Area) where
     module _ (e : frameAccessed f area (x .word) .paid ≡ false) where
       pub load-unpaid : outcomeOf s (Load area f x) v ≡ panicked (given (panic (emptied f)))
-      load-unpaid = rw (e, unpaid f area (x .word) e)
+      load-unpaid = rw e (ap (λ (g : Frame). panicked (given (panic g))) (unpaid f area (x .word) e))
 
       pub store-unpaid : (n : ℕ) (h : Hook) → outcomeOf s (Store area f x n h) v ≡ panicked (given (panic (emptied f)))
-      store-unpaid n h = rw (e, unpaid f area (x .word) e)
+      store-unpaid n h = rw e (ap (λ (g : Frame). panicked (given (panic g))) (unpaid f area (x .word) e))
 
     module _ (l : lastAddress < x .word) where
       pub load-limit : outcomeOf s (Load area f x) v ≡ panicked (given (panic (emptied f)))

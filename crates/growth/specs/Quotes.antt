@@ -28,7 +28,8 @@ pub data Loads (S : Steps) (area : Area) : (f : Frame) (list : List ℕ) (n : �
   ends : {m m' : Mem} {f : Frame} {x : Operand} {r : Given} {list : List ℕ} → S m (Load area f x) (panicked (given r)) m' → Loads S area f (x .word ∷ list) 0 (r .frame)
 
 pub record QuoteOfLoads (S : Steps) : Type 0 where
-  -- of a list of at most 4,096 addresses, with a frame's gas and its area's bound: the gas that the loads spend, the bound that they reach, and where they end
+  -- the quote of at most 4,096 addresses, with a frame's gas and its area's bound, is the gas that loads of them spend, the bound that they reach, and
+  -- where they end
   pub equals : {area : Area} {f g : Frame} {list : List ℕ} {n : ℕ} → length list ≤ 4096 → Loads S area f list n g
       → quoted list (f .gas) (boundOf f area) ≡ done (endOf (f .gas) (g .gas) (boundOf g area) n)
   -- loads leave no more gas than they are given, so that what is spent is a true difference

@@ -73,7 +73,7 @@ fn goes_on(status: ExecutionStatus) -> bool {
     }
 }
 
-// Each load is given the frame that the last one left, up to the first that panics.
+// Each load is given the frame that the last one left, up to the first that is not carried out.
 pub fn run(
     bytes: &[u8],
     keys: &[u64],

@@ -20,9 +20,10 @@ use Rattle.store.specs.Mem.{Mem}
 use Rattle.formed.specs.Formed.{wellFormed}
 use Rattle.view.specs.View.{viewOf}
 use Rattle.view.specs.Instructions.{Operand, Given, panic, loaded}
-use Rattle.view.specs.Calls.{Value, nothing, given, number, lengths, bytes, verdict, Load, answerOf}
+use Rattle.view.specs.Calls.{Value, given, Load, answerOf}
 use Rattle.plain.specs.Claim.{Steps}
 use Rattle.growth.specs.Quotes.{LoadsMeet, Loads, none, more, ends, QuoteOfLoads}
+use Rattle.growth.proofs.Carried.{frameOf, load-paid}
 
 -- ---- an access on a frame is one on its gas and its area's bound
 abbrev growthOf : Area → Frame → Bool → Growth
@@ -38,29 +39,10 @@ marks-neither Heap f b = refl
 marks-neither Aux f b = refl
 
 -- ---- what a load tells
-abbrev isDone : Outcome Value → Bool
-isDone (refused n) = false
-isDone (panicked v) = false
-isDone (done v) = true
-
 abbrev isPanic : Outcome Value → Bool
 isPanic (refused n) = false
 isPanic (panicked v) = true
 isPanic (done v) = false
-
--- the frame that it gives, f where it gives none
-abbrev frameIn : Frame → Value → Frame
-frameIn f (given r) = r .frame
-frameIn f nothing = f
-frameIn f (number n) = f
-frameIn f (lengths heap aux) = f
-frameIn f (bytes bs) = f
-frameIn f (verdict b) = f
-
-abbrev frameOf : Frame → Outcome Value → Frame
-frameOf f (refused n) = f
-frameOf f (panicked v) = frameIn f v
-frameOf f (done v) = frameIn f v
 
 module _ (m : Mem) (area : Area) (f : Frame) (x : Operand) (r : Given) where
   abbrev after : Frame
@@ -71,14 +53,9 @@ module _ (m : Mem) (area : Area) (f : Frame) (x : Operand) (r : Given) where
   answer b p = cond (not b) (refused 3) (cond (not p) (panicked (given (panic after))) (done (given (loaded (viewOf m) area f x))))
 
   carried-out : done (given r) ≡ answerOf m (Load area f x) → growthOf area (r .frame) true ≡ accessed (f .gas) (boundOf f area) (x .word)
-  carried-out = go (wellFormed m) (frameAccessed f area (x .word) .paid) refl
-    where
-      go : (b p : Bool) → frameAccessed f area (x .word) .paid ≡ p → done (given r) ≡ answer b p → growthOf area (r .frame) true ≡ accessed (f .gas) (boundOf f area) (x .word)
-      go false p q e = absurd (false≢true (sym (ap isDone e)))
-      go true false q e = absurd (false≢true (sym (ap isDone e)))
-      go true true q e =
-          ap (λ (o : Outcome Value). growthOf area (frameOf f o) true) e
-          ∙ ap (growthOf area after) (sym q) ∙ sym (on-frame area f (x .word))
+  carried-out e =
+      let k = load-paid m area f x r e in
+      ap (λ (g : Frame). growthOf area g true) (k .frame) ∙ ap (growthOf area after) (sym (k .paid)) ∙ sym (on-frame area f (x .word))
 
   panics : panicked (given r) ≡ answerOf m (Load area f x) → growthOf area (r .frame) false ≡ accessed (f .gas) (boundOf f area) (x .word)
   panics = go (wellFormed m) (frameAccessed f area (x .word) .paid) refl

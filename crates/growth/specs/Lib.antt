@@ -1,2 +1,3 @@
--- Quotes: a quote is what its loads pay.
+-- Quotes: a quote is what its loads pay. Charges: growth adds up over every run of loads and stores.
 pub mod Quotes
+pub mod Charges

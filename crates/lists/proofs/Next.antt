@@ -34,7 +34,7 @@ module _ {s : Setting} {v : View} {m : Mem} (h : Shows s v m) where
   outcome-is : (c : Call) → outcomeOf (settingOf m) c (viewOf m) ≡ outcomeOf s c v
   outcome-is c = ap (λ (t : Setting). outcomeOf t c (viewOf m)) (h .setting) ∙ ap (outcomeOf s c) (h .view)
 
-  answer-is : (c : Call) → answerOf m c ≡ outcomeOf s c v
+  pub answer-is : (c : Call) → answerOf m c ≡ outcomeOf s c v
   answer-is c = ap (λ (b : Bool). cond (not b) (refused 3) (outcomeOf (settingOf m) c (viewOf m))) formed ∙ outcome-is c
 
   lengths-are : (t : Setting) → lengthsRight t m ≡ sameLengths t s
@@ -89,7 +89,7 @@ begins {m} {s} {calldata} narrow asks room =
     record { start = g .after; step = step; started = by-opening step }
 
 -- the smallest memory, of one chunk and one page beside the fixed ones
-abbrev small : Setting
+abbrev pub small : Setting
 small = setting (layoutFrom 0 1 2 3 4 4) 1 1 0
 
 abbrev buffers : Mem
@@ -114,9 +114,12 @@ small-asks = record {
   };
 }
 
+pub small-begins : Begins buffers small []
+small-begins = begins small-narrow small-asks (omega arith)
+
 pub not-empty : NotEmpty
 not-empty = record {
   begins = λ narrow asks room. begins narrow asks (omega arith);
-  one = (buffers, small, begins small-narrow small-asks (omega arith));
+  one = (buffers, small, small-begins);
   goes-on = λ b r c f. goes-on (claim Step contracts .lists b r .shows) c f;
 }

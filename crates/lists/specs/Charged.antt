@@ -1,23 +1,29 @@
--- A QUOTE IS WHAT ITS LOADS PAY, of the code's own `quote` and `load`: both meet their contracts, and these make them equal. No hypothesis is left.
+-- WHAT LOADS AND STORES PAY, of the code's own `quote`, `load` and `store`. They meet their contracts, and from these it follows that a quote is what its
+-- loads pay, and that growth adds up over every run of loads and stores. No hypothesis is left.
 -- Assumes nothing.
 use mathlib.Core.Path.{_≡_}
-use mathlib.Core.Bool.{true}
-use mathlib.Core.List.{List}
+use mathlib.Core.Bool.{true, false}
+use mathlib.Core.List.{List, [], _∷_}
 use Prim.Native.Nat.{ℕ, _≤_}
 use lib.ListN.{length}
 use denote.Ref.{now}
-use Rattle.outcome.specs.Outcome.{done}
+use Rattle.outcome.specs.Outcome.{done, carriedOut}
 use Rattle.state.specs.declared.Frame.{Frame}
 use Rattle.state.specs.declared.Area.{Area}
-use Rattle.state.specs.Access.{boundOf}
+use Rattle.state.specs.declared.Area.the-variants.{Heap, Aux}
+use Rattle.state.specs.Access.{boundOf, frameAccessed}
 use Rattle.state.specs.Quote.{endOf, told}
 use Rattle.state.proofs.quote.quote.Kinds as quote-kinds
 use Rattle.state.proofs.quote.quote.Reads as quote-reads
 use Rattle.state.proofs.quote.quote.Statement as quote-says
 use Rattle.instructions.proofs.load.Statement as load-says
+use Rattle.instructions.proofs.store.Statement as store-says
 use Rattle.store.specs.Mem.{Mem}
 use Rattle.formed.specs.Formed.{wellFormed}
+use Rattle.view.specs.Instructions.{Operand, Hook, Given, onHook, heapOf}
+use Rattle.view.specs.Calls.{Store, given, answerOf}
 use Rattle.growth.specs.Quotes.{Loads, QuoteOfLoads}
+use Rattle.growth.specs.Charges.{Access, Charge, Accesses, GrowthAddsUp}
 use Rattle.lists.specs.Steps.{Went, Step}
 
 -- a call of `quote`, as its contract tells it: its list, gas and bound
@@ -46,9 +52,45 @@ pub record QuoteExists (list : List ℕ) (gas bound : ℕ) : Type 0 where
   pub gas-is : gasOf quote ≡ gas
   pub bound-is : firstBound quote ≡ bound
 
+-- there is a store that stops on the hook and is carried out
+pub record StopExists : Type 0 where
+  pub before : Mem
+  pub after : Mem
+  pub area : Area
+  pub frame : Frame
+  pub operand : Operand
+  pub value : ℕ
+  pub hook : Hook
+  pub result : Given
+  pub step : Step before (Store area frame operand value hook) (done (given result)) after
+  pub stop : result .stop ≡ onHook value
+
+-- ---- a run worked out by hand
+abbrev pub workedFrame : (gas heap aux : ℕ) → Frame
+workedFrame gas heap aux = record { gas = gas; heap = record { 0 = 6 }; aux = record { 0 = 7 }; «heap_bound» = heap; «aux_bound» = aux; panicked = false }
+
+abbrev pub firstFrame : Frame
+firstFrame = workedFrame 1000 4096 0
+
+-- area, address and charge
+abbrev pub workedRun : List Charge
+workedRun =
+    record { area = Heap; address = 4064; charge = 0 }
+    ∷ record { area = Aux; address = 0; charge = 32 }
+    ∷ record { area = Heap; address = 4065; charge = 1 }
+    ∷ record { area = Heap; address = 10; charge = 0 }
+    ∷ record { area = Aux; address = 100; charge = 100 }
+    ∷ record { area = Aux; address = 50; charge = 0 }
+    ∷ []
+
+abbrev pub lastFrame : Frame
+lastFrame = workedFrame 867 4097 132
+
 pub record Charged : Type 2 where
   pub quote : {M : Type 1} → quote-says.statement M
   pub load : {M : Type 1} → load-says.statement M
+  pub store : {M : Type 1} → store-says.statement M
+  -- ---- a quote is what its loads pay
   -- the definition of a quote tells what loads spend, the bound that they reach, and where they end
   pub defined : QuoteOfLoads Step
   -- A call of the code's `quote` of at most 4,096 addresses, with the gas and the area's bound of f, answers what loads from f on spend, the bound that
@@ -61,3 +103,15 @@ pub record Charged : Type 2 where
   pub formed : (m : Mem) × (wellFormed m ≡ true)
   -- there are such quotes
   pub asked : (list : List ℕ) (gas bound : ℕ) → QuoteExists list gas bound
+  -- ---- growth adds up
+  pub adds-up : GrowthAddsUp Step
+  -- There are such runs. An access that is paid is made by a load on every well-formed memory
+  pub by-loads : (m : Mem) → wellFormed m ≡ true → (area : Area) (f : Frame) (x : ℕ) → frameAccessed f area x .paid ≡ true
+      → Access Step area x f (frameAccessed f area x .frame)
+  -- and by every store that the definition carries out, to a page of 32 bits
+  pub by-stores : (m : Mem) (area : Area) (f : Frame) (x : Operand) (n : ℕ) (h : Hook) → heapOf f area ≤ 4294967295
+      → carriedOut (answerOf m (Store area f x n h)) ≡ true → Access Step area (x .word) f (frameAccessed f area (x .word) .frame)
+  -- there are stores that stop on the hook
+  pub stops : StopExists
+  -- the run worked out by hand
+  pub worked : Accesses Step firstFrame workedRun lastFrame

@@ -3,14 +3,14 @@
 use mathlib.Core.Path.{_≡_, refl, sym, ap, _∙_}
 use mathlib.Core.Bool.{Bool, true, false, cond, false≢true, true≢false}
 use mathlib.Core.List.{List}
-use Prim.Native.Nat.{ℕ, suc, _+_, _-_, _≤_, _<_}
+use Prim.Native.Nat.{ℕ, suc, _+_, _-_, _≤_, _<_, max}
 use native.Mathlib.Omega.{arith}
 use native.Mathlib.Nat.{mod-eq-of-lt}
 use lib.Dec.{leb, ltb}
 use lib.ListN.{length, getD, drop}
 use lib.Seq.{drop-cons, drop-length}
-use borrow.Author.Tests.{ltb-false}
-use Rattle.state.specs.Access.{lastAddress, newBound, due, used, grown, accessed, frameAccessed}
+use borrow.Author.Tests.{ltb-false, leb-true, leb-false}
+use Rattle.state.specs.Access.{lastAddress, newBound, due, used, accessed, frameAccessed}
 use Rattle.state.specs.Quote.{endOf, walked}
 use Rattle.state.specs.declared.Frame.{Frame}
 use Rattle.state.specs.declared.Area.{Area}
@@ -32,6 +32,12 @@ pub enough : (gas amount : ℕ) {u : Gas} {t : Bool} → u ≡ used gas amount �
 enough gas amount e p = sym (is-paid (leb amount gas) _ _) ∙ sym (ap (λ (u : Gas). u .paid) e) ∙ p
 
 -- ---- an access
+-- where it is paid: the operand is within the limit, the bound becomes the larger of itself and x + 32, and the gas pays the difference
+pub record Pays (gas bound x : ℕ) (g : Growth) : Type 0 where
+  pub within : x ≤ lastAddress
+  pub top : g .bound ≡ max bound (x + 32)
+  pub price : g .gas + (g .bound - bound) ≡ gas
+
 module _ (gas bound x : ℕ) where
   -- by its three tests: whether it is above the limit, within the bound, and within the gas
   abbrev tested : Bool → Bool → Bool → Growth
@@ -63,18 +69,28 @@ module _ (gas bound x : ℕ) where
   pub accessed-short : accessed gas bound x .paid ≡ false → accessed gas bound x ≡ record { gas = 0; bound = bound; paid = false }
   accessed-short = short (ltb lastAddress x) (leb (newBound x) bound) (leb (due bound (newBound x)) gas)
 
-  -- where it is paid the operand is within the limit
-  pub accessed-within : accessed gas bound x .paid ≡ true → x ≤ lastAddress
-  accessed-within e = go (ltb lastAddress x) refl e
+  pub accessed-paid : accessed gas bound x .paid ≡ true → Pays gas bound x (accessed gas bound x)
+  accessed-paid = go (ltb lastAddress x) (leb (newBound x) bound) (leb (due bound (newBound x)) gas) refl refl refl
     where
-      go : (b : Bool) → ltb lastAddress x ≡ b → cond b (record { gas = 0; bound = bound; paid = false }) (grown gas bound (newBound x)) .paid ≡ true → x ≤ lastAddress
-      go true q e = absurd (false≢true e)
-      go false q e = ltb-false lastAddress x q
+      go : (a b c : Bool) → ltb lastAddress x ≡ a → leb (newBound x) bound ≡ b → leb (due bound (newBound x)) gas ≡ c → tested a b c .paid ≡ true → Pays gas bound x (tested a b c)
+      go true b c p q r e = absurd (false≢true e)
+      go false true c p q r e =
+          let l = ltb-false lastAddress x p in
+          let new = no-wrap x l in
+          let k = leb-true (newBound x) bound q in
+          record { within = l; top = omega arith; price = omega arith }
+      go false false true p q r e =
+          let l = ltb-false lastAddress x p in
+          let new = no-wrap x l in
+          let k = leb-false (newBound x) bound q in
+          let j = leb-true (due bound (newBound x)) gas r in
+          record { within = l; top = omega arith; price = omega arith }
+      go false false false p q r e = absurd (false≢true e)
 
--- the same of a frame
+-- the limit, of a frame
 pub frame-within : (f : Frame) (area : Area) (x : ℕ) → frameAccessed f area x .paid ≡ true → x ≤ lastAddress
-frame-within f Heap x = accessed-within (f .gas) (f .«heap_bound») x
-frame-within f Aux x = accessed-within (f .gas) (f .«aux_bound») x
+frame-within f Heap x e = accessed-paid (f .gas) (f .«heap_bound») x e .within
+frame-within f Aux x e = accessed-paid (f .gas) (f .«aux_bound») x e .within
 
 -- ---- the run over a list
 -- the rest of a list from i on: an access that is paid goes on, one that is not ends the run, and so does the list's end

@@ -17,11 +17,11 @@ use Rattle.view.specs.View.{settingOf, viewOf}
 use Rattle.view.specs.Checks.{Check}
 use Rattle.view.specs.Instructions.{Operand, Hook, Given, accessChecks, storeChecks, loaded, stored}
 use Rattle.view.specs.Calls.{Value, Load, Store, nothing, given, number, lengths, bytes, verdict, answerOf}
-use Rattle.plain.proofs.Tests.{clear}
+use Rattle.plain.proofs.Tests.{Clear, clear}
 use Rattle.growth.specs.Charges.{sameArea}
 
 -- ---- a call that is carried out has the definition's value
--- no condition of a call is carried out
+-- beside each condition is a refusal or a panic
 abbrev pub NoneDone : List (Check Value) → Type 0
 NoneDone [] = Unit {0}
 NoneDone ((b, refused n) ∷ rest) = NoneDone rest
@@ -56,20 +56,22 @@ pub record Paid (area : Area) (x : ℕ) (f g : Frame) : Type 0 where
   pub paid : frameAccessed f area x .paid ≡ true
   pub frame : g ≡ frameAccessed f area x .frame
 
+-- an instruction that is carried out has passed its checks, and its frame is the definition's
+passed : (r v : Given) (checks : List (Check Value)) → NoneDone checks → done (given r) ≡ firstOf checks (done (given v)) → Clear checks × (r .frame ≡ v .frame)
+passed r v checks n e =
+    let c : carriedOut (firstOf checks (done (given v))) ≡ true = sym (ap carriedOut e) in
+    (clear checks (given v) c, ap (frameOf (v .frame)) (e ∙ is-done checks (given v) n c))
+
 module _ (m : Mem) (area : Area) (f : Frame) (x : Operand) (r : Given) where
   pub load-paid : done (given r) ≡ answerOf m (Load area f x) → Paid area (x .word) f (r .frame)
   load-paid e =
-      let checks : List (Check Value) = (not (wellFormed m), refused 3) ∷ accessChecks given area f (x .word) in
-      let value = given (loaded (viewOf m) area f x) in
-      let c : carriedOut (answerOf m (Load area f x)) ≡ true = sym (ap carriedOut e) in
-      record { paid = not-false _ (clear checks value c .1 .0); frame = ap (frameOf f) (e ∙ is-done checks value tt c) }
+      let p = passed r (loaded (viewOf m) area f x) ((not (wellFormed m), refused 3) ∷ accessChecks given area f (x .word)) tt e in
+      record { paid = not-false _ (p .0 .1 .0); frame = p .1 }
 
   pub store-paid : (n : ℕ) (h : Hook) → done (given r) ≡ answerOf m (Store area f x n h) → Paid area (x .word) f (r .frame)
   store-paid n h e =
-      let checks : List (Check Value) = (not (wellFormed m), refused 3) ∷ storeChecks given (settingOf m) (viewOf m) area f (x .word) n h in
-      let value = given (stored area f x n h) in
-      let c : carriedOut (answerOf m (Store area f x n h)) ≡ true = sym (ap carriedOut e) in
-      record { paid = not-false _ (clear checks value c .1 .0); frame = ap (frameOf f) (e ∙ is-done checks value tt c) }
+      let p = passed r (stored area f x n h) ((not (wellFormed m), refused 3) ∷ storeChecks given (settingOf m) (viewOf m) area f (x .word) n h) tt e in
+      record { paid = not-false _ (p .0 .1 .0); frame = p .1 }
 
 -- ---- what the access moves
 -- the gas and the bound of the area, and not the other bound

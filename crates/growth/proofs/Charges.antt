@@ -11,18 +11,18 @@ use Rattle.state.specs.declared.Area.the-variants.{Heap, Aux}
 use Rattle.state.specs.Access.{lastAddress, boundOf}
 use Rattle.plain.specs.Claim.{Steps}
 use Rattle.growth.specs.Quotes.{LoadsMeet}
-use Rattle.growth.specs.Charges.{StoresMeet, Access, by-load, by-store, Charge, chargeOf, Accesses, one, more, sameArea, charges, addresses, highest, lastBound, AddsUp, GrowthAddsUp}
+use Rattle.growth.specs.Charges.{StoresMeet, Access, by-load, by-store, Charge, chargeOf, Accesses, one, more, sameArea, sumOf, addresses, highest, lastBound, AddsUp, GrowthAddsUp}
 use Rattle.growth.proofs.Carried.{load-paid, store-paid, Moved, paid-moves}
 
 -- ---- one area
 -- what a run keeps of it
 record Kept (area : Area) (f : Frame) (run : List Charge) (g : Frame) : Type 0 where
-  sum : charges area run + boundOf f area ≡ boundOf g area
+  sum : sumOf area run + boundOf f area ≡ boundOf g area
   last : boundOf g area ≡ lastBound (boundOf f area) (addresses area run)
   within : highest (addresses area run) ≤ lastAddress
 
 none : (area : Area) (f : Frame) → Kept area f [] f
-unfolding charges addresses highest
+unfolding sumOf addresses highest
 none area f = record { sum = omega arith; last = refl; within = omega arith }
 
 -- an access at a before those of the list
@@ -44,7 +44,7 @@ same-is Aux Aux e = refl
 -- an access of area c before a run
 module _ (b : Area) (a : ℕ) (f g h : Frame) (run : List Charge) (k : Kept b g run h) where
   own : Moved b a f g → sameArea b b ≡ true → Kept b f (chargeOf b a f g ∷ run) h
-  unfolding charges addresses
+  unfolding sumOf addresses
   own m e = record {
     sum = rw e (let s = k .sum in let t = m .top in let p = m .price in omega arith);
     last = rw e (k .last ∙ ap (λ (x : ℕ). lastBound x (addresses b run)) (m .top) ∙ last-before (boundOf f b) a (addresses b run));
@@ -52,7 +52,7 @@ module _ (b : Area) (a : ℕ) (f g h : Frame) (run : List Charge) (k : Kept b g 
   }
 
   other : (area : Area) → boundOf g b ≡ boundOf f b → sameArea b area ≡ false → Kept b f (chargeOf area a f g ∷ run) h
-  unfolding charges addresses
+  unfolding sumOf addresses
   other area z e = record {
     sum = rw e (let s = k .sum in omega arith);
     last = rw e (k .last ∙ ap (λ (x : ℕ). lastBound x (addresses b run)) z);
@@ -81,14 +81,14 @@ adds-up {area} {f} {g} {run} k =
     at-most (a ∷ list) e l = omega arith
 
 -- ---- the gas of both
-gas-before : (area : Area) (a : ℕ) (f g h : Frame) (run : List Charge) → Moved area a f g → charges Heap run + charges Aux run + h .gas ≡ g .gas
-    → charges Heap (chargeOf area a f g ∷ run) + charges Aux (chargeOf area a f g ∷ run) + h .gas ≡ f .gas
-unfolding charges
+gas-before : (area : Area) (a : ℕ) (f g h : Frame) (run : List Charge) → Moved area a f g → sumOf Heap run + sumOf Aux run + h .gas ≡ g .gas
+    → sumOf Heap (chargeOf area a f g ∷ run) + sumOf Aux (chargeOf area a f g ∷ run) + h .gas ≡ f .gas
+unfolding sumOf
 gas-before Heap a f g h run m e = let p = m .price in omega arith
 gas-before Aux a f g h run m e = let p = m .price in omega arith
 
-gas-none : (f : Frame) → charges Heap [] + charges Aux [] + f .gas ≡ f .gas
-unfolding charges
+gas-none : (f : Frame) → sumOf Heap [] + sumOf Aux [] + f .gas ≡ f .gas
+unfolding sumOf
 gas-none f = omega arith
 
 -- ---- runs
@@ -101,7 +101,7 @@ module _ (S : Steps) (L : LoadsMeet S) (T : StoresMeet S) where
   kept {f} {g} (one {area = c} {a = a} x) area = before area a f g g [] (none area g) c (moves x)
   kept {f = f} {g = h} (more {area = c} {a = a} {g = g} {run = run} x rest) area = before area a f g h run (kept rest area) c (moves x)
 
-  gas : {f g : Frame} {run : List Charge} → Accesses S f run g → charges Heap run + charges Aux run + g .gas ≡ f .gas
+  gas : {f g : Frame} {run : List Charge} → Accesses S f run g → sumOf Heap run + sumOf Aux run + g .gas ≡ f .gas
   gas {f} {g} (one {area = c} {a = a} x) = gas-before c a f g g [] (moves x) (gas-none g)
   gas {f = f} {g = h} (more {area = c} {a = a} {g = g} {run = run} x rest) = gas-before c a f g h run (moves x) (gas rest)
 

@@ -27,15 +27,15 @@ pub data Access (S : Steps) : (area : Area) (address : ℕ) (f g : Frame) → Ty
   by-store : {m m' : Mem} {area : Area} {f : Frame} {x : Operand} {n : ℕ} {h : Hook} {r : Given}
       → S m (Store area f x n h) (done (given r)) m' → Access S area (x .word) f (r .frame)
 
--- what a run tells of an access: its area, its address, and its charge
+-- what a run tells of an access: its area, its address, and the amount of its charge
 pub record Charge : Type 0 where
   pub area : Area
   pub address : ℕ
-  pub charge : ℕ
+  pub amount : ℕ
 
 -- the charge is the gas that the access is given less the gas that it leaves
 abbrev pub chargeOf : Area → ℕ → Frame → Frame → Charge
-chargeOf area address f g = record { area = area; address = address; charge = f .gas - g .gas }
+chargeOf area address f g = record { area = area; address = address; amount = f .gas - g .gas }
 
 -- A RUN: one or more accesses from the frame f to the frame g, each given the frame that the last one left. Each may be lent another memory, so other
 -- calls may come between
@@ -51,9 +51,9 @@ sameArea Aux Heap = false
 sameArea Aux Aux = true
 
 -- the sum of its charges
-unfoldable pub charges : Area → List Charge → ℕ
-charges area [] = 0
-charges area (c ∷ run) = cond (sameArea area (c .area)) (c .charge) 0 + charges area run
+unfoldable pub sumOf : Area → List Charge → ℕ
+sumOf area [] = 0
+sumOf area (c ∷ run) = cond (sameArea area (c .area)) (c .amount) 0 + sumOf area run
 
 -- its addresses
 unfoldable pub addresses : Area → List Charge → List ℕ
@@ -72,14 +72,14 @@ lastBound first (a ∷ list) = max first (highest (a ∷ list) + 32)
 -- ---- THE CLAIM
 pub record AddsUp (area : Area) (f : Frame) (run : List Charge) (g : Frame) : Type 0 where
   -- the charges sum to the last bound less the first, which is not above it
-  pub sum : charges area run ≡ boundOf g area - boundOf f area
+  pub sum : sumOf area run ≡ boundOf g area - boundOf f area
   pub rises : boundOf f area ≤ boundOf g area
   pub last : boundOf g area ≡ lastBound (boundOf f area) (addresses area run)
   -- numbers have any size here: this follows from the operand limit
-  pub fits : charges area run ≤ 4294967295
+  pub fits : sumOf area run ≤ 4294967295
 
 pub record GrowthAddsUp (S : Steps) : Type 0 where
   -- heap and aux taken separately
   pub areas : {f g : Frame} {run : List Charge} → Accesses S f run g → (area : Area) → AddsUp area f run g
   -- both sums and the gas left make the gas given
-  pub gas : {f g : Frame} {run : List Charge} → Accesses S f run g → charges Heap run + charges Aux run + g .gas ≡ f .gas
+  pub gas : {f g : Frame} {run : List Charge} → Accesses S f run g → sumOf Heap run + sumOf Aux run + g .gas ≡ f .gas

@@ -1,1 +1,1 @@
-// What loads in one frame pay: a claim about their contracts. There is no code here.
+// What loads and stores in one frame pay: two claims about their contracts. There is no code here.

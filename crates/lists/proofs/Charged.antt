@@ -34,7 +34,7 @@ use Rattle.plain.proofs.Good.{never}
 use Rattle.growth.specs.Quotes as growth
 use Rattle.growth.specs.Quotes.{LoadsMeet, Loads, more, ends, QuoteOfLoads}
 use Rattle.growth.specs.Charges as charges
-use Rattle.growth.specs.Charges.{StoresMeet, Access, by-load, by-store, Accesses, GrowthAddsUp}
+use Rattle.growth.specs.Charges.{StoresMeet, Access, by-load, by-store, Accesses}
 use Rattle.growth.proofs.Carried.{is-done}
 use Rattle.growth.proofs.Quotes.{quote-of-loads}
 use Rattle.growth.proofs.Charges.{growth-adds-up}

@@ -75,12 +75,12 @@ firstFrame = workedFrame 1000 4096 0
 -- area, address and charge
 abbrev pub workedRun : List Charge
 workedRun =
-    record { area = Heap; address = 4064; charge = 0 }
-    ∷ record { area = Aux; address = 0; charge = 32 }
-    ∷ record { area = Heap; address = 4065; charge = 1 }
-    ∷ record { area = Heap; address = 10; charge = 0 }
-    ∷ record { area = Aux; address = 100; charge = 100 }
-    ∷ record { area = Aux; address = 50; charge = 0 }
+    record { area = Heap; address = 4064; amount = 0 }
+    ∷ record { area = Aux; address = 0; amount = 32 }
+    ∷ record { area = Heap; address = 4065; amount = 1 }
+    ∷ record { area = Heap; address = 10; amount = 0 }
+    ∷ record { area = Aux; address = 100; amount = 100 }
+    ∷ record { area = Aux; address = 50; amount = 0 }
     ∷ []
 
 abbrev pub lastFrame : Frame

@@ -1,16 +1,17 @@
--- What a load or a store that is carried out leaves of its frame: its access was paid, and the frame is the one after it.
+-- What a load or a store that is carried out leaves of its frame: its access was paid, and its frame is the one that the access leaves.
 -- Assumes nothing.
 use mathlib.Core.Path.{_≡_, refl, sym, ap, _∙_, subst}
-use mathlib.Core.Bool.{true, false, not, false≢true, true≢false}
+use mathlib.Core.Bool.{Bool, true, false, not, false≢true, true≢false}
 use mathlib.Core.List.{List, [], _∷_}
-use Prim.Native.Nat.{ℕ, _+_, _-_, _≤_, max}
+use Prim.Native.Nat.{ℕ}
 use borrow.Author.Tests.{not-false}
 use Rattle.outcome.specs.Outcome.{Outcome, refused, panicked, done, carriedOut, firstOf}
 use Rattle.state.specs.declared.Frame.{Frame}
+use Rattle.state.specs.declared.Growth.{Growth}
 use Rattle.state.specs.declared.Area.{Area}
 use Rattle.state.specs.declared.Area.the-variants.{Heap, Aux}
-use Rattle.state.specs.Access.{lastAddress, boundOf, frameAccessed}
-use Rattle.state.proofs.Laws.{accessed-paid}
+use Rattle.state.specs.Access.{accessed, boundOf, frameAccessed}
+use Rattle.state.proofs.Laws.{Pays, accessed-paid}
 use Rattle.store.specs.Mem.{Mem}
 use Rattle.formed.specs.Formed.{wellFormed}
 use Rattle.view.specs.View.{settingOf, viewOf}
@@ -21,7 +22,7 @@ use Rattle.plain.proofs.Tests.{Clear, clear}
 use Rattle.growth.specs.Charges.{sameArea}
 
 -- ---- a call that is carried out has the definition's value
--- beside each condition is a refusal or a panic
+-- each condition has a refusal or a panic beside it
 abbrev pub NoneDone : List (Check Value) → Type 0
 NoneDone [] = Unit {0}
 NoneDone ((b, refused n) ∷ rest) = NoneDone rest
@@ -37,18 +38,18 @@ is-done ((false, panicked x) ∷ rest) a n e = is-done rest a n e
 is-done ((b, done x) ∷ rest) a n e = absurd n
 
 -- the frame of an outcome, f where it has none
-abbrev frameIn : Frame → Value → Frame
-frameIn f (given r) = r .frame
-frameIn f nothing = f
-frameIn f (number n) = f
-frameIn f (lengths heap aux) = f
-frameIn f (bytes bs) = f
-frameIn f (verdict b) = f
+abbrev frameGiven : Frame → Value → Frame
+frameGiven f (given r) = r .frame
+frameGiven f nothing = f
+frameGiven f (number n) = f
+frameGiven f (lengths heap aux) = f
+frameGiven f (bytes bs) = f
+frameGiven f (verdict b) = f
 
-abbrev pub frameOf : Frame → Outcome Value → Frame
-frameOf f (refused n) = f
-frameOf f (panicked v) = frameIn f v
-frameOf f (done v) = frameIn f v
+abbrev pub frameTold : Frame → Outcome Value → Frame
+frameTold f (refused n) = f
+frameTold f (panicked v) = frameGiven f v
+frameTold f (done v) = frameGiven f v
 
 -- ---- loads and stores
 -- the access of an area at x, given the frame f, is paid and leaves the frame g
@@ -60,7 +61,7 @@ pub record Paid (area : Area) (x : ℕ) (f g : Frame) : Type 0 where
 passed : (r v : Given) (checks : List (Check Value)) → NoneDone checks → done (given r) ≡ firstOf checks (done (given v)) → Clear checks × (r .frame ≡ v .frame)
 passed r v checks n e =
     let c : carriedOut (firstOf checks (done (given v))) ≡ true = sym (ap carriedOut e) in
-    (clear checks (given v) c, ap (frameOf (v .frame)) (e ∙ is-done checks (given v) n c))
+    (clear checks (given v) c, ap (frameTold (v .frame)) (e ∙ is-done checks (given v) n c))
 
 module _ (m : Mem) (area : Area) (f : Frame) (x : Operand) (r : Given) where
   pub load-paid : done (given r) ≡ answerOf m (Load area f x) → Paid area (x .word) f (r .frame)
@@ -74,24 +75,31 @@ module _ (m : Mem) (area : Area) (f : Frame) (x : Operand) (r : Given) where
       record { paid = not-false _ (p .0 .1 .0); frame = p .1 }
 
 -- ---- what the access moves
--- the gas and the bound of the area, and not the other bound
-pub record Moved (area : Area) (x : ℕ) (f g : Frame) : Type 0 where
-  pub within : x ≤ lastAddress
-  pub top : boundOf g area ≡ max (boundOf f area) (x + 32)
-  pub price : g .gas + (boundOf g area - boundOf f area) ≡ f .gas
-  pub other : (b : Area) → sameArea b area ≡ false → boundOf g b ≡ boundOf f b
+-- gas and bound of an area
+abbrev pub growthOf : Area → Frame → Bool → Growth
+growthOf area f paid = record { gas = f .gas; bound = boundOf f area; paid = paid }
 
-moved : (area : Area) (x : ℕ) (f : Frame) → frameAccessed f area x .paid ≡ true → Moved area x f (frameAccessed f area x .frame)
-moved Heap x f p = let k = accessed-paid (f .gas) (f .«heap_bound») x p in record { within = k .within; top = k .top; price = k .price; other = aux-stays }
-  where
-    aux-stays : (b : Area) → sameArea b Heap ≡ false → boundOf (frameAccessed f Heap x .frame) b ≡ boundOf f b
-    aux-stays Heap n = absurd (true≢false n)
-    aux-stays Aux n = refl
-moved Aux x f p = let k = accessed-paid (f .gas) (f .«aux_bound») x p in record { within = k .within; top = k .top; price = k .price; other = heap-stays }
-  where
-    heap-stays : (b : Area) → sameArea b Aux ≡ false → boundOf (frameAccessed f Aux x .frame) b ≡ boundOf f b
-    heap-stays Heap n = refl
-    heap-stays Aux n = absurd (true≢false n)
+-- an access on a frame is one on its gas and its area's bound
+pub on-frame : (area : Area) (f : Frame) (x : ℕ) → accessed (f .gas) (boundOf f area) x ≡ growthOf area (frameAccessed f area x .frame) (frameAccessed f area x .paid)
+on-frame Heap f x = refl
+on-frame Aux f x = refl
 
-pub paid-moves : (area : Area) (x : ℕ) (f g : Frame) → Paid area x f g → Moved area x f g
-paid-moves area x f g p = subst (Moved area x f) (sym (p .frame)) (moved area x f (p .paid))
+other-stays : (area b : Area) (f : Frame) (x : ℕ) → sameArea b area ≡ false → boundOf (frameAccessed f area x .frame) b ≡ boundOf f b
+other-stays Heap Heap f x n = absurd (true≢false n)
+other-stays Heap Aux f x n = refl
+other-stays Aux Heap f x n = refl
+other-stays Aux Aux f x n = absurd (true≢false n)
+
+module _ (area : Area) (x : ℕ) (f g : Frame) (p : Paid area x f g) where
+  pub paid-is : growthOf area g true ≡ accessed (f .gas) (boundOf f area) x
+  paid-is =
+      ap (λ (h : Frame). growthOf area h true) (p .frame)
+      ∙ ap (growthOf area (frameAccessed f area x .frame)) (sym (p .paid))
+      ∙ sym (on-frame area f x)
+
+  pub paid-pays : Pays (f .gas) (boundOf f area) x (growthOf area g true)
+  paid-pays = subst (Pays (f .gas) (boundOf f area) x) (sym paid-is) (accessed-paid (f .gas) (boundOf f area) x (sym (ap (λ (r : Growth). r .paid) paid-is)))
+
+  -- the other bound does not move
+  pub paid-other : (b : Area) → sameArea b area ≡ false → boundOf g b ≡ boundOf f b
+  paid-other b n = ap (λ (h : Frame). boundOf h b) (p .frame) ∙ other-stays area b f x n

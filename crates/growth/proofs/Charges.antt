@@ -10,18 +10,18 @@ use Rattle.state.specs.declared.Area.{Area}
 use Rattle.state.specs.declared.Area.the-variants.{Heap, Aux}
 use Rattle.state.specs.Access.{lastAddress, boundOf}
 use Rattle.plain.specs.Claim.{Steps}
-use Rattle.growth.specs.Quotes.{LoadsMeet}
-use Rattle.growth.specs.Charges.{StoresMeet, Access, by-load, by-store, Charge, chargeOf, Accesses, one, more, sameArea, sumOf, addresses, highest, lastBound, AddsUp, GrowthAddsUp}
-use Rattle.growth.proofs.Carried.{load-paid, store-paid, Moved, paid-moves}
+use Rattle.growth.specs.Meet.{LoadsAndStoresMeet}
+use Rattle.growth.specs.Charges.{LoadOrStore, by-load, by-store, Charge, chargeOf, LoadsAndStores, one, more, sameArea, sumOf, addresses, highest, lastBound, AddsUp, GrowthAddsUp}
+use Rattle.growth.proofs.Carried.{Paid, load-paid, store-paid, paid-pays, paid-other}
 
 -- ---- one area
 -- what a run keeps of it
-record Kept (area : Area) (f : Frame) (run : List Charge) (g : Frame) : Type 0 where
+record Totals (area : Area) (f : Frame) (run : List Charge) (g : Frame) : Type 0 where
   sum : sumOf area run + boundOf f area ≡ boundOf g area
   last : boundOf g area ≡ lastBound (boundOf f area) (addresses area run)
   within : highest (addresses area run) ≤ lastAddress
 
-none : (area : Area) (f : Frame) → Kept area f [] f
+none : (area : Area) (f : Frame) → Totals area f [] f
 unfolding sumOf addresses highest
 none area f = record { sum = omega arith; last = refl; within = omega arith }
 
@@ -41,17 +41,19 @@ same-is Heap Aux e = absurd (false≢true e)
 same-is Aux Heap e = absurd (false≢true e)
 same-is Aux Aux e = refl
 
--- an access of area c before a run
-module _ (b : Area) (a : ℕ) (f g h : Frame) (run : List Charge) (k : Kept b g run h) where
-  own : Moved b a f g → sameArea b b ≡ true → Kept b f (chargeOf b a f g ∷ run) h
+-- a load or store at a, before a run of which the totals of b are known
+module _ (b : Area) (a : ℕ) (f g h : Frame) (run : List Charge) (k : Totals b g run h) where
+  own : Paid b a f g → sameArea b b ≡ true → Totals b f (chargeOf b a f g ∷ run) h
   unfolding sumOf addresses
-  own m e = record {
-    sum = rw e (let s = k .sum in let t = m .top in let p = m .price in omega arith);
-    last = rw e (k .last ∙ ap (λ (x : ℕ). lastBound x (addresses b run)) (m .top) ∙ last-before (boundOf f b) a (addresses b run));
-    within = rw e (within-before a (addresses b run) (m .within) (k .within));
-  }
+  own p e =
+      let pays = paid-pays b a f g p in
+      record {
+        sum = rw e (let s = k .sum in let t = pays .top in let price = pays .price in omega arith);
+        last = rw e (k .last ∙ ap (λ (x : ℕ). lastBound x (addresses b run)) (pays .top) ∙ last-before (boundOf f b) a (addresses b run));
+        within = rw e (within-before a (addresses b run) (pays .within) (k .within));
+      }
 
-  other : (area : Area) → boundOf g b ≡ boundOf f b → sameArea b area ≡ false → Kept b f (chargeOf area a f g ∷ run) h
+  other : (area : Area) → boundOf g b ≡ boundOf f b → sameArea b area ≡ false → Totals b f (chargeOf area a f g ∷ run) h
   unfolding sumOf addresses
   other area z e = record {
     sum = rw e (let s = k .sum in omega arith);
@@ -59,21 +61,21 @@ module _ (b : Area) (a : ℕ) (f g h : Frame) (run : List Charge) (k : Kept b g 
     within = rw e (k .within);
   }
 
-  before : (area : Area) → Moved area a f g → Kept b f (chargeOf area a f g ∷ run) h
-  before area m = go (sameArea b area) refl
+  before : (area : Area) → Paid area a f g → Totals b f (chargeOf area a f g ∷ run) h
+  before area p = go (sameArea b area) refl
     where
-      go : (t : Bool) → sameArea b area ≡ t → Kept b f (chargeOf area a f g ∷ run) h
+      go : (t : Bool) → sameArea b area ≡ t → Totals b f (chargeOf area a f g ∷ run) h
       go true e =
           let z = same-is b area e in
-          subst (λ (x : Area). Moved x a f g → sameArea b x ≡ true → Kept b f (chargeOf x a f g ∷ run) h) (sym z) own m e
-      go false e = other area (m .other b e) e
+          subst (λ (x : Area). Paid x a f g → sameArea b x ≡ true → Totals b f (chargeOf x a f g ∷ run) h) (sym z) own p e
+      go false e = other area (paid-other area a f g p b e) e
 
 -- the claim, from it
-adds-up : {area : Area} {f g : Frame} {run : List Charge} → Kept area f run g → AddsUp area f run g
+adds-up : {area : Area} {f g : Frame} {run : List Charge} → Totals area f run g → AddsUp area f run g
 adds-up {area} {f} {g} {run} k =
     let s = k .sum in
     let most = at-most (addresses area run) (k .last) (k .within) in
-    record { sum = omega arith; rises = omega arith; last = k .last; fits = omega arith }
+    record { sum = omega arith; ordered = omega arith; last = k .last; limit = omega arith }
   where
     -- the operand limit, and 32
     at-most : (list : List ℕ) → boundOf g area ≡ lastBound (boundOf f area) list → highest list ≤ lastAddress → boundOf g area ≤ max (boundOf f area) (lastAddress + 32)
@@ -81,29 +83,29 @@ adds-up {area} {f} {g} {run} k =
     at-most (a ∷ list) e l = omega arith
 
 -- ---- the gas of both
-gas-before : (area : Area) (a : ℕ) (f g h : Frame) (run : List Charge) → Moved area a f g → sumOf Heap run + sumOf Aux run + h .gas ≡ g .gas
+gas-before : (area : Area) (a : ℕ) (f g h : Frame) (run : List Charge) → Paid area a f g → sumOf Heap run + sumOf Aux run + h .gas ≡ g .gas
     → sumOf Heap (chargeOf area a f g ∷ run) + sumOf Aux (chargeOf area a f g ∷ run) + h .gas ≡ f .gas
 unfolding sumOf
-gas-before Heap a f g h run m e = let p = m .price in omega arith
-gas-before Aux a f g h run m e = let p = m .price in omega arith
+gas-before Heap a f g h run p e = let price = paid-pays Heap a f g p .price in omega arith
+gas-before Aux a f g h run p e = let price = paid-pays Aux a f g p .price in omega arith
 
 gas-none : (f : Frame) → sumOf Heap [] + sumOf Aux [] + f .gas ≡ f .gas
 unfolding sumOf
 gas-none f = omega arith
 
 -- ---- runs
-module _ (S : Steps) (L : LoadsMeet S) (T : StoresMeet S) where
-  moves : {area : Area} {a : ℕ} {f g : Frame} → Access S area a f g → Moved area a f g
-  moves (by-load {m} {area = area} {f = f} {x = x} {r = r} s) = paid-moves area (x .word) f (r .frame) (load-paid m area f x r (L .loads s .answer))
-  moves (by-store {m} {area = area} {f = f} {x = x} {n = n} {h = h} {r = r} s) = paid-moves area (x .word) f (r .frame) (store-paid m area f x r n h (T .stores s .answer))
+module _ (S : Steps) (I : LoadsAndStoresMeet S) where
+  paid : {area : Area} {a : ℕ} {f g : Frame} → LoadOrStore S area a f g → Paid area a f g
+  paid (by-load {m} {area = area} {f = f} {x = x} {r = r} s) = load-paid m area f x r (I .loads s .answer)
+  paid (by-store {m} {area = area} {f = f} {x = x} {n = n} {h = h} {r = r} s) = store-paid m area f x r n h (I .stores s .answer)
 
-  kept : {f g : Frame} {run : List Charge} → Accesses S f run g → (area : Area) → Kept area f run g
-  kept {f} {g} (one {area = c} {a = a} x) area = before area a f g g [] (none area g) c (moves x)
-  kept {f = f} {g = h} (more {area = c} {a = a} {g = g} {run = run} x rest) area = before area a f g h run (kept rest area) c (moves x)
+  totals : {f g : Frame} {run : List Charge} → LoadsAndStores S f run g → (area : Area) → Totals area f run g
+  totals {f} {g} (one {area = c} {a = a} x) area = before area a f g g [] (none area g) c (paid x)
+  totals {f = f} {g = h} (more {area = c} {a = a} {g = g} {run = run} x rest) area = before area a f g h run (totals rest area) c (paid x)
 
-  gas : {f g : Frame} {run : List Charge} → Accesses S f run g → sumOf Heap run + sumOf Aux run + g .gas ≡ f .gas
-  gas {f} {g} (one {area = c} {a = a} x) = gas-before c a f g g [] (moves x) (gas-none g)
-  gas {f = f} {g = h} (more {area = c} {a = a} {g = g} {run = run} x rest) = gas-before c a f g h run (moves x) (gas rest)
+  gas : {f g : Frame} {run : List Charge} → LoadsAndStores S f run g → sumOf Heap run + sumOf Aux run + g .gas ≡ f .gas
+  gas {f} {g} (one {area = c} {a = a} x) = gas-before c a f g g [] (paid x) (gas-none g)
+  gas {f = f} {g = h} (more {area = c} {a = a} {g = g} {run = run} x rest) = gas-before c a f g h run (paid x) (gas rest)
 
   pub growth-adds-up : GrowthAddsUp S
-  growth-adds-up = record { areas = λ r area. adds-up (kept r area); gas = gas }
+  growth-adds-up = record { areas = λ r area. adds-up (totals r area); gas = gas }

@@ -22,23 +22,16 @@ use Rattle.view.specs.View.{viewOf}
 use Rattle.view.specs.Instructions.{Operand, Given, panic, loaded}
 use Rattle.view.specs.Calls.{Value, given, Load, answerOf}
 use Rattle.plain.specs.Claim.{Steps}
-use Rattle.growth.specs.Quotes.{LoadsMeet, Loads, none, more, ends, QuoteOfLoads}
-use Rattle.growth.proofs.Carried.{frameOf, load-paid}
+use Rattle.growth.specs.Meet.{LoadsAndStoresMeet}
+use Rattle.growth.specs.Quotes.{Loads, none, more, ends, QuoteOfLoads}
+use Rattle.growth.proofs.Carried.{frameTold, load-paid, growthOf, on-frame, paid-is}
 
--- ---- an access on a frame is one on its gas and its area's bound
-abbrev growthOf : Area → Frame → Bool → Growth
-growthOf area f paid = record { gas = f .gas; bound = boundOf f area; paid = paid }
-
-on-frame : (area : Area) (f : Frame) (x : ℕ) → accessed (f .gas) (boundOf f area) x ≡ growthOf area (frameAccessed f area x .frame) (frameAccessed f area x .paid)
-on-frame Heap f x = refl
-on-frame Aux f x = refl
-
--- a panic's mark is neither
+-- ---- what a load tells
+-- a panic's mark is neither gas nor bound
 marks-neither : (area : Area) (f : Frame) (b : Bool) → growthOf area (panic f .frame) b ≡ growthOf area f b
 marks-neither Heap f b = refl
 marks-neither Aux f b = refl
 
--- ---- what a load tells
 abbrev isPanic : Outcome Value → Bool
 isPanic (refused n) = false
 isPanic (panicked v) = true
@@ -53,9 +46,7 @@ module _ (m : Mem) (area : Area) (f : Frame) (x : Operand) (r : Given) where
   answer b p = cond (not b) (refused 3) (cond (not p) (panicked (given (panic after))) (done (given (loaded (viewOf m) area f x))))
 
   carried-out : done (given r) ≡ answerOf m (Load area f x) → growthOf area (r .frame) true ≡ accessed (f .gas) (boundOf f area) (x .word)
-  carried-out e =
-      let k = load-paid m area f x r e in
-      ap (λ (g : Frame). growthOf area g true) (k .frame) ∙ ap (growthOf area after) (sym (k .paid)) ∙ sym (on-frame area f (x .word))
+  carried-out e = paid-is area (x .word) f (r .frame) (load-paid m area f x r e)
 
   panics : panicked (given r) ≡ answerOf m (Load area f x) → growthOf area (r .frame) false ≡ accessed (f .gas) (boundOf f area) (x .word)
   panics = go (wellFormed m) (frameAccessed f area (x .word) .paid) refl
@@ -63,7 +54,7 @@ module _ (m : Mem) (area : Area) (f : Frame) (x : Operand) (r : Given) where
       go : (b p : Bool) → frameAccessed f area (x .word) .paid ≡ p → panicked (given r) ≡ answer b p → growthOf area (r .frame) false ≡ accessed (f .gas) (boundOf f area) (x .word)
       go false p q e = absurd (false≢true (sym (ap isPanic e)))
       go true false q e =
-          ap (λ (o : Outcome Value). growthOf area (frameOf f o) false) e
+          ap (λ (o : Outcome Value). growthOf area (frameTold f o) false) e
           ∙ marks-neither area after false ∙ ap (growthOf area after) (sym q) ∙ sym (on-frame area f (x .word))
       go true true q e = absurd (false≢true (sym (ap isPanic e)))
 
@@ -72,7 +63,7 @@ module _ (m : Mem) (area : Area) (f : Frame) (x : Operand) (r : Given) where
 abbrev from : (gas : ℕ) → List ℕ → ℕ → Growth → RunEnd
 from gas list at g = cond (g .paid) (walked gas list (g .gas) (g .bound) (suc at)) (endOf gas (g .gas) (g .bound) at)
 
-module _ (S : Steps) (I : LoadsMeet S) {area : Area} where
+module _ (S : Steps) (I : LoadsAndStoresMeet S) {area : Area} where
   falls : {f g : Frame} {list : List ℕ} {n : ℕ} → Loads S area f list n g → g .gas ≤ f .gas
   falls none = omega arith
   falls {f} (more {m} {x = x} {r = r} s rest) =
@@ -109,5 +100,5 @@ module _ (S : Steps) (I : LoadsMeet S) {area : Area} where
       let e : 0 + n ≡ n = omega arith in
       rw (le-ltb 4096 (length list) few) (ap (λ (end : RunEnd). done end) (walks (f .gas) l 0 ∙ ap (endOf (f .gas) (g .gas) (boundOf g area)) e))
 
-pub quote-of-loads : (S : Steps) → LoadsMeet S → QuoteOfLoads S
+pub quote-of-loads : (S : Steps) → LoadsAndStoresMeet S → QuoteOfLoads S
 quote-of-loads S I = record { equals = λ {area = area} few l. equals S I {area = area} few l; falls = λ {area = area} l. falls S I {area = area} l; empties = λ {area = area} l k. empties S I {area = area} l k }

@@ -1,47 +1,43 @@
--- GROWTH ADDS UP over every run of loads and stores in one frame. As the claim about lists it is stated of any relation S:
--- `S m c o m'` says that the call c, lent the buffers m, may have the outcome o and leave the buffers m' (plain/specs/Claim.antt).
+-- GROWTH ADDS UP over every run of loads and stores in one frame, of any relation S (plain/specs/Claim.antt says what S is).
 -- Assumes nothing.
 use mathlib.Core.Path.{_≡_}
 use mathlib.Core.Bool.{Bool, true, false, cond}
 use mathlib.Core.List.{List, [], _∷_}
 use Prim.Native.Nat.{ℕ, _+_, _-_, _≤_, max}
-use Rattle.outcome.specs.Outcome.{Outcome, done}
+use Rattle.outcome.specs.Outcome.{done}
 use Rattle.state.specs.declared.Frame.{Frame}
 use Rattle.state.specs.declared.Area.{Area}
 use Rattle.state.specs.declared.Area.the-variants.{Heap, Aux}
 use Rattle.state.specs.Access.{boundOf}
 use Rattle.store.specs.Mem.{Mem}
 use Rattle.view.specs.Instructions.{Operand, Hook, Given}
-use Rattle.view.specs.Calls.{Value, Load, Store, given, CallDoes}
+use Rattle.view.specs.Calls.{Load, Store, given}
 use Rattle.plain.specs.Claim.{Steps}
 
--- what is known of S: a store meets its contract on any buffers, well formed or not; `LoadsMeet` in Quotes.antt is the same of a load
-pub record StoresMeet (S : Steps) : Type 0 where
-  pub stores : {m m' : Mem} {area : Area} {f : Frame} {x : Operand} {n : ℕ} {h : Hook} {o : Outcome Value} → S m (Store area f x n h) o m' → CallDoes m (Store area f x n h) o m'
-
 -- ---- runs
--- AN ACCESS: a load or a store of an area at an address, on any memory. It is given the frame f and leaves the frame g. It neither panics nor is
--- refused; a store that stops on the hook does neither
-pub data Access (S : Steps) : (area : Area) (address : ℕ) (f g : Frame) → Type 0 where
-  by-load : {m m' : Mem} {area : Area} {f : Frame} {x : Operand} {r : Given} → S m (Load area f x) (done (given r)) m' → Access S area (x .word) f (r .frame)
+-- A LOAD OR STORE that neither panics nor is refused, of an area at an address, on any memory. It is given the frame f and leaves the frame g.
+-- A store that stops on the hook is carried out, so it is one too
+pub data LoadOrStore (S : Steps) : (area : Area) (address : ℕ) (f g : Frame) → Type 0 where
+  by-load : {m m' : Mem} {area : Area} {f : Frame} {x : Operand} {r : Given} → S m (Load area f x) (done (given r)) m' → LoadOrStore S area (x .word) f (r .frame)
   by-store : {m m' : Mem} {area : Area} {f : Frame} {x : Operand} {n : ℕ} {h : Hook} {r : Given}
-      → S m (Store area f x n h) (done (given r)) m' → Access S area (x .word) f (r .frame)
+      → S m (Store area f x n h) (done (given r)) m' → LoadOrStore S area (x .word) f (r .frame)
 
--- what a run tells of an access: its area, its address, and the amount of its charge
+-- its charge: the area, the address, and the amount
 pub record Charge : Type 0 where
   pub area : Area
   pub address : ℕ
   pub amount : ℕ
 
--- the charge is the gas that the access is given less the gas that it leaves
+-- the amount is the gas given less the gas left
 abbrev pub chargeOf : Area → ℕ → Frame → Frame → Charge
 chargeOf area address f g = record { area = area; address = address; amount = f .gas - g .gas }
 
--- A RUN: one or more accesses from the frame f to the frame g, each given the frame that the last one left. Each may be lent another memory, so other
--- calls may come between
-pub data Accesses (S : Steps) : (f : Frame) (run : List Charge) (g : Frame) → Type 0 where
-  one : {area : Area} {a : ℕ} {f g : Frame} → Access S area a f g → Accesses S f (chargeOf area a f g ∷ []) g
-  more : {area : Area} {a : ℕ} {f g h : Frame} {run : List Charge} → Access S area a f g → Accesses S g run h → Accesses S f (chargeOf area a f g ∷ run) h
+-- A RUN: one or more of them, from the frame f to the frame g, each given the frame that the last one left; with their charges. Each may be lent another
+-- memory, so calls that leave this frame as it is may come between
+pub data LoadsAndStores (S : Steps) : (f : Frame) (run : List Charge) (g : Frame) → Type 0 where
+  one : {area : Area} {a : ℕ} {f g : Frame} → LoadOrStore S area a f g → LoadsAndStores S f (chargeOf area a f g ∷ []) g
+  more : {area : Area} {a : ℕ} {f g h : Frame} {run : List Charge}
+      → LoadOrStore S area a f g → LoadsAndStores S g run h → LoadsAndStores S f (chargeOf area a f g ∷ run) h
 
 -- ---- one area of a run
 abbrev pub sameArea : Area → Area → Bool
@@ -60,6 +56,7 @@ unfoldable pub addresses : Area → List Charge → List ℕ
 addresses area [] = []
 addresses area (c ∷ run) = cond (sameArea area (c .area)) (c .address ∷ addresses area run) (addresses area run)
 
+-- the highest of them; `lastBound` takes it only where there is one
 unfoldable pub highest : List ℕ → ℕ
 highest [] = 0
 highest (a ∷ list) = max a (highest list)
@@ -71,15 +68,16 @@ lastBound first (a ∷ list) = max first (highest (a ∷ list) + 32)
 
 -- ---- THE CLAIM
 pub record AddsUp (area : Area) (f : Frame) (run : List Charge) (g : Frame) : Type 0 where
-  -- the charges sum to the last bound less the first, which is not above it
+  -- the charges sum to the last bound less the first
   pub sum : sumOf area run ≡ boundOf g area - boundOf f area
-  pub rises : boundOf f area ≤ boundOf g area
+  -- the first is not above the last, so this is a true difference
+  pub ordered : boundOf f area ≤ boundOf g area
   pub last : boundOf g area ≡ lastBound (boundOf f area) (addresses area run)
   -- numbers have any size here: this follows from the operand limit
-  pub fits : sumOf area run ≤ 4294967295
+  pub limit : sumOf area run ≤ 4294967295
 
 pub record GrowthAddsUp (S : Steps) : Type 0 where
   -- heap and aux taken separately
-  pub areas : {f g : Frame} {run : List Charge} → Accesses S f run g → (area : Area) → AddsUp area f run g
+  pub areas : {f g : Frame} {run : List Charge} → LoadsAndStores S f run g → (area : Area) → AddsUp area f run g
   -- both sums and the gas left make the gas given
-  pub gas : {f g : Frame} {run : List Charge} → Accesses S f run g → sumOf Heap run + sumOf Aux run + g .gas ≡ f .gas
+  pub gas : {f g : Frame} {run : List Charge} → LoadsAndStores S f run g → sumOf Heap run + sumOf Aux run + g .gas ≡ f .gas

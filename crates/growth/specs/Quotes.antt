@@ -1,23 +1,18 @@
--- A QUOTE IS WHAT ITS LOADS PAY, one after another, a panicking one included. As the claim about lists it is stated of any relation S:
--- `S m c o m'` says that the call c, lent the buffers m, may have the outcome o and leave the buffers m' (plain/specs/Claim.antt).
+-- A QUOTE IS WHAT ITS LOADS PAY, one after another, a panicking one included, of any relation S (plain/specs/Claim.antt says what S is).
 -- Assumes nothing.
 use mathlib.Core.Path.{_≡_}
 use mathlib.Core.List.{List, [], _∷_}
 use Prim.Native.Nat.{ℕ, suc, _≤_, _<_}
 use lib.ListN.{length}
-use Rattle.outcome.specs.Outcome.{Outcome, panicked, done}
+use Rattle.outcome.specs.Outcome.{panicked, done}
 use Rattle.state.specs.declared.Frame.{Frame}
 use Rattle.state.specs.declared.Area.{Area}
 use Rattle.state.specs.Access.{boundOf}
 use Rattle.state.specs.Quote.{endOf, quoted}
 use Rattle.store.specs.Mem.{Mem}
 use Rattle.view.specs.Instructions.{Operand, Given}
-use Rattle.view.specs.Calls.{Value, Load, given, CallDoes}
+use Rattle.view.specs.Calls.{Load, given}
 use Rattle.plain.specs.Claim.{Steps}
-
--- what is known of S: a load meets its contract on any buffers, well formed or not
-pub record LoadsMeet (S : Steps) : Type 0 where
-  pub loads : {m m' : Mem} {area : Area} {f : Frame} {x : Operand} {o : Outcome Value} → S m (Load area f x) o m' → CallDoes m (Load area f x) o m'
 
 -- Loads of one area at the addresses of a list, one after another, up to the first that panics: each is given the frame that the last one left, and any
 -- memory. The first frame is f and the last one g; n loads were carried out, so n is the position of the one that panicked, or the list's length

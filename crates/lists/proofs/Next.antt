@@ -88,9 +88,9 @@ begins {m} {s} {calldata} narrow asks room =
     let step = subst (λ (o : Outcome Value). Step m (Open s calldata) o (g .after)) e (g .step) in
     record { start = g .after; step = step; started = by-opening step }
 
--- the smallest memory, of one chunk and one page beside the fixed ones
+-- a small memory, of two chunks and two pages beside the fixed ones
 abbrev pub small : Setting
-small = setting (layoutFrom 0 1 2 3 4 4) 1 1 0
+small = setting (layoutFrom 0 1 2 3 4 4) 2 2 0
 
 abbrev buffers : Mem
 buffers = mem (replicate (bytesLength small) 0) (replicate (keysLength small) 0) (replicate (orderLength small) 0) (replicate (wordsLength small) 0)

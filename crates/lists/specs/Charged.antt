@@ -2,15 +2,14 @@
 -- loads pay, and that growth adds up over every run of loads and stores. No hypothesis is left.
 -- Assumes nothing.
 use mathlib.Core.Path.{_≡_}
-use mathlib.Core.Bool.{true, false}
-use mathlib.Core.List.{List, [], _∷_}
+use mathlib.Core.Bool.{true}
+use mathlib.Core.List.{List}
 use Prim.Native.Nat.{ℕ, _≤_}
 use lib.ListN.{length}
 use denote.Ref.{now}
 use Rattle.outcome.specs.Outcome.{done, carriedOut}
 use Rattle.state.specs.declared.Frame.{Frame}
 use Rattle.state.specs.declared.Area.{Area}
-use Rattle.state.specs.declared.Area.the-variants.{Heap, Aux}
 use Rattle.state.specs.Access.{boundOf, frameAccessed}
 use Rattle.state.specs.Quote.{endOf, told}
 use Rattle.state.proofs.quote.quote.Kinds as quote-kinds
@@ -20,11 +19,12 @@ use Rattle.instructions.proofs.load.Statement as load-says
 use Rattle.instructions.proofs.store.Statement as store-says
 use Rattle.store.specs.Mem.{Mem}
 use Rattle.formed.specs.Formed.{wellFormed}
-use Rattle.view.specs.Instructions.{Operand, Hook, Given, onHook, heapOf}
-use Rattle.view.specs.Calls.{Store, given, answerOf}
+use Rattle.view.specs.Instructions.{Operand, Hook, heapOf}
+use Rattle.view.specs.Calls.{Store, answerOf}
 use Rattle.growth.specs.Quotes.{Loads, QuoteOfLoads}
-use Rattle.growth.specs.Charges.{Access, Charge, Accesses, GrowthAddsUp}
+use Rattle.growth.specs.Charges.{LoadOrStore, GrowthAddsUp}
 use Rattle.lists.specs.Steps.{Went, Step}
+use Rattle.lists.specs.Worked.{Worked}
 
 -- a call of `quote`, as its contract tells it: its list, gas and bound
 abbrev pub Quote : Type 0
@@ -52,40 +52,6 @@ pub record QuoteExists (list : List ℕ) (gas bound : ℕ) : Type 0 where
   pub gas-is : gasOf quote ≡ gas
   pub bound-is : firstBound quote ≡ bound
 
--- there is a store that stops on the hook and is carried out
-pub record StopExists : Type 0 where
-  pub before : Mem
-  pub after : Mem
-  pub area : Area
-  pub frame : Frame
-  pub operand : Operand
-  pub value : ℕ
-  pub hook : Hook
-  pub result : Given
-  pub step : Step before (Store area frame operand value hook) (done (given result)) after
-  pub stop : result .stop ≡ onHook value
-
--- ---- a run worked out by hand
-abbrev pub workedFrame : (gas heap aux : ℕ) → Frame
-workedFrame gas heap aux = record { gas = gas; heap = record { 0 = 6 }; aux = record { 0 = 7 }; «heap_bound» = heap; «aux_bound» = aux; panicked = false }
-
-abbrev pub firstFrame : Frame
-firstFrame = workedFrame 1000 4096 0
-
--- area, address and charge
-abbrev pub workedRun : List Charge
-workedRun =
-    record { area = Heap; address = 4064; amount = 0 }
-    ∷ record { area = Aux; address = 0; amount = 32 }
-    ∷ record { area = Heap; address = 4065; amount = 1 }
-    ∷ record { area = Heap; address = 10; amount = 0 }
-    ∷ record { area = Aux; address = 100; amount = 100 }
-    ∷ record { area = Aux; address = 50; amount = 0 }
-    ∷ []
-
-abbrev pub lastFrame : Frame
-lastFrame = workedFrame 867 4097 132
-
 pub record Charged : Type 2 where
   pub quote : {M : Type 1} → quote-says.statement M
   pub load : {M : Type 1} → load-says.statement M
@@ -105,13 +71,11 @@ pub record Charged : Type 2 where
   pub asked : (list : List ℕ) (gas bound : ℕ) → QuoteExists list gas bound
   -- ---- growth adds up
   pub adds-up : GrowthAddsUp Step
-  -- There are such runs. An access that is paid is made by a load on every well-formed memory
+  -- there are such runs: a load whose access is paid is carried out on every well-formed memory
   pub by-loads : (m : Mem) → wellFormed m ≡ true → (area : Area) (f : Frame) (x : ℕ) → frameAccessed f area x .paid ≡ true
-      → Access Step area x f (frameAccessed f area x .frame)
-  -- and by every store that the definition carries out, to a page of 32 bits
+      → LoadOrStore Step area x f (frameAccessed f area x .frame)
+  -- a store to a page of 32 bits that the definition carries out has a step
   pub by-stores : (m : Mem) (area : Area) (f : Frame) (x : Operand) (n : ℕ) (h : Hook) → heapOf f area ≤ 4294967295
-      → carriedOut (answerOf m (Store area f x n h)) ≡ true → Access Step area (x .word) f (frameAccessed f area (x .word) .frame)
-  -- there are stores that stop on the hook
-  pub stops : StopExists
-  -- the run worked out by hand
-  pub worked : Accesses Step firstFrame workedRun lastFrame
+      → carriedOut (answerOf m (Store area f x n h)) ≡ true → LoadOrStore Step area (x .word) f (frameAccessed f area (x .word) .frame)
+  -- one of them, worked out by hand
+  pub worked : Worked

@@ -1,1 +1,1 @@
-// The claim of document 01 about every list of calls, of the code's own calls: specs/ states it. There is no code here.
+// The claim of document 01 about every list of calls, and what loads and stores pay, of the code's own calls: specs/ states both. There is no code here.

@@ -1,0 +1,119 @@
+-- The run worked out by hand, on the small memory of Next.
+-- Assumes nothing.
+use mathlib.Core.Path.{_≡_, refl, ap, _∙_}
+use mathlib.Core.Bool.{true}
+use mathlib.Core.List.{[]}
+use Prim.Native.Nat.{ℕ, _≤_}
+use native.Mathlib.Omega.{arith}
+use Rattle.outcome.specs.Outcome.{done, carriedOut}
+use Rattle.word.specs.Value.{digits}
+use Rattle.state.specs.declared.Frame.{Frame}
+use Rattle.state.specs.declared.Area.{Area}
+use Rattle.state.specs.declared.Area.the-variants.{Heap, Aux}
+use Rattle.state.specs.Access.{frameAccessed}
+use Rattle.store.specs.Mem.{Mem}
+use Rattle.formed.specs.Pages.{fixed, dynamic}
+use Rattle.formed.specs.Formed.{wellFormed}
+use Rattle.formed.proofs.Meaning.{well-formed-passes}
+use Rattle.view.specs.Steps.{missing}
+use Rattle.view.specs.Checks.{undecodable, overfull}
+use Rattle.view.specs.Does.{Shows}
+use Rattle.view.specs.Instructions.{Given, heapOf, stored}
+use Rattle.view.specs.Calls.{Call, Load, Store, given, outcomeOf, answerOf}
+use Rattle.plain.specs.Plain.{Plain, has, hold, member, fresh, follow, seen}
+use Rattle.plain.specs.Claim.{Run, Any, none, more}
+use Rattle.plain.proofs.Good.{never}
+use Rattle.growth.specs.Charges as growth
+use Rattle.lists.specs.Steps.{Step}
+use Rattle.lists.specs.Goes.{Goes}
+use Rattle.lists.specs.Worked.{Leaves, at, hook, frame, Worked}
+use Rattle.lists.proofs.Carried.{load-leaves, store-goes, leaves-load, leaves-store}
+use Rattle.lists.proofs.Next.{answer-is, small, small-begins}
+use Rattle.lists.proofs.Theorem.{theorem}
+
+-- ---- lists on this memory
+abbrev pub m₀ : Mem
+m₀ = small-begins .start
+
+abbrev p₀ : Plain
+p₀ = fresh small []
+
+pub begun : Run Step Any small m₀ p₀ m₀ p₀
+begun = none
+
+module _ {m : Mem} {p : Plain} (r : Run Step Any small m₀ p₀ m p) where
+  shows : Shows small (seen small p) m
+  shows = theorem .lists (small-begins .started) r .shows
+
+  pub formed : wellFormed m ≡ true
+  formed = well-formed-passes m (shows .formed)
+
+  loads : (area : Area) (f : Frame) (x : ℕ) → frameAccessed f area x .paid ≡ true → Leaves m (Load area f (at x)) (frameAccessed f area x .frame) m
+  loads area f x e = load-leaves m formed area f x e
+
+  stores : (area : Area) (f : Frame) (x : ℕ) → heapOf f area ≤ 4294967295 → carriedOut (outcomeOf small (Store area f (at x) 7 hook) (seen small p)) ≡ true
+      → Goes m (Store area f (at x) 7 hook) (done (given (stored area f (at x) 7 hook)))
+  stores area f x page e = store-goes m area f (at x) 7 hook page (ap carriedOut (answer-is shows (Store area f (at x) 7 hook)) ∙ e)
+
+abbrev leaves : {m : Mem} {c : Call} {r : Given} (g : Goes m c (done (given r))) → Leaves m c (r .frame) (g .after)
+leaves {r = r} g = record { result = r; step = g .step; frame = refl }
+
+-- ---- the first store
+abbrev store-0 : Call
+store-0 = Store Aux (frame 1000 4096 0) (at 0) 7 hook
+
+abbrev p₁ : Plain
+p₁ = follow (small .layout) store-0 p₀
+
+room-0 : carriedOut (outcomeOf small store-0 (seen small p₀)) ≡ true
+unfolding fixed dynamic missing undecodable overfull has hold member
+room-0 = refl
+
+stored-0 : Goes m₀ store-0 (done (given (stored Aux (frame 1000 4096 0) (at 0) 7 hook)))
+stored-0 = stores begun Aux (frame 1000 4096 0) 0 (omega arith) room-0
+
+after-0 : Run Step Any small m₀ p₀ (stored-0 .after) p₁
+after-0 = more begun (stored-0 .step) (λ t calldata e. absurd (never (cc))) tt
+
+-- ---- the second store
+abbrev store-10 : Call
+store-10 = Store Heap (frame 967 4097 32) (at 10) 7 hook
+
+room-10 : carriedOut (outcomeOf small store-10 (seen small p₁)) ≡ true
+unfolding digits fixed dynamic missing undecodable overfull has hold member
+room-10 = refl
+
+stored-10 : Goes (stored-0 .after) store-10 (done (given (stored Heap (frame 967 4097 32) (at 10) 7 hook)))
+stored-10 = stores after-0 Heap (frame 967 4097 32) 10 (omega arith) room-10
+
+after-10 : Run Step Any small m₀ p₀ (stored-10 .after) (follow (small .layout) store-10 p₁)
+after-10 = more after-0 (stored-10 .step) (λ t calldata e. absurd (never (cc))) tt
+
+-- ---- the run
+pub worked : Worked
+worked =
+    let load-4064 = loads begun Heap (frame 1000 4096 0) 4064 refl in
+    let store-0 = leaves stored-0 in
+    let load-4065 = loads after-0 Heap (frame 968 4096 32) 4065 refl in
+    let store-10 = leaves stored-10 in
+    let load-100 = loads after-10 Aux (frame 967 4097 32) 100 refl in
+    let load-50 = loads after-10 Aux (frame 867 4097 132) 50 refl in
+    record {
+      m₀ = m₀;
+      m₁ = stored-0 .after;
+      m₂ = stored-10 .after;
+      load-4064 = load-4064;
+      store-0 = store-0;
+      load-4065 = load-4065;
+      store-10 = store-10;
+      load-100 = load-100;
+      load-50 = load-50;
+      stops = refl;
+      run =
+          growth.more (leaves-load load-4064)
+          (growth.more (leaves-store store-0)
+          (growth.more (leaves-load load-4065)
+          (growth.more (leaves-store store-10)
+          (growth.more (leaves-load load-100)
+          (growth.one (leaves-load load-50))))));
+    }

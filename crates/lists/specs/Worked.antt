@@ -1,0 +1,60 @@
+-- A RUN WORKED OUT BY HAND: six loads and stores on one memory, each given the frame and the memory that the last one left.
+-- Assumes nothing.
+use mathlib.Core.Path.{_≡_}
+use mathlib.Core.Bool.{true, false}
+use mathlib.Core.List.{List, [], _∷_}
+use Prim.Native.Nat.{ℕ}
+use Rattle.outcome.specs.Outcome.{done}
+use Rattle.state.specs.declared.Frame.{Frame}
+use Rattle.state.specs.declared.Area.the-variants.{Heap, Aux}
+use Rattle.store.specs.Mem.{Mem}
+use Rattle.view.specs.Instructions.{Operand, Hook, Given, onHook}
+use Rattle.view.specs.Calls.{Call, Load, Store, given}
+use Rattle.growth.specs.Charges.{Charge, LoadsAndStores}
+use Rattle.lists.specs.Steps.{Step}
+
+-- a call that is carried out and leaves the frame g
+pub record Leaves (m : Mem) (c : Call) (g : Frame) (m' : Mem) : Type 0 where
+  pub result : Given
+  pub step : Step m c (done (given result)) m'
+  pub frame : result .frame ≡ g
+
+-- an operand without a tag
+abbrev pub at : ℕ → Operand
+at address = record { word = address; tag = false }
+
+-- every store has this hook
+abbrev pub hook : Hook
+hook = record { on = true; address = 10 }
+
+-- pages 6 and 7 are the heap and the aux page of a group
+abbrev pub frame : (gas heap aux : ℕ) → Frame
+frame gas heap aux = record { gas = gas; heap = record { 0 = 6 }; aux = record { 0 = 7 }; «heap_bound» = heap; «aux_bound» = aux; panicked = false }
+
+-- their charges
+abbrev pub charges : List Charge
+charges =
+    record { area = Heap; address = 4064; amount = 0 }
+    ∷ record { area = Aux; address = 0; amount = 32 }
+    ∷ record { area = Heap; address = 4065; amount = 1 }
+    ∷ record { area = Heap; address = 10; amount = 0 }
+    ∷ record { area = Aux; address = 100; amount = 100 }
+    ∷ record { area = Aux; address = 50; amount = 0 }
+    ∷ []
+
+pub record Worked : Type 0 where
+  -- the memory at the beginning and after each store
+  pub m₀ : Mem
+  pub m₁ : Mem
+  pub m₂ : Mem
+  -- the calls
+  pub load-4064 : Leaves m₀ (Load Heap (frame 1000 4096 0) (at 4064)) (frame 1000 4096 0) m₀
+  pub store-0 : Leaves m₀ (Store Aux (frame 1000 4096 0) (at 0) 7 hook) (frame 968 4096 32) m₁
+  pub load-4065 : Leaves m₁ (Load Heap (frame 968 4096 32) (at 4065)) (frame 967 4097 32) m₁
+  pub store-10 : Leaves m₁ (Store Heap (frame 967 4097 32) (at 10) 7 hook) (frame 967 4097 32) m₂
+  pub load-100 : Leaves m₂ (Load Aux (frame 967 4097 32) (at 100)) (frame 867 4097 132) m₂
+  pub load-50 : Leaves m₂ (Load Aux (frame 867 4097 132) (at 50)) (frame 867 4097 132) m₂
+  -- the store at 10 stops on the hook
+  pub stops : store-10 .result .stop ≡ onHook 7
+  -- they are a run
+  pub run : LoadsAndStores Step (frame 1000 4096 0) charges (frame 867 4097 132)

@@ -40,6 +40,48 @@ impl Area {
 /// assert!(!frame.grow_heap(Area::Aux, 5000));
 /// assert_eq!((frame.gas, frame.aux_bound), (0, 4096));
 /// ```
+///
+/// Growth adds up. Take loads and stores, each given the frame that the last one left, none of
+/// which panics. What they pay for the heap is what the heap's bound rose by, and the same holds
+/// for the aux heap. So a running total ends at the final charge. A refused call changes nothing.
+///
+/// ```
+/// # use zincpapaya::{Area, Capacity, Error, Frame, Heaps, Layout, PageId};
+/// # fn main() -> Result<(), Error> {
+/// # let layout = Layout {
+/// #     static_memory: PageId(1),
+/// #     calldata: PageId(4),
+/// #     bootloader_heap: PageId(5),
+/// #     bootloader_aux: PageId(6),
+/// #     base: 64,
+/// #     stride: 8,
+/// # };
+/// let heaps = Heaps::open(layout, Capacity { chunks: 4, pages: 2, journal_words: 0 }, &[])?;
+/// let first = Frame {
+///     gas: 1000,
+///     heap: PageId(66),
+///     aux: PageId(67),
+///     heap_bound: 4096,
+///     aux_bound: 0,
+///     panicked: false,
+/// };
+/// let mut frame = first;
+/// let (mut heap_total, mut aux_total) = (0, 0);
+/// for (area, address) in [(Area::Heap, 4065), (Area::Aux, 100), (Area::Aux, 50)] {
+///     let gas = frame.gas;
+///     heaps.load(&mut frame, area, address.into())?;
+///     match area {
+///         Area::Heap => heap_total += gas - frame.gas,
+///         Area::Aux => aux_total += gas - frame.gas,
+///     }
+/// }
+/// assert!(!frame.panicked);
+/// assert_eq!((heap_total, aux_total), (1, 132));
+/// assert_eq!(heap_total, frame.heap_bound - first.heap_bound);
+/// assert_eq!(aux_total, frame.aux_bound - first.aux_bound);
+/// # Ok(())
+/// # }
+/// ```
 #[derive(Debug, Clone, Copy, PartialEq, Eq, Hash)]
 pub struct Frame {
     /// The gas that is left.

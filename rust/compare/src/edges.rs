@@ -1,21 +1,32 @@
 //! Document 01's edges, as one list of calls for each layout: chunk edges, the top of a page, windows, pointers, bounds, the
 //! hook, marks, and the refusals of pages. Random lists come near all of them, but need not meet each on every layout.
+//! A second list for each layout has runs of loads and stores, each given the frame that the last one left.
 
 use oracle::{Area, Call, Frame, HeapInstruction, Kind, Layout, Operand, PageIds, Place, Word};
 
-use crate::{generate::pattern, list::Step, ours::LAST_CHUNK};
+use crate::{
+    generate::pattern,
+    list::{Handed, Step},
+    model::{place, Model},
+    ours::LAST_CHUNK,
+};
 
 const LAST_BYTE: u32 = u32::MAX;
 /// The highest operand that loads and stores take.
 const LAST_OPERAND: u64 = 4_294_967_263;
 const FREE: Frame = Frame { gas: u32::MAX, heap: 0, aux: 0, heap_bound: 0, aux_bound: 0 };
 
-/// The calls, all on the first memory.
-pub fn edges(layout: &Layout) -> Vec<Step> {
-    let [heap, aux] = [Kind::Heap, Kind::Aux].map(|kind| {
+/// Heap and aux heap of the first group.
+fn first_group(layout: &Layout) -> [u32; 2] {
+    [Kind::Heap, Kind::Aux].map(|kind| {
         let place = Place::Dynamic { group: 0, kind };
         layout.id(place).expect("every layout has a group 0")
-    });
+    })
+}
+
+/// The calls, all on the first memory.
+pub fn edges(layout: &Layout) -> Vec<Step> {
+    let [heap, aux] = first_group(layout);
     let mut calls = pages(layout, heap);
     for page in [layout.bootloader_heap, layout.static_memory, heap] {
         calls.extend(words(page));
@@ -213,4 +224,143 @@ fn top(page: u32) -> Vec<Call> {
         Call::CompactToWindow { page, start: 0, length: u32::MAX },
         Call::Chunk { page, number: LAST_CHUNK },
     ]
+}
+
+/// An instruction, and the frame that it is given; none where that is the frame that the instruction
+/// before it left.
+pub type Link = (Option<Frame>, HeapInstruction);
+
+/// Runs of loads and stores, with what may come between them. They are no part of the stored answers.
+pub fn runs(layout: &Layout) -> Vec<Link> {
+    let [heap, aux] = first_group(layout);
+    let frame = Frame { gas: 1000, heap, aux, ..FREE };
+    let no_page = (0..).find(|page| place(layout, *page).is_none());
+    let no_page = no_page.expect("every layout has ids that are no pages");
+    let mut links = Vec::from(worked(heap, aux));
+    for (area, other) in [(Area::Heap, Area::Aux), (Area::Aux, Area::Heap)] {
+        let free = Frame { heap, aux, ..FREE };
+        links.extend(linked(free, largest_at_once(area, other)));
+        links.extend(linked(free, largest_by_steps(area)));
+    }
+    let met = Frame { gas: 7, heap_bound: u32::MAX, aux_bound: u32::MAX, ..frame };
+    links.extend(linked(met, nothing_due()));
+    links.extend(linked(Frame { aux: heap, ..frame }, both_areas()));
+    links.extend(linked(Frame { heap: no_page, ..frame }, both_areas()));
+    links.extend(linked(Frame { aux: no_page, ..frame }, both_areas()));
+    links.extend(linked(frame, stops()));
+    links.extend(linked(frame, between(heap)));
+    for ending in endings() {
+        links.extend(linked(Frame { gas: 40, ..frame }, ending));
+    }
+    links.extend(linked(frame, both_areas()));
+    links
+}
+
+/// Puts runs to the two memories in turn, since a run is of no one memory.
+pub fn steps(links: Vec<Link>) -> impl FnMut(&[Model; 2], Option<Handed>) -> Option<Step> {
+    let mut links = links.into_iter().zip([0, 1].into_iter().cycle());
+    move |_, left| {
+        let ((first, instruction), memory) = links.next()?;
+        let first = first.map(|frame| Handed { frame, marked: false });
+        let Handed { frame, marked } = first.or(left).expect("the instruction before left a frame");
+        Some(Step { memory, call: run(frame, instruction), marked })
+    }
+}
+
+/// Instructions of which each after the first is given the frame that the one before it left.
+fn linked(
+    first: Frame,
+    instructions: impl IntoIterator<Item = HeapInstruction>,
+) -> impl Iterator<Item = Link> {
+    let mut first = Some(first);
+    instructions.into_iter().map(move |instruction| (first.take(), instruction))
+}
+
+/// Charges of 0, 32, 1, 0, 100 and 0: the heap's bound ends at 4097, the aux heap's at 132, and 867
+/// gas is left.
+pub fn worked(heap: u32, aux: u32) -> [Link; 6] {
+    let frame = Frame { gas: 1000, heap, aux, heap_bound: 4096, aux_bound: 0 };
+    [
+        (Some(frame), load(Area::Heap, 4064)),
+        (None, store(Area::Aux, 0, value(1), None)),
+        (None, load(Area::Heap, 4065)),
+        (None, store(Area::Heap, 10, value(2), None)),
+        (None, load(Area::Aux, 100)),
+        (None, load(Area::Aux, 50)),
+    ]
+}
+
+/// The largest charge that there is. What follows costs nothing, up to a panic in the other area.
+fn largest_at_once(area: Area, other: Area) -> [HeapInstruction; 4] {
+    [
+        load(area, LAST_OPERAND),
+        store(area, 0, value(3), None),
+        load(area, LAST_OPERAND),
+        load(other, 0),
+    ]
+}
+
+/// The largest sum, by charges that are small at both ends.
+fn largest_by_steps(area: Area) -> [HeapInstruction; 5] {
+    [
+        load(area, 0),
+        store(area, 1, value(4), None),
+        load(area, LAST_OPERAND - 1),
+        load(area, LAST_OPERAND),
+        load(area, LAST_OPERAND),
+    ]
+}
+
+fn nothing_due() -> [HeapInstruction; 4] {
+    [
+        load(Area::Heap, LAST_OPERAND),
+        store(Area::Aux, 0, value(5), None),
+        load(Area::Aux, LAST_OPERAND),
+        store(Area::Heap, 64, value(6), None),
+    ]
+}
+
+/// Charges in both areas. On an id that is no page the loads pay, and the stores are refused.
+fn both_areas() -> [HeapInstruction; 6] {
+    [
+        load(Area::Heap, 0),
+        store(Area::Aux, 33, value(7), None),
+        store(Area::Heap, 64, value(8), None),
+        load(Area::Aux, 34),
+        load(Area::Heap, 65),
+        load(Area::Aux, 2),
+    ]
+}
+
+/// A stop on the hook, and a refused one.
+fn stops() -> [HeapInstruction; 5] {
+    let [fits, too_great] = [u64::from(u32::MAX), 1 << 32].map(|low| Word([low, 0, 0, 0]));
+    [
+        load(Area::Aux, 9),
+        store(Area::Heap, 40, fits, Some(40)),
+        store(Area::Heap, 80, too_great, Some(80)),
+        load(Area::Heap, 41),
+        store(Area::Aux, 10, value(9), None),
+    ]
+}
+
+/// Static and pointer instructions, which leave the frame as it is.
+fn between(page: u32) -> [HeapInstruction; 6] {
+    let pointer = Word([u64::from(page) << 32 | 3, 40 << 32, 0, 0]);
+    let operand = register(5000);
+    [
+        load(Area::Heap, 0),
+        HeapInstruction::LoadStatic { operand, increment: true },
+        load(Area::Heap, 1),
+        HeapInstruction::StoreStatic { operand, value: value(10), increment: true },
+        HeapInstruction::LoadPointer { word: pointer, tagged: true, increment: true },
+        store(Area::Aux, 10, value(11), None),
+    ]
+}
+
+/// Panics that end a run: by the gas, by the operand, and of a pointer without a tag.
+fn endings() -> [[HeapInstruction; 3]; 3] {
+    let untagged = HeapInstruction::LoadPointer { word: value(0), tagged: false, increment: true };
+    let ends = [load(Area::Heap, 9), load(Area::Aux, LAST_OPERAND + 1), untagged];
+    ends.map(|end| [load(Area::Heap, 0), store(Area::Heap, 8, value(12), None), end])
 }

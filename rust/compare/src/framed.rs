@@ -1,5 +1,6 @@
 //! Random calls with a frame: gas that suffices or is short by one, bounds that are met or passed by
-//! one, operands around their limit, with and without a tag.
+//! one, operands around their limit, with and without a tag. In lists that hand frames on, most
+//! instructions are given the frame that the last one left.
 
 use oracle::{Area, Call, Frame, HeapInstruction, Operand, Word};
 
@@ -43,6 +44,41 @@ impl Generator {
             _ => u32::MAX,
         };
         frame
+    }
+
+    /// The address of a load or store of an area. Where a frame was handed on, most addresses are
+    /// near its bound: some accesses pay, most of these little, so that many can.
+    fn accessed(&mut self, area: Area) -> u32 {
+        match self.handed {
+            Some(handed) if !self.rng.one_in(4) => {
+                let bound = area_of(&handed.frame, area).1;
+                let more = self.rng.pick(&[0, 1, 2, 3, 32, 33, 34]);
+                bound.saturating_sub(33).saturating_add(more)
+            }
+            _ => self.address(),
+        }
+    }
+
+    /// The frame of an instruction for this address of an area.
+    fn frame_of_instruction(&mut self, area: Area, address: u32) -> Frame {
+        match self.handed {
+            Some(handed) => handed.frame,
+            None if self.hands_on && !self.rng.one_in(4) => self.frame_for_many(area, address),
+            None => self.frame(area, address),
+        }
+    }
+
+    /// A frame with low bounds and with gas for many accesses.
+    fn frame_for_many(&mut self, area: Area, address: u32) -> Frame {
+        let gas = self.rng.pick(&[u32::MAX, 1_000, 4_000, 10_000]);
+        let mut bound = || match self.rng.below(6) {
+            0 | 1 => 0,
+            2 => 32,
+            3 => 4096,
+            _ => address.saturating_sub(self.rng.below32(300)),
+        };
+        let (heap_bound, aux_bound) = (bound(), bound());
+        Frame { gas, heap_bound, aux_bound, ..self.frame(area, address) }
     }
 
     /// An operand for this address; now and then one that is above the limit.
@@ -89,16 +125,18 @@ impl Generator {
     }
 
     pub(crate) fn load(&mut self, _: &Seen) -> Call {
-        let (area, address) = (self.area(), self.address());
-        let frame = self.frame(area, address);
+        let area = self.area();
+        let address = self.accessed(area);
+        let frame = self.frame_of_instruction(area, address);
         let (operand, increment) = (self.operand(address), self.increment());
         let instruction = HeapInstruction::Load { area, operand, increment };
         Call::Instruction { frame, instruction }
     }
 
     pub(crate) fn store(&mut self, _: &Seen) -> Call {
-        let (area, address) = (self.area(), self.address());
-        let frame = self.frame(area, address);
+        let area = self.area();
+        let address = self.accessed(area);
+        let frame = self.frame_of_instruction(area, address);
         let (operand, increment) = (self.operand(address), self.increment());
         let hook = match self.rng.below(12) {
             0 => Some(self.address()),
@@ -138,21 +176,23 @@ impl Generator {
             (word.0[2], word.0[3]) = (self.rng.next(), self.rng.pick(&[0, u64::MAX]));
         }
         let (tagged, increment) = (!self.rng.one_in(8), self.increment());
-        let frame = self.frame(Area::Heap, start);
+        let frame = self.frame_of_instruction(Area::Heap, start);
         let instruction = HeapInstruction::LoadPointer { word, tagged, increment };
         Call::Instruction { frame, instruction }
     }
 
     pub(crate) fn load_static(&mut self, _: &Seen) -> Call {
         let address = self.address();
-        let (frame, operand) = (self.frame(Area::Heap, address), self.operand(address));
+        let frame = self.frame_of_instruction(Area::Heap, address);
+        let operand = self.operand(address);
         let instruction = HeapInstruction::LoadStatic { operand, increment: self.increment() };
         Call::Instruction { frame, instruction }
     }
 
     pub(crate) fn store_static(&mut self, _: &Seen) -> Call {
         let address = self.address();
-        let (frame, operand) = (self.frame(Area::Heap, address), self.operand(address));
+        let frame = self.frame_of_instruction(Area::Heap, address);
+        let operand = self.operand(address);
         let (value, increment) = (self.word(), self.increment());
         let instruction = HeapInstruction::StoreStatic { operand, value, increment };
         Call::Instruction { frame, instruction }

@@ -3,11 +3,11 @@
 
 use std::collections::BTreeSet;
 
-use oracle::{Call, Kind, Layout, PageIds, Place, Pointer, Word};
+use oracle::{Call, Frame, Kind, Layout, PageIds, Place, Pointer, Word};
 use zincpapaya::Capacity;
 
 use crate::{
-    list::Step,
+    list::{Handed, Step},
     model::{self, Model, CHUNK, TOP},
     ours::LAST_CHUNK,
     rng::Rng,
@@ -31,6 +31,15 @@ impl Sort {
     pub fn is_dear(self) -> bool {
         matches!(self, Self::Top | Self::Far)
     }
+
+    /// How many counts there are of pages, and of addresses, that a list comes back to.
+    fn variety(self) -> (u64, u64) {
+        match self {
+            Self::Light => (7, 8),
+            Self::Large => (60, 60),
+            Self::Top | Self::Far => (3, 5),
+        }
+    }
 }
 
 pub struct Generator {
@@ -50,6 +59,10 @@ pub struct Generator {
     /// Memories and places that were written far up.
     peaks: BTreeSet<(usize, Place)>,
     pending: Option<Step>,
+    /// Whether most instructions are given the frame that the last one left.
+    pub(crate) hands_on: bool,
+    /// The frame that the next instruction is given; none where it has one of its own.
+    pub(crate) handed: Option<Handed>,
     /// Calls to come, and rollbacks after them.
     calls: u64,
     rollbacks: u64,
@@ -67,6 +80,9 @@ const FAR_GROUP: u32 = 2_000;
 const FAR_CHUNK: u32 = 1 << 13;
 /// The highest group that vm2 is let allocate.
 const MAX_GROUP: u32 = 1 << 20;
+
+/// In lists that hand frames on, one of so many instructions has a frame of its own.
+const OWN_FRAME: u64 = 12;
 
 const LENGTHS: [u64; 17] = [0, 0, 1, 2, 31, 32, 33, 63, 64, 65, 100, 255, 256, 257, 512, 600, 1024];
 
@@ -131,14 +147,12 @@ impl Generator {
             marks: Vec::new(),
             peaks: BTreeSet::new(),
             pending: None,
+            hands_on: false,
+            handed: None,
             calls,
             rollbacks,
         };
-        let (pages, addresses) = match sort {
-            Sort::Light => (7, 8),
-            Sort::Large => (60, 60),
-            Sort::Top | Sort::Far => (3, 5),
-        };
+        let (pages, addresses) = sort.variety();
         made.pages = (0..2 + made.rng.below(pages)).map(|_| made.any_page()).collect();
         if sort == Sort::Top {
             let other = made.rng.pick(&[layout.bootloader_heap, layout.bootloader_aux]);
@@ -153,16 +167,24 @@ impl Generator {
         Self { longest, ..self }
     }
 
-    /// The next call, for memories that hold what the models tell.
-    pub fn next(&mut self, models: &[Model; 2]) -> Option<Step> {
+    /// Makes lists in which most instructions are given the frame that the last one left.
+    pub fn handing_on(self) -> Self {
+        Self { hands_on: true, ..self }
+    }
+
+    /// The next call, for memories that hold what the models tell. `left` is the frame that the
+    /// latest instruction left.
+    pub fn next(&mut self, models: &[Model; 2], left: Option<Handed>) -> Option<Step> {
+        let left = left.filter(|left| self.hands_on && self.may_go_on(&left.frame));
         if let Some(step) = self.pending.take() {
-            return Some(step);
+            return Some(self.given_what_is_left(step, left, models));
         }
         if self.calls == 0 {
             return self.closing(models);
         }
         self.calls -= 1;
         loop {
+            self.handed = left.filter(|_| !self.rng.one_in(OWN_FRAME));
             let step = self.draw(models);
             if !self.allows(&step, models) {
                 continue;
@@ -175,6 +197,31 @@ impl Generator {
                 self.pending = self.window_after(&step, models);
             }
             return Some(step);
+        }
+    }
+
+    /// Whether the next instruction may have this frame. A call that was refused for want of room may
+    /// have left a far page, to which vm2 would be put now.
+    fn may_go_on(&self, frame: &Frame) -> bool {
+        self.sort == Sort::Far
+            || ![frame.heap, frame.aux].into_iter().any(|at| self.is_far_page(at))
+    }
+
+    /// The pending call; an instruction is given the frame that the one before it left.
+    fn given_what_is_left(
+        &mut self,
+        pending: Step,
+        left: Option<Handed>,
+        models: &[Model; 2],
+    ) -> Step {
+        let mut step = pending.clone();
+        if let (Some(left), Call::Instruction { frame, .. }) = (left, &mut step.call) {
+            (*frame, step.marked) = (left.frame, left.marked);
+        }
+        if self.allows(&step, models) {
+            step
+        } else {
+            pending
         }
     }
 
@@ -201,7 +248,12 @@ impl Generator {
             here
         });
         let (_, draw) = drawn.expect("the number is below the sum");
-        Step { memory, call: draw(self, &seen), marked: self.rng.one_in(4) }
+        let call = draw(self, &seen);
+        let marked = match (self.handed, &call) {
+            (Some(handed), Call::Instruction { .. }) => handed.marked,
+            _ => self.rng.one_in(4),
+        };
+        Step { memory, call, marked }
     }
 
     /// Rollbacks, newest first, until nothing is left to be undone.
@@ -241,20 +293,25 @@ impl Generator {
         }
     }
 
-    /// Whether the call makes vm2 allocate groups up to a far one.
-    fn is_far(&self, call: &Call) -> bool {
-        let far = |page: &u32| match model::place(&self.layout, *page) {
+    fn is_far_page(&self, page: u32) -> bool {
+        match model::place(&self.layout, page) {
             Some(Place::Dynamic { group, .. }) => (FAR_GROUP..=MAX_GROUP).contains(&group),
             _ => false,
-        };
+        }
+    }
+
+    /// Whether the call makes vm2 allocate groups up to a far one.
+    fn is_far(&self, call: &Call) -> bool {
         match call {
             Call::AllocateAt { page }
             | Call::AllocateWithContentAt { page, .. }
             | Call::Deallocate { page }
             | Call::WriteU256 { page, .. }
             | Call::WriteBytes { page, .. }
-            | Call::Decode { page } => far(page),
-            Call::Instruction { frame, .. } => far(&frame.heap) || far(&frame.aux),
+            | Call::Decode { page } => self.is_far_page(*page),
+            Call::Instruction { frame, .. } => {
+                self.is_far_page(frame.heap) || self.is_far_page(frame.aux)
+            }
             _ => false,
         }
     }

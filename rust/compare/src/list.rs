@@ -1,7 +1,9 @@
 //! Lists of calls, and how one is printed that the two sides answer differently.
 
+use std::fmt::Debug;
+
 use lines::spell;
-use oracle::Call;
+use oracle::{Call, Frame};
 use zincpapaya::Capacity;
 
 /// A call, put to one of the two memories of a list.
@@ -11,6 +13,24 @@ pub struct Step {
     pub call: Call,
     /// Whether the library's frame enters with its mark set; vm2's has none.
     pub marked: bool,
+}
+
+/// A frame that one call hands on to the next.
+#[derive(Debug, Clone, Copy, PartialEq)]
+pub struct Handed {
+    pub frame: Frame,
+    /// The mark of the library's frame.
+    pub marked: bool,
+}
+
+impl Step {
+    /// The frame that an instruction is given.
+    pub fn given(&self) -> Option<Handed> {
+        match self.call {
+            Call::Instruction { frame, .. } => Some(Handed { frame, marked: self.marked }),
+            _ => None,
+        }
+    }
 }
 
 #[derive(Clone)]
@@ -27,6 +47,13 @@ pub struct Mismatch {
     pub what: String,
     pub vm2: String,
     pub library: String,
+}
+
+impl Mismatch {
+    /// The same, with the calls that it was met in.
+    pub fn within(self, calls: &impl Debug) -> Self {
+        Self { what: format!("{}: {calls:?}", self.what), ..self }
+    }
 }
 
 /// A list that ends in a mismatch.

@@ -2,6 +2,7 @@
 //! show. README.md tells how.
 
 mod alone;
+mod charges;
 mod edges;
 mod framed;
 mod generate;
@@ -78,11 +79,13 @@ impl Shard {
             let list = List { layout: name, capacities: [store::CAPACITY; 2], steps: Vec::new() };
             let mut steps = edges::edges(&bank.layout()).into_iter();
             let looks = Looks::AtTheEnd;
-            let heaps = pair::run(bank.as_mut(), &mut self.tally, list, looks, |_| steps.next())
+            let next = |_: &_, _| steps.next();
+            let heaps = pair::run(bank.as_mut(), &mut self.tally, list.clone(), looks, next)
                 .map_err(|finding| Box::new(shrink::shrink(bank.as_mut(), looks, *finding)))?;
             Quotes::new(bank.as_mut(), &mut self.tally, &heaps)
                 .edges(&mut Rng::new(self.options.seed, 0))
                 .map_err(|mismatch| after_list(name, &heaps, mismatch))?;
+            edge_runs(bank.as_mut(), &mut self.tally, list)?;
         }
         Ok(())
     }
@@ -108,8 +111,10 @@ impl Shard {
         let at = self.banks.iter().position(|(name, _)| *name == layout).expect("a listed layout");
         let bank = self.banks[at].1.as_mut();
         let extra_rng = &mut Rng::new(self.options.seed, !number);
-        let mut generator = Generator::new(rng, bank.layout(), sort, capacities, calls);
-        let next = |models: &_| generator.next(models);
+        let hands_on = !rng.one_in(4);
+        let generator = Generator::new(rng, bank.layout(), sort, capacities, calls);
+        let mut generator = if hands_on { generator.handing_on() } else { generator };
+        let next = |models: &_, left| generator.next(models, left);
         match pair::run(bank, &mut self.tally, list, looks, next) {
             Ok(heaps) => self.extras(layout, sort, extra_rng, &heaps),
             Err(finding) => {
@@ -148,10 +153,19 @@ impl Shard {
             let list = alphabet.list(number);
             let mut steps = list.steps.clone().into_iter();
             let looks = Looks::Every(usize::MAX);
-            pair::run(bank, &mut self.tally, list, looks, |_| steps.next())
+            pair::run(bank, &mut self.tally, list, looks, |_, _| steps.next())
                 .map_err(|finding| Box::new(shrink::shrink(bank, Looks::Always, *finding)))?;
         }
         Ok(())
+    }
+}
+
+/// The runs that every comparison makes on each layout. No store of theirs is at the top of a page.
+fn edge_runs(bank: &mut dyn Bank, tally: &mut Tally, list: List) -> Result<(), Box<Finding>> {
+    let (looks, next) = (Looks::Always, edges::steps(edges::runs(&bank.layout())));
+    match pair::run(bank, tally, list, looks, next) {
+        Ok(_) => Ok(()),
+        Err(finding) => Err(Box::new(shrink::shrink(bank, looks, *finding))),
     }
 }
 

@@ -6,7 +6,8 @@ use zincpapaya::{Capacity, Heaps, PageId};
 
 use crate::{
     alone,
-    list::{Finding, List, Mismatch, Step},
+    charges::Sides,
+    list::{Finding, Handed, List, Mismatch, Step},
     model::{Model, CHUNK},
     ours::{self, Reply},
     tally::Tally,
@@ -22,6 +23,10 @@ pub struct Pair<'a> {
     models: [Model; 2],
     /// Whether a memory may have changed since all that it holds was looked at.
     changed: [bool; 2],
+    /// What loads and stores pay, on each side.
+    sides: Sides,
+    /// The frame that the latest instruction left; none before the first, and after a panic.
+    left: Option<Handed>,
 }
 
 /// When all that both sides hold is looked at, besides the end of a list.
@@ -35,19 +40,20 @@ pub enum Looks {
     AtTheEnd,
 }
 
-/// Puts calls to both sides until there are no more. `next` is shown what the memories must hold.
+/// Puts calls to both sides until there are no more. `next` is shown what the memories must hold, and
+/// the frame that the latest instruction left.
 pub fn run(
     bank: &mut dyn Bank,
     tally: &mut Tally,
     list: List,
     looks: Looks,
-    mut next: impl FnMut(&[Model; 2]) -> Option<Step>,
+    mut next: impl FnMut(&[Model; 2], Option<Handed>) -> Option<Step>,
 ) -> Result<Vec<Heaps>, Box<Finding>> {
     let mut done = List { steps: Vec::new(), ..list };
     let mut pair = Pair::start(bank, tally, done.capacities);
     let mut outcome = Ok(());
     while outcome.is_ok() {
-        let Some(step) = next(&pair.models) else { break };
+        let Some(step) = next(&pair.models, pair.left) else { break };
         done.steps.push(step);
         let step = done.steps.last().expect("it was just put there");
         outcome = pair.step(step, looks != Looks::AtTheEnd);
@@ -61,6 +67,7 @@ pub fn run(
         }
     }
     outcome = outcome.and_then(|()| pair.look());
+    pair.tally.runs.count(pair.sides.end());
     pair.tally.lists += 1;
     match outcome {
         Ok(()) => Ok(pair.ours.into()),
@@ -71,7 +78,7 @@ pub fn run(
 /// Puts the calls of a list to both sides.
 pub fn rerun(bank: &mut dyn Bank, list: &List, looks: Looks) -> Option<Box<Finding>> {
     let mut steps = list.steps.iter().cloned();
-    run(bank, &mut Tally::default(), list.clone(), looks, |_| steps.next()).err()
+    run(bank, &mut Tally::default(), list.clone(), looks, |_, _| steps.next()).err()
 }
 
 impl<'a> Pair<'a> {
@@ -86,7 +93,8 @@ impl<'a> Pair<'a> {
         };
         let ours = capacities.map(open);
         let models = [0, 1].map(|_| Model::new(layout));
-        Self { bank, tally, before: ours.clone(), ours, models, changed: [true; 2] }
+        let (before, changed, sides) = (ours.clone(), [true; 2], Sides::default());
+        Self { bank, tally, ours, before, models, changed, sides, left: None }
     }
 
     fn step(&mut self, step: &Step, look_before_refusal: bool) -> Result<(), Mismatch> {
@@ -113,6 +121,7 @@ impl<'a> Pair<'a> {
             return Err(Mismatch { what: "the answers differ".into(), vm2, library });
         }
         self.tally.count(call, &theirs);
+        self.hand_on(step, &theirs, &ours)?;
         let carried_out = !matches!(theirs, Answer::RustPanic(_) | Answer::EraPanic(_));
         if call.changes() {
             if carried_out {
@@ -140,7 +149,22 @@ impl<'a> Pair<'a> {
             return Err(Mismatch { what, vm2, library: shown(&ours) });
         }
         *self.tally.no_room.entry(number).or_default() += 1;
+        self.left = step.given().or(self.left);
         self.after(step, false)
+    }
+
+    /// Keeps the frame that an instruction leaves, and checks on each side that growth adds up.
+    fn hand_on(&mut self, step: &Step, theirs: &Answer, ours: &Reply) -> Result<(), Mismatch> {
+        let Some(given) = step.given() else { return Ok(()) };
+        self.left = match theirs {
+            Answer::Ran(ran) => Some(Handed { frame: ran.frame, ..given }),
+            Answer::EraPanic(_) => None,
+            // It was refused.
+            _ => Some(given),
+        };
+        let ended = self.sides.answered(step, theirs, ours)?;
+        self.tally.runs.count(ended);
+        Ok(())
     }
 
     /// What must hold after every call: the library's counts are right, and a memory whose call was

@@ -8,7 +8,8 @@ use oracle::{Answer, Area, Bank, Call, Frame, HeapInstruction, Layout, Operand};
 use zincpapaya::{Error, Heaps, Quote};
 
 use crate::{
-    list::Mismatch,
+    charges::Sides,
+    list::{Mismatch, Step},
     model::{area_of, LAST_ADDRESS},
     ours,
     pair::held_alike,
@@ -122,8 +123,10 @@ impl<'a> Quotes<'a> {
         let layout = self.bank.layout();
         for area in [Area::Heap, Area::Aux] {
             let first = with(any_frame(rng, &layout), area, *gas, *bound);
-            let loads = Loads { asked, area, first };
-            let (last, position) = self.run(&loads)?;
+            let (loads, mut sides) = (Loads { asked, area, first }, Sides::default());
+            let (last, position) = self.run(&loads, &mut sides)?;
+            let run = sides.end().map_or(0, |run| run.accesses as usize);
+            same("loads that were added up, and those before the panic", &loads, &run, &position)?;
             let reached = area_of(&last, area).1;
             let due = with(first, area, last.gas, reached);
             same("vm2's last frame, and what loads may make of it", &loads, &last, &due)?;
@@ -136,19 +139,23 @@ impl<'a> Quotes<'a> {
         Ok(())
     }
 
-    /// Runs loads on both sides. Gives the frame that they leave, and the position of the one that
-    /// panics, or how many they are.
-    fn run(&mut self, loads: &Loads) -> Result<(Frame, usize), Mismatch> {
+    /// Runs loads on both sides, on each of which growth must add up. Gives the frame that they
+    /// leave, and the position of the one that panics, or how many they are.
+    fn run(&mut self, loads: &Loads, sides: &mut Sides) -> Result<(Frame, usize), Mismatch> {
         let mut frame = loads.first;
         for (position, address) in loads.asked.list.iter().enumerate() {
             let operand = Operand::Register { word: (*address).into(), tagged: false };
             let instruction = HeapInstruction::Load { area: loads.area, operand, increment: false };
             let call = Call::Instruction { frame, instruction };
-            let theirs = self.bank.answer(0, &call);
-            let ours = ours::answer(&mut self.ours, 0, &call, false);
+            let step = Step { memory: 0, call, marked: false };
+            let theirs = self.bank.answer(step.memory, &step.call);
+            let ours = ours::answer(&mut self.ours, step.memory, &step.call, step.marked);
             self.tally.quotes.loads += 1;
             match &theirs {
-                Answer::Ran(ran) if ours.agrees_with(&theirs) => frame = ran.frame,
+                Answer::Ran(ran) if ours.agrees_with(&theirs) => {
+                    sides.answered(&step, &theirs, &ours).map_err(|found| found.within(loads))?;
+                    frame = ran.frame;
+                }
                 Answer::EraPanic(last) if ours.agrees_with(&theirs) => {
                     return Ok((*last, position))
                 }

@@ -92,7 +92,7 @@ impl<'a> Sample<'a> {
 
     fn run(&mut self, mut generator: Generator, held_every: usize) {
         let mut many = 0;
-        while let Some(step) = generator.next(&self.models) {
+        while let Some(step) = generator.next(&self.models, None) {
             self.step(step);
             many += 1;
             if many % held_every == 0 {

@@ -5,7 +5,7 @@ use std::{collections::BTreeMap, fmt};
 use lines::spell;
 use oracle::{Answer, Call};
 
-use crate::model::LAST_ADDRESS;
+use crate::{charges::Run, model::LAST_ADDRESS};
 
 #[derive(Default)]
 pub struct Tally {
@@ -23,6 +23,7 @@ pub struct Tally {
     /// Checks of the library alone, by what they are about.
     pub alone: BTreeMap<&'static str, u64>,
     pub quotes: QuoteCounts,
+    pub runs: RunCounts,
     /// Looks at all that a memory holds, on both sides.
     pub looks: u64,
     /// Chunks compared byte by byte, and journalled words.
@@ -47,6 +48,64 @@ impl QuoteCounts {
         self.all += 1;
         self.panics += u64::from(last.is_some());
         self.high += u64::from(last.is_some_and(|address| *address > LAST_ADDRESS));
+    }
+}
+
+/// Runs of loads and stores whose charges were added up. Those of quotes are not counted.
+#[derive(Debug, Default, PartialEq)]
+pub struct RunCounts {
+    pub accesses: u64,
+    /// Accesses that were given the frame that the last one left.
+    pub handed_on: u64,
+    /// Runs of two accesses or more. What follows is counted in these.
+    pub long: u64,
+    pub longest: u64,
+    /// Runs that accessed both areas.
+    pub both_areas: u64,
+    /// Accesses with a charge above 0, and stops on the hook.
+    pub paid: u64,
+    pub stops: u64,
+}
+
+impl RunCounts {
+    /// Counts a run that has ended, if one has.
+    pub fn count(&mut self, ended: Option<Run>) {
+        let Some(run) = ended else { return };
+        self.accesses += run.accesses;
+        if run.accesses > 1 {
+            self.handed_on += run.accesses - 1;
+            self.long += 1;
+            self.longest = self.longest.max(run.accesses);
+            self.both_areas += u64::from(run.has_both_areas());
+            self.paid += run.paid;
+            self.stops += run.stops;
+        }
+    }
+
+    fn add(&mut self, other: &Self) {
+        self.accesses += other.accesses;
+        self.handed_on += other.handed_on;
+        self.long += other.long;
+        self.longest = self.longest.max(other.longest);
+        self.both_areas += other.both_areas;
+        self.paid += other.paid;
+        self.stops += other.stops;
+    }
+}
+
+impl fmt::Display for RunCounts {
+    fn fmt(&self, out: &mut fmt::Formatter<'_>) -> fmt::Result {
+        let Self { accesses, handed_on, long, longest, both_areas, paid, stops } = self;
+        writeln!(
+            out,
+            "{accesses} loads and stores whose charges were added up, on both sides: {handed_on} were \
+             given the frame that the last one left"
+        )?;
+        writeln!(
+            out,
+            "{long} runs of two or more, the longest of {longest}, {both_areas} of them in both areas: \
+             {paid} charges above 0, {stops} stops on the hook"
+        )
     }
 }
 
@@ -84,6 +143,7 @@ impl Tally {
         self.quotes.loads += other.quotes.loads;
         self.quotes.panics += other.quotes.panics;
         self.quotes.high += other.quotes.high;
+        self.runs.add(&other.runs);
         for (name, (all, carried_out)) in &other.names {
             let sum = self.names.entry(name).or_default();
             *sum = (sum.0 + all, sum.1 + carried_out);
@@ -130,6 +190,7 @@ impl fmt::Display for Tally {
             "{all} quotes compared with {loads} loads: {panics} end at a panic, {high} of them at the \
              operand limit"
         )?;
+        write!(out, "{}", self.runs)?;
         let Self { looks, chunks, words, .. } = self;
         writeln!(
             out,

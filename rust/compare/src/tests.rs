@@ -1,18 +1,24 @@
 //! That the comparison finds what is wrong: vm2's answers are tampered with on their way, or the
-//! library's quotes are.
+//! library's quotes are. And that its lists have runs of loads and stores in which growth can add up.
 
-use oracle::{Answer, Bank, Call, Frame, Layout, Ran, RustPanic, View};
-use zincpapaya::{quote, Heaps, Quote};
+use oracle::{
+    Answer, Area, Bank, Call, Frame, HeapInstruction, Layout, Operand, Ran, RustPanic, View,
+    LAYOUTS,
+};
+use zincpapaya::{quote, Capacity, Heaps, Quote};
 
 use crate::{
-    list::{Finding, Mismatch, Step},
-    model::LAST_ADDRESS,
+    edge_runs, edges,
+    generate::{Generator, Sort},
+    list::{Finding, Handed, List, Mismatch, Step},
+    model::{Model, LAST_ADDRESS},
     options::Options,
     ours,
+    pair::{self, Looks},
     quotes::{Asked, Quoter, Quotes},
     rng::Rng,
     store,
-    tally::Tally,
+    tally::{RunCounts, Tally},
     Shard,
 };
 
@@ -55,11 +61,15 @@ impl Bank for Tampered {
     }
 }
 
-/// What a run over these memories finds, and after how many calls.
-fn find(bank: Tampered) -> Option<Box<Finding>> {
+fn shard(bank: Tampered) -> Shard {
     let options = Options { seed: 7, calls: 20_000, layout: Some("example"), store: None };
     let banks: Vec<(&'static str, Box<dyn Bank>)> = vec![("example", Box::new(bank))];
-    Shard { number: 0, options, banks, tally: Tally::default() }.run().err()
+    Shard { number: 0, options, banks, tally: Tally::default() }
+}
+
+/// What a run over these memories finds.
+fn find(bank: Tampered) -> Option<Box<Finding>> {
+    shard(bank).run().err()
 }
 
 fn steps(finding: &Finding) -> Vec<&Call> {
@@ -221,4 +231,146 @@ fn a_wrong_load_of_a_quote_is_found() {
     let found = find_quote(bank, quote, |quotes, rng| quotes.compare(rng, &asked));
     let what = found.expect("a panic sets a bound").what;
     assert!(what.starts_with("the load at position 1 of Loads"), "{what}");
+}
+
+/// A list on this layout that has no calls yet.
+fn no_calls(layout: &'static str, capacity: Capacity) -> List {
+    List { layout, capacities: [capacity; 2], steps: Vec::new() }
+}
+
+/// The frames that `next` is shown while its calls are put to both sides, the last one after them.
+/// The memories have no journals.
+fn frames_left(mut next: impl FnMut(Option<Handed>) -> Option<Step>) -> Vec<Option<Handed>> {
+    let (mut bank, mut tally, mut lefts) = (Tampered::new(), Tally::default(), Vec::new());
+    let shown = |_: &[Model; 2], left| {
+        lefts.push(left);
+        next(left)
+    };
+    let list = no_calls("example", Capacity { chunks: 2, pages: 2, journal_words: 0 });
+    let done = pair::run(&mut bank, &mut tally, list, Looks::Always, shown);
+    assert!(done.is_ok(), "{:?}", done.map_err(|finding| finding.lines()).err());
+    lefts
+}
+
+#[test]
+fn the_worked_run_pays_what_it_must() {
+    let worked = edges::worked(66, 67);
+    let first = worked[0].0.expect("a run begins with a frame");
+    let models = [0, 1].map(|_| Model::new(Tampered::new().layout()));
+    let mut steps = edges::steps(worked.into());
+    let lefts = frames_left(|left| steps(&models, left));
+    let mut frames: Vec<_> = lefts.iter().flatten().map(|left| left.frame).collect();
+    frames.insert(0, first);
+    let charges: Vec<_> = frames.windows(2).map(|pair| pair[0].gas - pair[1].gas).collect();
+    assert_eq!(charges, [0, 32, 1, 0, 100, 0]);
+    let last = Frame { gas: 867, heap_bound: 4097, aux_bound: 132, ..first };
+    assert_eq!(frames.last(), Some(&last));
+}
+
+#[test]
+fn only_a_panic_leaves_no_frame() {
+    let operand = |address: u32| Operand::Register { word: address.into(), tagged: false };
+    let load = |address| {
+        let (area, operand) = (Area::Heap, operand(address));
+        HeapInstruction::Load { area, operand, increment: true }
+    };
+    let store = |hook| {
+        let (area, operand, value) = (Area::Aux, operand(0), 1.into());
+        HeapInstruction::Store { area, operand, value, increment: true, hook }
+    };
+    // Page 65 is none, and page 5 has a journal.
+    let frame = Frame { gas: 100, heap: 66, aux: 65, heap_bound: 0, aux_bound: 0 };
+    let [to_none, to_journal] = [65, 5].map(|aux| Frame { gas: 200, aux, ..frame });
+    let instruction = |frame, instruction| Call::Instruction { frame, instruction };
+    let marked = |frame| Some(Handed { frame, marked: true });
+    let loaded = marked(Frame { gas: 68, heap_bound: 32, ..frame });
+    let calls = [
+        (Call::DynamicLen, None),
+        (instruction(frame, load(0)), loaded),
+        (Call::DynamicLen, loaded),
+        (Call::UseGas { frame, amount: 1 }, loaded),
+        // vm2 is not put to it.
+        (instruction(frame, store(Some(0))), loaded),
+        // Refusals 4 and 11.
+        (instruction(to_none, store(None)), marked(to_none)),
+        (instruction(to_journal, store(None)), marked(to_journal)),
+        (instruction(frame, load(100)), None),
+    ];
+    let step = |(call, _): &(Call, _)| Step { memory: 0, call: call.clone(), marked: true };
+    let mut steps = calls.iter().map(step);
+    let lefts = frames_left(|_| steps.next());
+    assert_eq!(lefts[0], None);
+    assert_eq!(lefts[1..], calls.map(|(_, left)| left));
+}
+
+#[test]
+fn every_layout_has_all_runs_of_the_edges() {
+    let due = RunCounts {
+        accesses: 61,
+        handed_on: 46,
+        long: 15,
+        longest: 6,
+        both_areas: 8,
+        paid: 44,
+        stops: 1,
+    };
+    for layout in LAYOUTS {
+        let mut bank = oracle::bank(layout).expect("a listed layout");
+        let mut tally = Tally::default();
+        let done = edge_runs(bank.as_mut(), &mut tally, no_calls(layout, store::CAPACITY));
+        assert!(done.is_ok(), "{:?}", done.map_err(|finding| finding.lines()));
+        assert_eq!(tally.runs, due, "{layout}");
+    }
+}
+
+#[test]
+fn every_comparison_has_the_runs_of_the_edges() {
+    let mut shard = shard(Tampered::new());
+    assert!(shard.edge_lists().is_ok());
+    assert!(shard.tally.runs.both_areas >= 8, "{:?}", shard.tally.runs);
+}
+
+#[test]
+fn random_lists_have_runs_of_several_accesses_in_both_areas() {
+    let mut shard = shard(Tampered::new());
+    let done = (0..200).try_for_each(|number| shard.random_list(number));
+    assert!(done.is_ok(), "{:?}", done.map_err(|finding| finding.lines()));
+    let counts = &shard.tally.runs;
+    let RunCounts { long, longest, both_areas, paid, stops, .. } = *counts;
+    let many = long > 100 && both_areas > 50 && paid > 200 && stops > 15;
+    assert!(many && longest > 5, "{counts:?}");
+}
+
+/// How many instructions of some lists are given the frame that is shown, which is another for each
+/// call, and how many are not.
+fn given(shown: Frame, hands_on: bool) -> [usize; 2] {
+    let layout = Tampered::new().layout();
+    let models = [0, 1].map(|_| Model::new(layout));
+    let mut counts = [0, 0];
+    for number in 0..6 {
+        let rng = Rng::new(7, number);
+        let generator = Generator::new(rng, layout, Sort::Light, [store::CAPACITY; 2], 1_000);
+        let mut generator = if hands_on { generator.handing_on() } else { generator };
+        for gas in (0..).map(|less| shown.gas - less) {
+            let left = Handed { frame: Frame { gas, ..shown }, marked: gas % 2 == 0 };
+            let Some(step) = generator.next(&models, Some(left)) else { break };
+            if let Some(given) = step.given() {
+                counts[usize::from(given != left)] += 1;
+            }
+        }
+    }
+    counts
+}
+
+#[test]
+fn instructions_are_given_the_frame_that_is_left_where_lists_hand_it_on() {
+    let near = Frame { gas: 100_000, heap: 66, aux: 67, heap_bound: 4096, aux_bound: 96 };
+    let [handed, own] = given(near, true);
+    assert!(handed > 9 * own && own > 20, "{handed} and {own}");
+    let [handed, own] = given(near, false);
+    assert!(handed == 0 && own > 500, "{handed} and {own}");
+    // Page 67 of a group that is dear in vm2.
+    let far = Frame { aux: 67 + 8 * 5_000, ..near };
+    let [handed, own] = given(far, true);
+    assert!(handed == 0 && own > 500, "{handed} and {own}");
 }

@@ -37,7 +37,7 @@ is-done ((true, panicked x) ∷ rest) a n e = absurd (false≢true e)
 is-done ((false, panicked x) ∷ rest) a n e = is-done rest a n e
 is-done ((b, done x) ∷ rest) a n e = absurd n
 
--- the frame of an outcome, f where it has none
+-- the frame of a value, and of an outcome; f where there is none
 abbrev frameGiven : Frame → Value → Frame
 frameGiven f (given r) = r .frame
 frameGiven f nothing = f

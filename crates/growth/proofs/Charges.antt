@@ -16,10 +16,10 @@ use Rattle.growth.proofs.Carried.{Paid, load-paid, store-paid, paid-pay
 
 -- ---- one area
 -- what a run keeps of it
-record Totals (area : Area) (f : Frame) (run : List Charge) (g : Frame) : Type 0 where
-  sum : sumOf area run + boundOf f area ≡ boundOf g area
-  last : boundOf g area ≡ lastBound (boundOf f area) (addresses area run)
-  within : highest (addresses area run) ≤ lastAddress
+record Totals (area : Area) (f : Frame) (charges : List Charge) (g : Frame) : Type 0 where
+  sum : sumOf area charges + boundOf f area ≡ boundOf g area
+  last : boundOf g area ≡ lastBound (boundOf f area) (addresses area charges)
+  within : highest (addresses area charges) ≤ lastAddress
 
 none : (area : Area) (f : Frame) → Totals area f [] f
 unfolding sumOf addresses highest
@@ -41,40 +41,40 @@ same-is Heap Aux e = absurd (false≢true e)
 same-is Aux Heap e = absurd (false≢true e)
 same-is Aux Aux e = refl
 
--- a load or store at a, before a run of which the totals of b are known
-module _ (b : Area) (a : ℕ) (f g h : Frame) (run : List Charge) (k : Totals b g run h) where
-  own : Paid b a f g → sameArea b b ≡ true → Totals b f (chargeOf b a f g ∷ run) h
+-- a load or store at a, before a run with these totals
+module _ (b : Area) (a : ℕ) (f g h : Frame) (charges : List Charge) (k : Totals b g charges h) where
+  own : Paid b a f g → sameArea b b ≡ true → Totals b f (chargeOf b a f g ∷ charges) h
   unfolding sumOf addresses
   own p e =
       let pays = paid-pays b a f g p in
       record {
         sum = rw e (let s = k .sum in let t = pays .top in let price = pays .price in omega arith);
-        last = rw e (k .last ∙ ap (λ (x : ℕ). lastBound x (addresses b run)) (pays .top) ∙ last-before (boundOf f b) a (addresses b run));
-        within = rw e (within-before a (addresses b run) (pays .within) (k .within));
+        last = rw e (k .last ∙ ap (λ (x : ℕ). lastBound x (addresses b charges)) (pays .top) ∙ last-before (boundOf f b) a (addresses b charges));
+        within = rw e (within-before a (addresses b charges) (pays .within) (k .within));
       }
 
-  other : (area : Area) → boundOf g b ≡ boundOf f b → sameArea b area ≡ false → Totals b f (chargeOf area a f g ∷ run) h
+  other : (area : Area) → boundOf g b ≡ boundOf f b → sameArea b area ≡ false → Totals b f (chargeOf area a f g ∷ charges) h
   unfolding sumOf addresses
   other area z e = record {
     sum = rw e (let s = k .sum in omega arith);
-    last = rw e (k .last ∙ ap (λ (x : ℕ). lastBound x (addresses b run)) z);
+    last = rw e (k .last ∙ ap (λ (x : ℕ). lastBound x (addresses b charges)) z);
     within = rw e (k .within);
   }
 
-  before : (area : Area) → Paid area a f g → Totals b f (chargeOf area a f g ∷ run) h
+  before : (area : Area) → Paid area a f g → Totals b f (chargeOf area a f g ∷ charges) h
   before area p = go (sameArea b area) refl
     where
-      go : (t : Bool) → sameArea b area ≡ t → Totals b f (chargeOf area a f g ∷ run) h
+      go : (t : Bool) → sameArea b area ≡ t → Totals b f (chargeOf area a f g ∷ charges) h
       go true e =
           let z = same-is b area e in
-          subst (λ (x : Area). Paid x a f g → sameArea b x ≡ true → Totals b f (chargeOf x a f g ∷ run) h) (sym z) own p e
+          subst (λ (x : Area). Paid x a f g → sameArea b x ≡ true → Totals b f (chargeOf x a f g ∷ charges) h) (sym z) own p e
       go false e = other area (paid-other area a f g p b e) e
 
 -- the claim, from it
-adds-up : {area : Area} {f g : Frame} {run : List Charge} → Totals area f run g → AddsUp area f run g
-adds-up {area} {f} {g} {run} k =
+adds-up : {area : Area} {f g : Frame} {charges : List Charge} → Totals area f charges g → AddsUp area f charges g
+adds-up {area} {f} {g} {charges} k =
     let s = k .sum in
-    let most = at-most (addresses area run) (k .last) (k .within) in
+    let most = at-most (addresses area charges) (k .last) (k .within) in
     record { sum = omega arith; ordered = omega arith; last = k .last; limit = omega arith }
   where
     -- the operand limit, and 32
@@ -83,11 +83,11 @@ adds-up {area} {f} {g} {run} k =
     at-most (a ∷ list) e l = omega arith
 
 -- ---- the gas of both
-gas-before : (area : Area) (a : ℕ) (f g h : Frame) (run : List Charge) → Paid area a f g → sumOf Heap run + sumOf Aux run + h .gas ≡ g .gas
-    → sumOf Heap (chargeOf area a f g ∷ run) + sumOf Aux (chargeOf area a f g ∷ run) + h .gas ≡ f .gas
+gas-before : (area : Area) (a : ℕ) (f g h : Frame) (charges : List Charge) → Paid area a f g → sumOf Heap charges + sumOf Aux charges + h .gas ≡ g .gas
+    → sumOf Heap (chargeOf area a f g ∷ charges) + sumOf Aux (chargeOf area a f g ∷ charges) + h .gas ≡ f .gas
 unfolding sumOf
-gas-before Heap a f g h run p e = let price = paid-pays Heap a f g p .price in omega arith
-gas-before Aux a f g h run p e = let price = paid-pays Aux a f g p .price in omega arith
+gas-before Heap a f g h charges p e = let price = paid-pays Heap a f g p .price in omega arith
+gas-before Aux a f g h charges p e = let price = paid-pays Aux a f g p .price in omega arith
 
 gas-none : (f : Frame) → sumOf Heap [] + sumOf Aux [] + f .gas ≡ f .gas
 unfolding sumOf
@@ -99,13 +99,13 @@ module _ (S : Steps) (I : LoadsAndStoresMeet S) where
   paid (by-load {m} {area = area} {f = f} {x = x} {r = r} s) = load-paid m area f x r (I .loads s .answer)
   paid (by-store {m} {area = area} {f = f} {x = x} {n = n} {h = h} {r = r} s) = store-paid m area f x r n h (I .stores s .answer)
 
-  totals : {f g : Frame} {run : List Charge} → LoadsAndStores S f run g → (area : Area) → Totals area f run g
+  totals : {f g : Frame} {charges : List Charge} → LoadsAndStores S f charges g → (area : Area) → Totals area f charges g
   totals {f} {g} (one {area = c} {a = a} x) area = before area a f g g [] (none area g) c (paid x)
-  totals {f = f} {g = h} (more {area = c} {a = a} {g = g} {run = run} x rest) area = before area a f g h run (totals rest area) c (paid x)
+  totals {f = f} {g = h} (more {area = c} {a = a} {g = g} {charges = charges} x rest) area = before area a f g h charges (totals rest area) c (paid x)
 
-  gas : {f g : Frame} {run : List Charge} → LoadsAndStores S f run g → sumOf Heap run + sumOf Aux run + g .gas ≡ f .gas
+  gas : {f g : Frame} {charges : List Charge} → LoadsAndStores S f charges g → sumOf Heap charges + sumOf Aux charges + g .gas ≡ f .gas
   gas {f} {g} (one {area = c} {a = a} x) = gas-before c a f g g [] (paid x) (gas-none g)
-  gas {f = f} {g = h} (more {area = c} {a = a} {g = g} {run = run} x rest) = gas-before c a f g h run (paid x) (gas rest)
+  gas {f = f} {g = h} (more {area = c} {a = a} {g = g} {charges = charges} x rest) = gas-before c a f g h charges (paid x) (gas rest)
 
   pub growth-adds-up : GrowthAddsUp S
   growth-adds-up = record { areas = λ r area. adds-up (totals r area); gas = gas }

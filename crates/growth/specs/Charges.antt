@@ -34,10 +34,10 @@ chargeOf area address f g = record { area = area; address = address; amount = f 
 
 -- A RUN: one or more of them, from the frame f to the frame g, each given the frame that the last one left; with their charges. Each may be lent another
 -- memory, so calls that leave this frame as it is may come between
-pub data LoadsAndStores (S : Steps) : (f : Frame) (run : List Charge) (g : Frame) → Type 0 where
+pub data LoadsAndStores (S : Steps) : (f : Frame) (charges : List Charge) (g : Frame) → Type 0 where
   one : {area : Area} {a : ℕ} {f g : Frame} → LoadOrStore S area a f g → LoadsAndStores S f (chargeOf area a f g ∷ []) g
-  more : {area : Area} {a : ℕ} {f g h : Frame} {run : List Charge}
-      → LoadOrStore S area a f g → LoadsAndStores S g run h → LoadsAndStores S f (chargeOf area a f g ∷ run) h
+  more : {area : Area} {a : ℕ} {f g h : Frame} {charges : List Charge}
+      → LoadOrStore S area a f g → LoadsAndStores S g charges h → LoadsAndStores S f (chargeOf area a f g ∷ charges) h
 
 -- ---- one area of a run
 abbrev pub sameArea : Area → Area → Bool
@@ -49,12 +49,12 @@ sameArea Aux Aux = true
 -- the sum of its charges
 unfoldable pub sumOf : Area → List Charge → ℕ
 sumOf area [] = 0
-sumOf area (c ∷ run) = cond (sameArea area (c .area)) (c .amount) 0 + sumOf area run
+sumOf area (c ∷ charges) = cond (sameArea area (c .area)) (c .amount) 0 + sumOf area charges
 
 -- its addresses
 unfoldable pub addresses : Area → List Charge → List ℕ
 addresses area [] = []
-addresses area (c ∷ run) = cond (sameArea area (c .area)) (c .address ∷ addresses area run) (addresses area run)
+addresses area (c ∷ charges) = cond (sameArea area (c .area)) (c .address ∷ addresses area charges) (addresses area charges)
 
 -- the highest of them; `lastBound` takes it only where there is one
 unfoldable pub highest : List ℕ → ℕ
@@ -67,17 +67,17 @@ lastBound first [] = first
 lastBound first (a ∷ list) = max first (highest (a ∷ list) + 32)
 
 -- ---- THE CLAIM
-pub record AddsUp (area : Area) (f : Frame) (run : List Charge) (g : Frame) : Type 0 where
+pub record AddsUp (area : Area) (f : Frame) (charges : List Charge) (g : Frame) : Type 0 where
   -- the charges sum to the last bound less the first
-  pub sum : sumOf area run ≡ boundOf g area - boundOf f area
+  pub sum : sumOf area charges ≡ boundOf g area - boundOf f area
   -- the first is not above the last, so this is a true difference
   pub ordered : boundOf f area ≤ boundOf g area
-  pub last : boundOf g area ≡ lastBound (boundOf f area) (addresses area run)
+  pub last : boundOf g area ≡ lastBound (boundOf f area) (addresses area charges)
   -- numbers have any size here: this follows from the operand limit
-  pub limit : sumOf area run ≤ 4294967295
+  pub limit : sumOf area charges ≤ 4294967295
 
 pub record GrowthAddsUp (S : Steps) : Type 0 where
   -- heap and aux taken separately
-  pub areas : {f g : Frame} {run : List Charge} → LoadsAndStores S f run g → (area : Area) → AddsUp area f run g
+  pub areas : {f g : Frame} {charges : List Charge} → LoadsAndStores S f charges g → (area : Area) → AddsUp area f charges g
   -- both sums and the gas left make the gas given
-  pub gas : {f g : Frame} {run : List Charge} → LoadsAndStores S f run g → sumOf Heap run + sumOf Aux run + g .gas ≡ f .gas
+  pub gas : {f g : Frame} {charges : List Charge} → LoadsAndStores S f charges g → sumOf Heap charges + sumOf Aux charges + g .gas ≡ f .gas

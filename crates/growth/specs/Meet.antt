@@ -1,4 +1,4 @@
--- What the claims below know of a relation S (plain/specs/Claim.antt says what S is).
+-- What the claims of this crate know of a relation S (plain/specs/Claim.antt says what S is).
 -- Assumes nothing.
 use Prim.Native.Nat.{ℕ}
 use Rattle.outcome.specs.Outcome.{Outcome}

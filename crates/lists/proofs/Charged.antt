@@ -23,7 +23,6 @@ use Rattle.view.specs.Calls.{Load, answerOf}
 use Rattle.plain.proofs.Good.{never}
 use Rattle.growth.specs.Meet.{LoadsAndStoresMeet}
 use Rattle.growth.specs.Quotes.{Loads, none, more, ends, QuoteOfLoads}
-use Rattle.growth.specs.Charges.{by-store}
 use Rattle.growth.proofs.Quotes.{quote-of-loads}
 use Rattle.growth.proofs.Charges.{growth-adds-up}
 use Rattle.lists.specs.Steps.{Step}
@@ -31,7 +30,7 @@ use Rattle.lists.specs.Worked.{at}
 use Rattle.lists.specs.Charged.{Quote, listOf, gasOf, firstBound, LoadsExist, QuoteExists, Charged}
 use Rattle.lists.proofs.Contracts.{does}
 use Rattle.lists.proofs.Inhabited.{ref}
-use Rattle.lists.proofs.Carried.{answer, load-is, load-step, load-leaves, leaves-load, store-goes}
+use Rattle.lists.proofs.Carried.{answer, load-is, load-step, load-leaves, store-goes}
 use Rattle.lists.proofs.Worked.{m₀, begun, formed, worked}
 
 meet : LoadsAndStoresMeet Step
@@ -91,11 +90,11 @@ charged = record {
   store = λ {M}. store-met.met {M = M};
   defined = defined;
   equals = λ q few d e l. quote-equals q few d e l;
-  loaded = λ m w area f list. can-run m w area f list;
-  formed = (m₀, formed begun);
+  loaded = λ area f list. can-run m₀ (formed begun) area f list;
   asked = quote-asked;
   adds-up = growth-adds-up Step meet;
-  by-loads = λ m w area f x p. leaves-load (load-leaves m w area f x p);
-  by-stores = λ m area f x n h page c. by-store {x = x} (store-goes m area f x n h page c .step);
+  load-next = λ m w area f x p. load-leaves m w area f x p;
+  store-next = λ m area f x n h page c. store-goes m area f x n h page c;
+  formed = (m₀, formed begun);
   worked = worked;
 }

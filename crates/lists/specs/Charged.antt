@@ -19,12 +19,13 @@ use Rattle.instructions.proofs.load.Statement as load-says
 use Rattle.instructions.proofs.store.Statement as store-says
 use Rattle.store.specs.Mem.{Mem}
 use Rattle.formed.specs.Formed.{wellFormed}
-use Rattle.view.specs.Instructions.{Operand, Hook, heapOf}
-use Rattle.view.specs.Calls.{Store, answerOf}
+use Rattle.view.specs.Instructions.{Operand, Hook, heapOf, stored}
+use Rattle.view.specs.Calls.{Load, Store, given, answerOf}
 use Rattle.growth.specs.Quotes.{Loads, QuoteOfLoads}
-use Rattle.growth.specs.Charges.{LoadOrStore, GrowthAddsUp}
+use Rattle.growth.specs.Charges.{GrowthAddsUp}
 use Rattle.lists.specs.Steps.{Went, Step}
-use Rattle.lists.specs.Worked.{Worked}
+use Rattle.lists.specs.Goes.{Goes}
+use Rattle.lists.specs.Worked.{Leaves, at, Worked}
 
 -- a call of `quote`, as its contract tells it: its list, gas and bound
 abbrev pub Quote : Type 0
@@ -63,19 +64,19 @@ pub record Charged : Type 2 where
   -- they reach, and where they end
   pub equals : (q : Quote) → length (listOf q) ≤ 4096 → {area : Area} {f g : Frame} {n : ℕ} → gasOf q ≡ f .gas → firstBound q ≡ boundOf f area
       → Loads Step area f (listOf q) n g → told (q .result) ≡ done (endOf (f .gas) (g .gas) (boundOf g area) n)
-  -- there are such loads, of every area, frame and list, on every well-formed memory
-  pub loaded : (m : Mem) → wellFormed m ≡ true → (area : Area) (f : Frame) (list : List ℕ) → LoadsExist area f list
-  -- there is such a memory
-  pub formed : (m : Mem) × (wellFormed m ≡ true)
+  -- there are such loads, of every area, frame and list
+  pub loaded : (area : Area) (f : Frame) (list : List ℕ) → LoadsExist area f list
   -- there are such quotes
   pub asked : (list : List ℕ) (gas bound : ℕ) → QuoteExists list gas bound
   -- ---- growth adds up
   pub adds-up : GrowthAddsUp Step
-  -- there are such runs: a load whose access is paid is carried out on every well-formed memory
-  pub by-loads : (m : Mem) → wellFormed m ≡ true → (area : Area) (f : Frame) (x : ℕ) → frameAccessed f area x .paid ≡ true
-      → LoadOrStore Step area x f (frameAccessed f area x .frame)
-  -- a store to a page of 32 bits that the definition carries out has a step
-  pub by-stores : (m : Mem) (area : Area) (f : Frame) (x : Operand) (n : ℕ) (h : Hook) → heapOf f area ≤ 4294967295
-      → carriedOut (answerOf m (Store area f x n h)) ≡ true → LoadOrStore Step area (x .word) f (frameAccessed f area (x .word) .frame)
-  -- one of them, worked out by hand
+  -- there are such runs: on every well-formed memory a load whose access is paid can come next
+  pub load-next : (m : Mem) → wellFormed m ≡ true → (area : Area) (f : Frame) (x : ℕ) → frameAccessed f area x .paid ≡ true
+      → Leaves m (Load area f (at x)) (frameAccessed f area x .frame) m
+  -- and so can every store that the definition carries out, to a page whose number has 32 bits
+  pub store-next : (m : Mem) (area : Area) (f : Frame) (x : Operand) (n : ℕ) (h : Hook) → heapOf f area ≤ 4294967295
+      → carriedOut (answerOf m (Store area f x n h)) ≡ true → Goes m (Store area f x n h) (done (given (stored area f x n h)))
+  -- there is a well-formed memory
+  pub formed : (m : Mem) × (wellFormed m ≡ true)
+  -- a run worked out by hand
   pub worked : Worked

@@ -256,7 +256,7 @@ pub fn runs(layout: &Layout) -> Vec<Link> {
     links
 }
 
-/// Puts runs to the two memories in turn, since a run is of no one memory.
+/// Puts the calls to the two memories in turn: a run may use several memories.
 pub fn steps(links: Vec<Link>) -> impl FnMut(&[Model; 2], Option<Handed>) -> Option<Step> {
     let mut links = links.into_iter().zip([0, 1].into_iter().cycle());
     move |_, left| {
@@ -277,14 +277,14 @@ fn linked(
 }
 
 /// Charges of 0, 32, 1, 0, 100 and 0: the heap's bound ends at 4097, the aux heap's at 132, and 867
-/// gas is left.
+/// gas is left. The second store stops on the hook.
 pub fn worked(heap: u32, aux: u32) -> [Link; 6] {
     let frame = Frame { gas: 1000, heap, aux, heap_bound: 4096, aux_bound: 0 };
     [
         (Some(frame), load(Area::Heap, 4064)),
-        (None, store(Area::Aux, 0, value(1), None)),
+        (None, store(Area::Aux, 0, 7.into(), None)),
         (None, load(Area::Heap, 4065)),
-        (None, store(Area::Heap, 10, value(2), None)),
+        (None, store(Area::Heap, 10, 7.into(), Some(10))),
         (None, load(Area::Aux, 100)),
         (None, load(Area::Aux, 50)),
     ]

@@ -32,7 +32,8 @@ impl Sort {
         matches!(self, Self::Top | Self::Far)
     }
 
-    /// How many counts there are of pages, and of addresses, that a list comes back to.
+    /// A list comes back to at least 2 pages and 3 addresses. How many more there are is drawn below
+    /// these numbers, of pages and of addresses.
     fn variety(self) -> (u64, u64) {
         match self {
             Self::Light => (7, 8),

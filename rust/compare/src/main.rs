@@ -28,7 +28,8 @@ use zincpapaya::{Capacity, Heaps};
 
 use crate::{
     generate::{Generator, Sort},
-    list::{Finding, List, Mismatch},
+    list::{Finding, Handed, List, Mismatch, Step},
+    model::Model,
     options::Options,
     pair::Looks,
     quotes::Quotes,
@@ -78,10 +79,9 @@ impl Shard {
             }
             let list = List { layout: name, capacities: [store::CAPACITY; 2], steps: Vec::new() };
             let mut steps = edges::edges(&bank.layout()).into_iter();
-            let looks = Looks::AtTheEnd;
-            let next = |_: &_, _| steps.next();
-            let heaps = pair::run(bank.as_mut(), &mut self.tally, list.clone(), looks, next)
-                .map_err(|finding| Box::new(shrink::shrink(bank.as_mut(), looks, *finding)))?;
+            let (looks, next) = (Looks::AtTheEnd, |_: &_, _| steps.next());
+            let heaps =
+                compare_list(bank.as_mut(), &mut self.tally, list.clone(), [looks; 2], next)?;
             Quotes::new(bank.as_mut(), &mut self.tally, &heaps)
                 .edges(&mut Rng::new(self.options.seed, 0))
                 .map_err(|mismatch| after_list(name, &heaps, mismatch))?;
@@ -115,13 +115,9 @@ impl Shard {
         let generator = Generator::new(rng, bank.layout(), sort, capacities, calls);
         let mut generator = if hands_on { generator.handing_on() } else { generator };
         let next = |models: &_, left| generator.next(models, left);
-        match pair::run(bank, &mut self.tally, list, looks, next) {
-            Ok(heaps) => self.extras(layout, sort, extra_rng, &heaps),
-            Err(finding) => {
-                let looks = if sort.is_dear() { looks } else { Looks::Always };
-                Err(Box::new(shrink::shrink(bank, looks, *finding)))
-            }
-        }
+        let closer = if sort.is_dear() { looks } else { Looks::Always };
+        let heaps = compare_list(bank, &mut self.tally, list, [looks, closer], next)?;
+        self.extras(layout, sort, extra_rng, &heaps)
     }
 
     /// What is looked at on the memories that a list has left: quotes, and then the library alone.
@@ -152,21 +148,30 @@ impl Shard {
         for number in (self.number..alphabet.lists()).step_by(SHARDS as usize) {
             let list = alphabet.list(number);
             let mut steps = list.steps.clone().into_iter();
-            let looks = Looks::Every(usize::MAX);
-            pair::run(bank, &mut self.tally, list, looks, |_, _| steps.next())
-                .map_err(|finding| Box::new(shrink::shrink(bank, Looks::Always, *finding)))?;
+            let looks = [Looks::Every(usize::MAX), Looks::Always];
+            compare_list(bank, &mut self.tally, list, looks, |_, _| steps.next())?;
         }
         Ok(())
     }
 }
 
+/// Puts a list to both sides. If something differs, the list is made smaller, with the second of the
+/// looks.
+fn compare_list(
+    bank: &mut dyn Bank,
+    tally: &mut Tally,
+    list: List,
+    [looks, closer]: [Looks; 2],
+    next: impl FnMut(&[Model; 2], Option<Handed>) -> Option<Step>,
+) -> Result<Vec<Heaps>, Box<Finding>> {
+    let compared = pair::run(bank, tally, list, looks, next);
+    compared.map_err(|finding| Box::new(shrink::shrink(bank, closer, *finding)))
+}
+
 /// The runs that every comparison makes on each layout. No store of theirs is at the top of a page.
 fn edge_runs(bank: &mut dyn Bank, tally: &mut Tally, list: List) -> Result<(), Box<Finding>> {
-    let (looks, next) = (Looks::Always, edges::steps(edges::runs(&bank.layout())));
-    match pair::run(bank, tally, list, looks, next) {
-        Ok(_) => Ok(()),
-        Err(finding) => Err(Box::new(shrink::shrink(bank, looks, *finding))),
-    }
+    let next = edges::steps(edges::runs(&bank.layout()));
+    compare_list(bank, tally, list, [Looks::Always; 2], next).map(|_| ())
 }
 
 /// What differs on the memories that a list has left. The list's calls are not told: quotes and

@@ -139,7 +139,7 @@ impl<'a> Quotes<'a> {
         Ok(())
     }
 
-    /// Runs loads on both sides, on each of which growth must add up. Gives the frame that they
+    /// Runs loads on both sides, and checks on each that growth adds up. Returns the frame that they
     /// leave, and the position of the one that panics, or how many they are.
     fn run(&mut self, loads: &Loads, sides: &mut Sides) -> Result<(Frame, usize), Mismatch> {
         let mut frame = loads.first;
@@ -204,7 +204,7 @@ fn same<T: PartialEq + Debug>(
         return Ok(());
     }
     let (vm2, library) = (format!("{vm2:?}"), format!("{library:?}"));
-    Err(Mismatch { what: format!("{what}: {of:?}"), vm2, library })
+    Err(Mismatch { what: what.into(), vm2, library }.within(of))
 }
 
 /// The frame with this gas, and with this bound of one area.

@@ -1,5 +1,5 @@
 //! That the comparison finds what is wrong: vm2's answers are tampered with on their way, or the
-//! library's quotes are. And that its lists have runs of loads and stores in which growth can add up.
+//! library's quotes are. And that its lists have runs of several loads and stores.
 
 use oracle::{
     Answer, Area, Bank, Call, Frame, HeapInstruction, Layout, Operand, Ran, RustPanic, View,
@@ -312,7 +312,7 @@ fn every_layout_has_all_runs_of_the_edges() {
         longest: 6,
         both_areas: 8,
         paid: 44,
-        stops: 1,
+        stops: 2,
     };
     for layout in LAYOUTS {
         let mut bank = oracle::bank(layout).expect("a listed layout");
@@ -369,7 +369,7 @@ fn instructions_are_given_the_frame_that_is_left_where_lists_hand_it_on() {
     assert!(handed > 9 * own && own > 20, "{handed} and {own}");
     let [handed, own] = given(near, false);
     assert!(handed == 0 && own > 500, "{handed} and {own}");
-    // Page 67 of a group that is dear in vm2.
+    // The aux page of group 5,000, which is dear in vm2.
     let far = Frame { aux: 67 + 8 * 5_000, ..near };
     let [handed, own] = given(far, true);
     assert!(handed == 0 && own > 500, "{handed} and {own}");

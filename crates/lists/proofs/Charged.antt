@@ -30,7 +30,7 @@ use Rattle.lists.specs.Worked.{at}
 use Rattle.lists.specs.Charged.{Quote, listOf, gasOf, firstBound, LoadsExist, QuoteExists, Charged}
 use Rattle.lists.proofs.Contracts.{does}
 use Rattle.lists.proofs.Inhabited.{ref}
-use Rattle.lists.proofs.Carried.{answer, load-is, load-step, load-leaves, store-goes}
+use Rattle.lists.proofs.Leaving.{answer, load-is, load-step, load-leaves, store-goes}
 use Rattle.lists.proofs.Worked.{m₀, begun, formed, worked}
 
 meet : LoadsAndStoresMeet Step

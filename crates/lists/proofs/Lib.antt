@@ -1,6 +1,6 @@
 -- Contracts: what the contracts say of a step. Next: lists begin and go on, by Inhabited, Frees, Comparing and Instructions: every call has a step.
 -- Theorem: the demand, with no hypothesis left. Charged: that a quote is what its loads pay and that
--- growth adds up, likewise, by Carried and Worked: loads and stores that are carried out have steps.
+-- growth adds up, likewise, by Leaving and Worked: loads and stores that are carried out have steps.
 
 pub mod Compares
 pub mod Contracts
@@ -15,6 +15,6 @@ pub mod Comparing
 pub mod Instructions
 pub mod Next
 pub mod Theorem
-pub mod Carried
+pub mod Leaving
 pub mod Worked
 pub mod Charged

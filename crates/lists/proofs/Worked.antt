@@ -27,7 +27,7 @@ use Rattle.growth.specs.Charges as growth
 use Rattle.lists.specs.Steps.{Step}
 use Rattle.lists.specs.Goes.{Goes}
 use Rattle.lists.specs.Worked.{Leaves, at, noHook, hookAt, frame, Worked}
-use Rattle.lists.proofs.Carried.{load-leaves, store-goes, leaves-load, leaves-store}
+use Rattle.lists.proofs.Leaving.{load-leaves, store-goes, leaves-load, leaves-store}
 use Rattle.lists.proofs.Next.{answer-is, small, small-begins}
 use Rattle.lists.proofs.Theorem.{theorem}
 

@@ -25,9 +25,6 @@ loop-holds c =
     let start = c .before .before .before .before .before in
     (omega arith, refl, put-none _ _ _ _ _ _ (start .args .src .now) (start .pre))
 
-add-abs : tie.Need-add-abs Inv-loop μ-loop
-add-abs c = search needs
-
 cast-place-of : tie.Need-cast-place-of Inv-loop μ-loop
 cast-place-of c =
     let start = c .before .before .before .before .before .before .before in
@@ -37,12 +34,6 @@ place-of-requires : tie.Need-place-of-requires Inv-loop μ-loop
 place-of-requires c κs =
     let start = c .before .before .before .before .before .before .before in
     let top = start .pre .top in (find-asked _ (start .pre .formed), omega arith)
-
-sub-piece : tie.Need-sub-piece Inv-loop μ-loop
-sub-piece c = search needs
-
-piece-requires : tie.Need-piece-requires Inv-loop μ-loop
-piece-requires c κs = search needs
 
 mul-copy : tie.Need-mul-copy Inv-loop μ-loop
 mul-copy c =
@@ -74,12 +65,6 @@ copy-requires c κs =
     let fit = at-piece .piece .ensures in
     (omega arith, omega arith)
 
-add-pos : tie.Need-add-pos Inv-loop μ-loop
-add-pos c = search needs
-
-loop-less : tie.Need-loop-less Inv-loop μ-loop
-loop-less c = search needs
-
 loop-again : tie.Need-loop-again Inv-loop μ-loop
 loop-again c =
     let at-copy = c .before .before in
@@ -90,9 +75,6 @@ loop-again c =
     let start = at-loop .before .before .before .before .before .before in
     let fit = at-piece .piece .ensures in
     (omega arith, at-copy .copy .kept .1 .1 .0 ∙ at-loop .loop .inv .1, put-more _ _ _ _ _ _ (start .args .src .now) (start .pre) (at-loop .loop .pos) (at-loop .loop .bytes) (at-loop .loop .inv .2) (at-place-of .place-of .result) (at-piece .piece .result) _ (put-slot _ _ _ _ _ _ (start .args .src .now) (start .pre) (at-place-of .place-of .result) (at-loop .loop .pos) (at-loop-test .loop-test .taken) (at-place-of .place-of .ensures)) (omega arith) (at-piece .piece .ensures .2) (at-copy .copy .kept .1 .1 .0) (at-copy .copy .ensures))
-
-same-length : tie.Need-same-length Inv-loop μ-loop
-same-length c = search needs
 
 returns : tie.Need-returns Inv-loop μ-loop
 returns c =
@@ -108,16 +90,16 @@ write-from-spec =
     Inv-loop
     μ-loop
     loop-holds
-    add-abs
+    (λ c. search needs)
     cast-place-of
     place-of-requires
-    sub-piece
-    piece-requires
+    (λ c. search needs)
+    (λ c κs. search needs)
     mul-copy
     add-copy
     copy-requires
-    add-pos
-    loop-less
+    (λ c. search needs)
+    (λ c. search needs)
     loop-again
-    same-length
+    (λ c. search needs)
     returns)

@@ -12,18 +12,6 @@ hinted-requires c κs =
     let start = c .before .before .before .before .before .before .before in
     find-asked (mem (start .args .bytes .now) (start .args .keys .now) (start .args .order .now) (start .args .words .now)) (start .pre .0 .formed)
 
-slice-read-if1 : tie.Need-slice-read-if1
-slice-read-if1 c = search needs
-
-same-length : tie.Need-same-length
-same-length c = search needs
-
-same-length-2 : tie.Need-same-length-2
-same-length-2 c = search needs
-
-same-length-3 : tie.Need-same-length-3
-same-length-3 c = search needs
-
 returns : tie.Need-returns
 returns c =
     let at-if1 = c in
@@ -52,15 +40,6 @@ learn-requires c κs =
     let lo = l .slots-lo in
     ((omega arith, l .slots-hi, l .pages-hi), (omega arith, omega arith))
 
-same-length-4 : tie.Need-same-length-4
-same-length-4 c = search needs
-
-same-length-5 : tie.Need-same-length-5
-same-length-5 c = search needs
-
-same-length-6 : tie.Need-same-length-6
-same-length-6 c = search needs
-
 returns-2 : tie.Need-returns-2
 returns-2 c =
     let at-learn = c .before .before in
@@ -75,14 +54,14 @@ hold-chunk-spec =
     tie.close
     (tie.spec
     hinted-requires
-    slice-read-if1
-    same-length
-    same-length-2
-    same-length-3
+    (λ c. search needs)
+    (λ c. search needs)
+    (λ c. search needs)
+    (λ c. search needs)
     returns
     hold-requires
     learn-requires
-    same-length-4
-    same-length-5
-    same-length-6
+    (λ c. search needs)
+    (λ c. search needs)
+    (λ c. search needs)
     returns-2)

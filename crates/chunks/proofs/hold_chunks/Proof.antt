@@ -54,9 +54,6 @@ add-hold-chunk c =
     let start = at-loop-test .before .before .before .before .before .before .before .before .before .before in
     omega (arith, start .pre .top, at-loop-test .loop-test .taken)
 
-cast-hold-chunk : tie.Need-cast-hold-chunk Inv-loop μ-loop
-cast-hold-chunk c = search needs
-
 add-hold-chunk-2 : tie.Need-add-hold-chunk-2 Inv-loop μ-loop
 add-hold-chunk-2 c =
     let at-loop-test = c .before .before .before in
@@ -72,12 +69,6 @@ hold-chunk-requires c κs =
     let start = at-entry-of .before .before .before .before .before .before .before .before in
     (next-asks (mem (start .args .bytes .now) (start .args .keys .now) (start .args .order .now) (start .args .words .now)) (start .args .page) (start .args .first) (start .args .count) (start .pre) (at-loop .loop .i) (at-loop-test .loop-test .taken) (mem (start .args .bytes .now) (at-loop .loop .keys) (at-loop .loop .order) (at-loop .loop .words)) (at-loop .loop .inv .4), next-key (mem (start .args .bytes .now) (start .args .keys .now) (start .args .order .now) (start .args .words .now)) (start .args .page) (start .args .first) (start .args .count) (start .pre) (at-loop .loop .i) (at-loop-test .loop-test .taken) (mem (start .args .bytes .now) (at-loop .loop .keys) (at-loop .loop .order) (at-loop .loop .words)) (at-loop .loop .inv .4) (at-entry-of .entry-of .result) (at-entry-of .entry-of .result * 33554432 + 1 + start .args .first + at-loop .loop .i) (at-entry-of .entry-of .ensures) (omega arith))
 
-add-i : tie.Need-add-i Inv-loop μ-loop
-add-i c = search needs
-
-loop-less : tie.Need-loop-less Inv-loop μ-loop
-loop-less c = search needs
-
 loop-again : tie.Need-loop-again Inv-loop μ-loop
 loop-again c =
     let at-hold-chunk = c .before .before .before .before .before .before in
@@ -86,15 +77,6 @@ loop-again c =
     let start = at-loop .before .before .before .before .before .before .before .before .before in
     let d = at-hold-chunk .hold-chunk .ensures in
     (search needs, search needs, search needs, search needs, next-after (mem (start .args .bytes .now) (start .args .keys .now) (start .args .order .now) (start .args .words .now)) (start .args .page) (start .args .first) (start .args .count) (start .pre) (at-loop .loop .i) (at-loop-test .loop-test .taken) (mem (start .args .bytes .now) (at-loop .loop .keys) (at-loop .loop .order) (at-loop .loop .words)) (at-loop .loop .inv .4) _ (d .0) (d .1))
-
-same-length : tie.Need-same-length Inv-loop μ-loop
-same-length c = search needs
-
-same-length-2 : tie.Need-same-length-2 Inv-loop μ-loop
-same-length-2 c = search needs
-
-same-length-3 : tie.Need-same-length-3 Inv-loop μ-loop
-same-length-3 c = search needs
 
 returns : tie.Need-returns Inv-loop μ-loop
 returns c =
@@ -116,13 +98,13 @@ hold-chunks-spec =
     add-k-2
     loop-holds
     add-hold-chunk
-    cast-hold-chunk
+    (λ c. search needs)
     add-hold-chunk-2
     hold-chunk-requires
-    add-i
-    loop-less
+    (λ c. search needs)
+    (λ c. search needs)
     loop-again
-    same-length
-    same-length-2
-    same-length-3
+    (λ c. search needs)
+    (λ c. search needs)
+    (λ c. search needs)
     returns)

@@ -39,18 +39,6 @@ give-requires c κs =
     let start = c .before .before .before .before .before .before .before .before .before .before .before .before in
     let l = start .pre .page .formed .lengths .in-bytes in let o = start .pre .order in (slots-asked _ (start .pre .page .formed), (omega arith, omega arith, omega arith))
 
-same-length : tie.Need-same-length
-same-length c = search needs
-
-same-length-2 : tie.Need-same-length-2
-same-length-2 c = search needs
-
-same-length-3 : tie.Need-same-length-3
-same-length-3 c = search needs
-
-same-length-4 : tie.Need-same-length-4
-same-length-4 c = search needs
-
 returns : tie.Need-returns
 returns c =
     let at-give = c .before .before .before .before .before .before .before .before in
@@ -68,8 +56,8 @@ drop-chunks-spec =
     add-give
     add-give-2
     give-requires
-    same-length
-    same-length-2
-    same-length-3
-    same-length-4
+    (λ c. search needs)
+    (λ c. search needs)
+    (λ c. search needs)
+    (λ c. search needs)
     returns)

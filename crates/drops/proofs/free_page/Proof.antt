@@ -15,18 +15,6 @@ unlist-page-requires c κs =
     let start = at-drop-chunks .before .before .before .before .before .before .before .before .before in
     unlist-asked _ _ (start .pre) _ (at-drop-chunks .drop-chunks .ensures .0)
 
-same-length : tie.Need-same-length
-same-length c = search needs
-
-same-length-2 : tie.Need-same-length-2
-same-length-2 c = search needs
-
-same-length-3 : tie.Need-same-length-3
-same-length-3 c = search needs
-
-same-length-4 : tie.Need-same-length-4
-same-length-4 c = search needs
-
 returns : tie.Need-returns
 returns c =
     let at-unlist-page = c .before .before .before .before .before .before in
@@ -40,8 +28,8 @@ free-page-spec =
     (tie.spec
     drop-chunks-requires
     unlist-page-requires
-    same-length
-    same-length-2
-    same-length-3
-    same-length-4
+    (λ c. search needs)
+    (λ c. search needs)
+    (λ c. search needs)
+    (λ c. search needs)
     returns)

@@ -3,18 +3,6 @@ use Rattle.fat_pointer.proofs.Fields.{of-limbs}
 use Rattle.fat_pointer.proofs.of_limbs.Statement.{statement}
 use Rattle.fat_pointer.proofs.of_limbs.Tie as tie
 
-high-requires : tie.Need-high-requires
-high-requires c κs = search needs
-
-low-requires : tie.Need-low-requires
-low-requires c κs = search needs
-
-low-requires-2 : tie.Need-low-requires-2
-low-requires-2 c κs = search needs
-
-high-requires-2 : tie.Need-high-requires-2
-high-requires-2 c κs = search needs
-
 returns : tie.Need-returns
 returns c =
     let start = c .before .before .before .before in
@@ -23,4 +11,4 @@ returns c =
 
 pub of-limbs-spec : {M : Type 1} → statement M
 of-limbs-spec =
-    tie.close (tie.spec high-requires low-requires low-requires-2 high-requires-2 returns)
+    tie.close (tie.spec (λ c κs. search needs) (λ c κs. search needs) (λ c κs. search needs) (λ c κs. search needs) returns)

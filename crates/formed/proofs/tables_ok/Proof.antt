@@ -9,60 +9,12 @@ use Rattle.formed.proofs.Bools.{and-stop, and-pass}
 use Rattle.formed.proofs.tables_ok.Statement.{statement}
 use Rattle.formed.proofs.tables_ok.Tie as tie
 
-sub-index-ok : tie.Need-sub-index-ok
-sub-index-ok c = search needs
-
-part-index-ok-start : tie.Need-part-index-ok-start
-part-index-ok-start c = search needs
-
-part-index-ok-end : tie.Need-part-index-ok-end
-part-index-ok-end c = search needs
-
-sub-index-ok-2 : tie.Need-sub-index-ok-2
-sub-index-ok-2 c = search needs
-
-part-index-ok-start-2 : tie.Need-part-index-ok-start-2
-part-index-ok-start-2 c = search needs
-
-part-index-ok-end-2 : tie.Need-part-index-ok-end-2
-part-index-ok-end-2 c = search needs
-
-index-ok-requires : tie.Need-index-ok-requires
-index-ok-requires c κs = search needs
-
 returns : tie.Need-returns
 returns c =
     let at-if1 = c in
     let at-index-ok = at-if1 .before in
     let start = at-index-ok .before .before .before .before .before in
     and-stop (indexed (take (start .args .c) (start .args .keys .now)) (take (start .args .c) (start .args .order .now)) (start .args .n)) _ (ap (λ (x : ℕ). indexed (take x (start .args .keys .now)) (take x (start .args .order .now)) (start .args .n)) (sym (sub-zero (start .args .c))) ∙ sym (at-index-ok .index-ok .ensures) ∙ not-true _ (at-if1 .if1 .taken))
-
-mul-index-ok : tie.Need-mul-index-ok
-mul-index-ok c = search needs
-
-sub-index-ok-3 : tie.Need-sub-index-ok-3
-sub-index-ok-3 c = search needs
-
-part-index-ok-start-3 : tie.Need-part-index-ok-start-3
-part-index-ok-start-3 c = search needs
-
-part-index-ok-end-3 : tie.Need-part-index-ok-end-3
-part-index-ok-end-3 c = search needs
-
-mul-index-ok-2 : tie.Need-mul-index-ok-2
-mul-index-ok-2 c = search needs
-
-sub-index-ok-4 : tie.Need-sub-index-ok-4
-sub-index-ok-4 c = search needs
-
-part-index-ok-start-4 : tie.Need-part-index-ok-start-4
-part-index-ok-start-4 c = search needs
-
-part-index-ok-end-4 : tie.Need-part-index-ok-end-4
-part-index-ok-end-4 c = search needs
-
-index-ok-requires-2 : tie.Need-index-ok-requires-2
-index-ok-requires-2 c κs = search needs
 
 returns-2 : tie.Need-returns-2
 returns-2 c =
@@ -76,21 +28,21 @@ pub tables-ok-spec : {M : Type 1} → statement M
 tables-ok-spec =
     tie.close
     (tie.spec
-    sub-index-ok
-    part-index-ok-start
-    part-index-ok-end
-    sub-index-ok-2
-    part-index-ok-start-2
-    part-index-ok-end-2
-    index-ok-requires
+    (λ c. search needs)
+    (λ c. search needs)
+    (λ c. search needs)
+    (λ c. search needs)
+    (λ c. search needs)
+    (λ c. search needs)
+    (λ c κs. search needs)
     returns
-    mul-index-ok
-    sub-index-ok-3
-    part-index-ok-start-3
-    part-index-ok-end-3
-    mul-index-ok-2
-    sub-index-ok-4
-    part-index-ok-start-4
-    part-index-ok-end-4
-    index-ok-requires-2
+    (λ c. search needs)
+    (λ c. search needs)
+    (λ c. search needs)
+    (λ c. search needs)
+    (λ c. search needs)
+    (λ c. search needs)
+    (λ c. search needs)
+    (λ c. search needs)
+    (λ c κs. search needs)
     returns-2)

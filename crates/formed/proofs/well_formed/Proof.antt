@@ -8,9 +8,6 @@ use Rattle.formed.proofs.Stages.{head-narrow, stop-sizes, stop-head, at
 use Rattle.formed.proofs.well_formed.Statement.{statement}
 use Rattle.formed.proofs.well_formed.Tie as tie
 
-sized-ok-requires : tie.Need-sized-ok-requires
-sized-ok-requires c κs = search needs
-
 returns : tie.Need-returns
 returns c =
     let at-if1 = c in
@@ -56,4 +53,4 @@ returns-3 c =
 pub well-formed-spec : {M : Type 1} → statement M
 well-formed-spec =
     tie.close
-    (tie.spec sized-ok-requires returns head-ok-requires returns-2 parts-ok-requires returns-3)
+    (tie.spec (λ c κs. search needs) returns head-ok-requires returns-2 parts-ok-requires returns-3)

@@ -16,21 +16,6 @@ use borrow.Author.Needs.{needs}
 use Rattle.freeing.proofs.compact_to_window.Statement.{statement}
 use Rattle.freeing.proofs.compact_to_window.Tie as tie
 
-well-formed-requires : tie.Need-well-formed-requires
-well-formed-requires c κs = search needs
-
-same-length : tie.Need-same-length
-same-length c = search needs
-
-same-length-2 : tie.Need-same-length-2
-same-length-2 c = search needs
-
-same-length-3 : tie.Need-same-length-3
-same-length-3 c = search needs
-
-same-length-4 : tie.Need-same-length-4
-same-length-4 c = search needs
-
 returns : tie.Need-returns
 returns c =
     let at-if1 = c in
@@ -44,18 +29,6 @@ is-dynamic-requires c κs =
     let at-well-formed = at-if1 .before in
     let start = at-well-formed .before .before .before .before .before .before .before .before .before in
     well-formed-means (mem (start .args .bytes .now) (start .args .keys .now) (start .args .order .now) (start .args .words .now)) (sym (at-well-formed .well-formed .ensures) ∙ not-false _ (at-if1 .if1 .left))
-
-same-length-5 : tie.Need-same-length-5
-same-length-5 c = search needs
-
-same-length-6 : tie.Need-same-length-6
-same-length-6 c = search needs
-
-same-length-7 : tie.Need-same-length-7
-same-length-7 c = search needs
-
-same-length-8 : tie.Need-same-length-8
-same-length-8 c = search needs
 
 returns-2 : tie.Need-returns-2
 returns-2 c =
@@ -75,18 +48,6 @@ retain-window-requires c κs =
     let start = at-well-formed .before .before .before .before .before .before .before .before .before in
     both-asked (mem (start .args .bytes .now) (start .args .keys .now) (start .args .order .now) (start .args .words .now)) (start .args .page .0) (well-formed-means (mem (start .args .bytes .now) (start .args .keys .now) (start .args .order .now) (start .args .words .now)) (sym (at-well-formed .well-formed .ensures) ∙ not-false _ (at-if1 .if1 .left))) (sym (at-is-dynamic .is-dynamic .ensures) ∙ not-false _ (at-if2 .if2 .left))
 
-same-length-9 : tie.Need-same-length-9
-same-length-9 c = search needs
-
-same-length-10 : tie.Need-same-length-10
-same-length-10 c = search needs
-
-same-length-11 : tie.Need-same-length-11
-same-length-11 c = search needs
-
-same-length-12 : tie.Need-same-length-12
-same-length-12 c = search needs
-
 returns-3 : tie.Need-returns-3
 returns-3 c =
     let at-retain-window = c .before .before .before .before .before .before .before .before in
@@ -99,21 +60,21 @@ pub compact-to-window-spec : {M : Type 1} → statement M
 compact-to-window-spec =
     tie.close
     (tie.spec
-    well-formed-requires
-    same-length
-    same-length-2
-    same-length-3
-    same-length-4
+    (λ c κs. search needs)
+    (λ c. search needs)
+    (λ c. search needs)
+    (λ c. search needs)
+    (λ c. search needs)
     returns
     is-dynamic-requires
-    same-length-5
-    same-length-6
-    same-length-7
-    same-length-8
+    (λ c. search needs)
+    (λ c. search needs)
+    (λ c. search needs)
+    (λ c. search needs)
     returns-2
     retain-window-requires
-    same-length-9
-    same-length-10
-    same-length-11
-    same-length-12
+    (λ c. search needs)
+    (λ c. search needs)
+    (λ c. search needs)
+    (λ c. search needs)
     returns-3)

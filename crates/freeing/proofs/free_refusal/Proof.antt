@@ -11,9 +11,6 @@ use borrow.Author.Needs.{needs}
 use Rattle.freeing.proofs.free_refusal.Statement.{statement}
 use Rattle.freeing.proofs.free_refusal.Tie as tie
 
-well-formed-requires : tie.Need-well-formed-requires
-well-formed-requires c κs = search needs
-
 returns : tie.Need-returns
 returns c =
     let at-if1 = c in
@@ -28,9 +25,6 @@ decode-requires c κs =
     let start = at-well-formed .before .before .before .before .before in
     well-formed-means (mem (start .args .bytes .now) (start .args .keys .now) (start .args .order .now) (start .args .words .now)) (sym (at-well-formed .well-formed .ensures) ∙ not-false _ (at-if1 .if1 .left))
 
-is-undecodable-requires : tie.Need-is-undecodable-requires
-is-undecodable-requires c κs = search needs
-
 returns-2 : tie.Need-returns-2
 returns-2 c =
     let at-if2 = c in
@@ -40,9 +34,6 @@ returns-2 c =
     let at-well-formed = at-if1 .before in
     let start = at-well-formed .before .before .before .before .before in
     well-chosen (mem (start .args .bytes .now) (start .args .keys .now) (start .args .order .now) (start .args .words .now)) (freeChecks (settingOf (mem (start .args .bytes .now) (start .args .keys .now) (start .args .order .now) (start .args .words .now))) (viewOf (mem (start .args .bytes .now) (start .args .keys .now) (start .args .order .now) (start .args .words .now))) (start .args .page)) (sym (at-well-formed .well-formed .ensures) ∙ not-false _ (at-if1 .if1 .left)) _ (free-4 (settingOf (mem (start .args .bytes .now) (start .args .keys .now) (start .args .order .now) (start .args .words .now))) (viewOf (mem (start .args .bytes .now) (start .args .keys .now) (start .args .order .now) (start .args .words .now))) (start .args .page) _ (at-decode .decode .ensures) (sym (at-is-undecodable .is-undecodable .ensures) ∙ at-if2 .if2 .taken))
-
-is-fixed-requires : tie.Need-is-fixed-requires
-is-fixed-requires c κs = search needs
 
 returns-3 : tie.Need-returns-3
 returns-3 c =
@@ -95,12 +86,12 @@ pub free-refusal-spec : {M : Type 1} → statement M
 free-refusal-spec =
     tie.close
     (tie.spec
-    well-formed-requires
+    (λ c κs. search needs)
     returns
     decode-requires
-    is-undecodable-requires
+    (λ c κs. search needs)
     returns-2
-    is-fixed-requires
+    (λ c κs. search needs)
     returns-3
     is-allocated-requires
     returns-4

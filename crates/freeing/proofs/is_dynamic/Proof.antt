@@ -6,12 +6,6 @@ use borrow.Author.Needs.{needs}
 use Rattle.freeing.proofs.is_dynamic.Statement.{statement}
 use Rattle.freeing.proofs.is_dynamic.Tie as tie
 
-decode-requires : tie.Need-decode-requires
-decode-requires c κs = search needs
-
-is-undecodable-requires : tie.Need-is-undecodable-requires
-is-undecodable-requires c κs = search needs
-
 returns : tie.Need-returns
 returns c =
     let at-if1 = c in
@@ -20,9 +14,6 @@ returns c =
     let start = at-decode .before .before .before .before .before in
     is-none (mem (start .args .bytes .now) (start .args .keys .now) (start .args .order .now) (start .args .words .now)) (start .args .page) _ (at-decode .decode .ensures) (sym (at-is-undecodable .is-undecodable .ensures) ∙ at-if1 .if1 .taken)
 
-is-fixed-requires : tie.Need-is-fixed-requires
-is-fixed-requires c κs = search needs
-
 returns-2 : tie.Need-returns-2
 returns-2 c =
     let at-if2 = c in
@@ -30,9 +21,6 @@ returns-2 c =
     let at-decode = at-is-fixed .before .before .before in
     let start = at-decode .before .before .before .before .before in
     is-fixed (mem (start .args .bytes .now) (start .args .keys .now) (start .args .order .now) (start .args .words .now)) (start .args .page) _ (at-decode .decode .ensures) (sym (at-is-fixed .is-fixed .ensures) ∙ at-if2 .if2 .taken)
-
-is-allocated-requires : tie.Need-is-allocated-requires
-is-allocated-requires c κs = search needs
 
 returns-3 : tie.Need-returns-3
 returns-3 c =
@@ -49,10 +37,10 @@ pub is-dynamic-spec : {M : Type 1} → statement M
 is-dynamic-spec =
     tie.close
     (tie.spec
-    decode-requires
-    is-undecodable-requires
+    (λ c κs. search needs)
+    (λ c κs. search needs)
     returns
-    is-fixed-requires
+    (λ c κs. search needs)
     returns-2
-    is-allocated-requires
+    (λ c κs. search needs)
     returns-3)

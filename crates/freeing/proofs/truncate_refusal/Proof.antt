@@ -12,9 +12,6 @@ use borrow.Author.Needs.{needs}
 use Rattle.freeing.proofs.truncate_refusal.Statement.{statement}
 use Rattle.freeing.proofs.truncate_refusal.Tie as tie
 
-well-formed-requires : tie.Need-well-formed-requires
-well-formed-requires c κs = search needs
-
 returns : tie.Need-returns
 returns c =
     let at-if1 = c in
@@ -47,4 +44,4 @@ returns-3 c =
 
 pub truncate-refusal-spec : {M : Type 1} → statement M
 truncate-refusal-spec =
-    tie.close (tie.spec well-formed-requires returns shared-slice-read-if2 returns-2 returns-3)
+    tie.close (tie.spec (λ c κs. search needs) returns shared-slice-read-if2 returns-2 returns-3)

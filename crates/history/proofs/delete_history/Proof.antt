@@ -6,12 +6,6 @@ use Rattle.history.proofs.History.{is-formed, is-not, not-formed, call-
 use Rattle.history.proofs.delete_history.Statement.{statement}
 use Rattle.history.proofs.delete_history.Tie as tie
 
-well-formed-requires : tie.Need-well-formed-requires
-well-formed-requires c κs = search needs
-
-same-length : tie.Need-same-length
-same-length c = search needs
-
 returns : tie.Need-returns
 returns c =
     let at-if1 = c in
@@ -27,9 +21,6 @@ forget-requires c κs =
     let start = at-well-formed .before .before .before .before .before .before in
     well-formed-means (mem (start .args .bytes .now) (start .args .keys .now) (start .args .order .now) (start .args .words .now)) (is-formed (mem (start .args .bytes .now) (start .args .keys .now) (start .args .order .now) (start .args .words .now)) (at-well-formed .well-formed .result) (at-well-formed .well-formed .ensures) (at-if1 .if1 .left))
 
-same-length-2 : tie.Need-same-length-2
-same-length-2 c = search needs
-
 returns-2 : tie.Need-returns-2
 returns-2 c =
     let at-forget = c .before .before in
@@ -39,4 +30,4 @@ returns-2 c =
     forget-done (mem (start .args .bytes .now) (start .args .keys .now) (start .args .order .now) (start .args .words .now)) (is-formed (mem (start .args .bytes .now) (start .args .keys .now) (start .args .order .now) (start .args .words .now)) (at-well-formed .well-formed .result) (at-well-formed .well-formed .ensures) (at-if1 .if1 .left)) _ (at-forget .forget .ensures)
 
 pub delete-history-spec : {M : Type 1} → statement M
-delete-history-spec = tie.close (tie.spec well-formed-requires same-length returns forget-requires same-length-2 returns-2)
+delete-history-spec = tie.close (tie.spec (λ c κs. search needs) (λ c. search needs) returns forget-requires (λ c. search needs) returns-2)

@@ -4,15 +4,6 @@ use Rattle.history.proofs.History.{rollback-refused, rollback-asks, rol
 use Rattle.history.proofs.rollback.Statement.{statement}
 use Rattle.history.proofs.rollback.Tie as tie
 
-rollback-refusal-requires : tie.Need-rollback-refusal-requires
-rollback-refusal-requires c κs = search needs
-
-same-length : tie.Need-same-length
-same-length c = search needs
-
-same-length-2 : tie.Need-same-length-2
-same-length-2 c = search needs
-
 returns : tie.Need-returns
 returns c =
     let at-if1 = c in
@@ -27,12 +18,6 @@ roll-back-requires c κs =
     let start = at-refusal .before .before .before .before .before .before .before in
     rollback-asks (mem (start .args .bytes .now) (start .args .keys .now) (start .args .order .now) (start .args .words .now)) (start .args .heap) (start .args .aux) (at-refusal .rollback-refusal .result) (at-refusal .rollback-refusal .ensures) (at-if1 .if1 .left)
 
-same-length-3 : tie.Need-same-length-3
-same-length-3 c = search needs
-
-same-length-4 : tie.Need-same-length-4
-same-length-4 c = search needs
-
 returns-2 : tie.Need-returns-2
 returns-2 c =
     let at-roll-back = c .before .before .before .before in
@@ -42,4 +27,4 @@ returns-2 c =
     rollback-done (mem (start .args .bytes .now) (start .args .keys .now) (start .args .order .now) (start .args .words .now)) (start .args .heap) (start .args .aux) (at-refusal .rollback-refusal .result) (at-refusal .rollback-refusal .ensures) (at-if1 .if1 .left) _ (at-roll-back .roll-back .ensures)
 
 pub rollback-spec : {M : Type 1} → statement M
-rollback-spec = tie.close (tie.spec rollback-refusal-requires same-length same-length-2 returns roll-back-requires same-length-3 same-length-4 returns-2)
+rollback-spec = tie.close (tie.spec (λ c κs. search needs) (λ c. search needs) (λ c. search needs) returns roll-back-requires (λ c. search needs) (λ c. search needs) returns-2)

@@ -6,9 +6,6 @@ use Rattle.history.proofs.History.{is-formed, is-not, refusal-3, refusa
 use Rattle.history.proofs.rollback_refusal.Statement.{statement}
 use Rattle.history.proofs.rollback_refusal.Tie as tie
 
-well-formed-requires : tie.Need-well-formed-requires
-well-formed-requires c κs = search needs
-
 returns : tie.Need-returns
 returns c =
     let at-if1 = c in
@@ -60,4 +57,4 @@ returns-4 c =
     refusal-none (mem (start .args .bytes .now) (start .args .keys .now) (start .args .order .now) (start .args .words .now)) (start .args .heap) (start .args .aux) (is-formed (mem (start .args .bytes .now) (start .args .keys .now) (start .args .order .now) (start .args .words .now)) (at-well-formed .well-formed .result) (at-well-formed .well-formed .ensures) (at-if1 .if1 .left)) (at-if2 .if2 .left) (at-if3 .if3 .left)
 
 pub rollback-refusal-spec : {M : Type 1} → statement M
-rollback-refusal-spec = tie.close (tie.spec well-formed-requires returns shared-slice-read-if2 returns-2 shared-slice-read-if3 returns-3 returns-4)
+rollback-refusal-spec = tie.close (tie.spec (λ c κs. search needs) returns shared-slice-read-if2 returns-2 shared-slice-read-if3 returns-3 returns-4)

@@ -16,12 +16,6 @@ abbrev μ-loop : tie.MeasureT-loop
 loop-holds : tie.Need-loop-holds Inv-loop μ-loop
 loop-holds c = (search needs, search needs, clear-none _ _ _ _ (omega arith))
 
-mul-keys : tie.Need-mul-keys Inv-loop μ-loop
-mul-keys c = search needs
-
-shared-slice-read-keys : tie.Need-shared-slice-read-keys Inv-loop μ-loop
-shared-slice-read-keys c = search needs
-
 cast-keys : tie.Need-cast-keys Inv-loop μ-loop
 cast-keys c =
     let at-shared-slice-known = c in
@@ -42,21 +36,12 @@ slice-write-keys c =
     let start = at-loop .before in
     let h = start .pre .2 (at-loop .loop .i) (at-loop .loop .inv .0) (at-loop-test .loop-test .taken) in let l = at-loop .loop .inv .2 .long in omega arith
 
-add-i : tie.Need-add-i Inv-loop μ-loop
-add-i c = search needs
-
-loop-less : tie.Need-loop-less Inv-loop μ-loop
-loop-less c = search needs
-
 loop-again : tie.Need-loop-again Inv-loop μ-loop
 loop-again c =
     let at-loop-test = c .before in
     let at-loop = at-loop-test .before in
     let start = at-loop .before in
     (omega arith, omega arith, clear-more _ _ _ _ _ (at-loop .loop .inv .0) (start .pre .2 (at-loop .loop .i) (at-loop .loop .inv .0) (at-loop-test .loop-test .taken)) (at-loop .loop .inv .2))
-
-same-length : tie.Need-same-length Inv-loop μ-loop
-same-length c = search needs
 
 returns : tie.Need-returns Inv-loop μ-loop
 returns c =
@@ -71,13 +56,13 @@ clear-spec =
     Inv-loop
     μ-loop
     loop-holds
-    mul-keys
-    shared-slice-read-keys
+    (λ c. search needs)
+    (λ c. search needs)
     cast-keys
     mul-keys-2
     slice-write-keys
-    add-i
-    loop-less
+    (λ c. search needs)
+    (λ c. search needs)
     loop-again
-    same-length
+    (λ c. search needs)
     returns)

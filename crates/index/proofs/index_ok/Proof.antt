@@ -7,18 +7,12 @@ use Rattle.index.proofs.index_ok.Tie as tie
 returns : tie.Need-returns
 returns c = sym (index-short _ _ _ (c .if1 .taken))
 
-count-used-requires : tie.Need-count-used-requires
-count-used-requires c κs = search needs
-
 returns-2 : tie.Need-returns-2
 returns-2 c = sym (index-miscounted _ _ _ (c .before .before .if1 .left) (λ e. c .if2 .taken (c .before .count-used .ensures ∙ e)))
-
-rising-requires : tie.Need-rising-requires
-rising-requires c κs = search needs
 
 returns-3 : tie.Need-returns-3
 returns-3 c = c .rising .ensures ∙ sym (index-is _ _ _ (c .before .before .before .if1 .left) (sym (c .before .before .count-used .ensures) ∙ c .before .if2 .left))
 
 pub index-ok-spec : {M : Type 1} → statement M
 index-ok-spec =
-    tie.close (tie.spec returns count-used-requires returns-2 rising-requires returns-3)
+    tie.close (tie.spec returns (λ c κs. search needs) returns-2 (λ c κs. search needs) returns-3)

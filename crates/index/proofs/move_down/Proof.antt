@@ -18,39 +18,12 @@ abbrev μ-loop : tie.MeasureT-loop
 loop-holds : tie.Need-loop-holds Inv-loop μ-loop
 loop-holds c = (omega arith, omega arith, (λ i l. refl), record { long = refl; low = λ i l. refl; high = λ i a b. absurd (omega arith) })
 
-mul-order : tie.Need-mul-order Inv-loop μ-loop
-mul-order c = search needs
-
-slice-read-order : tie.Need-slice-read-order Inv-loop μ-loop
-slice-read-order c = search needs
-
-sub-order : tie.Need-sub-order Inv-loop μ-loop
-sub-order c = search needs
-
-add-order : tie.Need-add-order Inv-loop μ-loop
-add-order c = search needs
-
-mul-order-2 : tie.Need-mul-order-2 Inv-loop μ-loop
-mul-order-2 c = search needs
-
-slice-write-order : tie.Need-slice-write-order Inv-loop μ-loop
-slice-write-order c = search needs
-
-add-j : tie.Need-add-j Inv-loop μ-loop
-add-j c = search needs
-
-loop-less : tie.Need-loop-less Inv-loop μ-loop
-loop-less c = search needs
-
 loop-again : tie.Need-loop-again Inv-loop μ-loop
 loop-again c =
     let at-loop-test = c .before in
     let at-loop = at-loop-test .before in
     let start = at-loop .before in
     (omega arith, omega arith, down-rest (start .args .order .now) (at-loop .loop .order) _ _ _ (start .pre .0) (at-loop .loop .inv .0) (at-loop .loop .inv .2), down-more _ _ _ _ _ (start .pre .0) (at-loop .loop .inv .0) (omega (arith, at-loop-test .loop-test .taken)) (at-loop .loop .inv .2) (at-loop .loop .inv .3))
-
-same-length : tie.Need-same-length Inv-loop μ-loop
-same-length c = search needs
 
 returns : tie.Need-returns Inv-loop μ-loop
 returns c =
@@ -65,14 +38,14 @@ move-down-spec =
     Inv-loop
     μ-loop
     loop-holds
-    mul-order
-    slice-read-order
-    sub-order
-    add-order
-    mul-order-2
-    slice-write-order
-    add-j
-    loop-less
+    (λ c. search needs)
+    (λ c. search needs)
+    (λ c. search needs)
+    (λ c. search needs)
+    (λ c. search needs)
+    (λ c. search needs)
+    (λ c. search needs)
+    (λ c. search needs)
     loop-again
-    same-length
+    (λ c. search needs)
     returns)

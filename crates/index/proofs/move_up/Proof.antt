@@ -16,36 +16,12 @@ abbrev μ-loop : tie.MeasureT-loop
 loop-holds : tie.Need-loop-holds Inv-loop μ-loop
 loop-holds c = (search needs, search needs, refl, (λ i l. refl), (λ i l m. omega arith))
 
-sub-order : tie.Need-sub-order Inv-loop μ-loop
-sub-order c = search needs
-
-mul-order : tie.Need-mul-order Inv-loop μ-loop
-mul-order c = search needs
-
-slice-read-order : tie.Need-slice-read-order Inv-loop μ-loop
-slice-read-order c = search needs
-
-mul-order-2 : tie.Need-mul-order-2 Inv-loop μ-loop
-mul-order-2 c = search needs
-
-slice-write-order : tie.Need-slice-write-order Inv-loop μ-loop
-slice-write-order c = search needs
-
-sub-j : tie.Need-sub-j Inv-loop μ-loop
-sub-j c = search needs
-
-loop-less : tie.Need-loop-less Inv-loop μ-loop
-loop-less c = search needs
-
 loop-again : tie.Need-loop-again Inv-loop μ-loop
 loop-again c =
     let l = c .before .before .loop in
     let os = c .before .before .before .args .order .now in
     let t = c .before .loop-test .taken in
     (omega arith, omega arith, length-set (l .order) (l .j) (getD (l .order) (l .j - 1) 0) ∙ l .inv .2, moved-low os (l .order) (l .j) (getD (l .order) (l .j - 1) 0) (l .inv .3), moved-high os (l .order) (l .j) (c .before .before .before .args .n) (omega arith) (omega arith) (l .inv .3) (l .inv .4))
-
-same-length : tie.Need-same-length Inv-loop μ-loop
-same-length c = search needs
 
 returns : tie.Need-returns Inv-loop μ-loop
 returns c =
@@ -59,13 +35,13 @@ move-up-spec =
     Inv-loop
     μ-loop
     loop-holds
-    sub-order
-    mul-order
-    slice-read-order
-    mul-order-2
-    slice-write-order
-    sub-j
-    loop-less
+    (λ c. search needs)
+    (λ c. search needs)
+    (λ c. search needs)
+    (λ c. search needs)
+    (λ c. search needs)
+    (λ c. search needs)
+    (λ c. search needs)
     loop-again
-    same-length
+    (λ c. search needs)
     returns)

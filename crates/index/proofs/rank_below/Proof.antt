@@ -17,21 +17,6 @@ abbrev μ-loop : tie.MeasureT-loop
 loop-holds : tie.Need-loop-holds Inv-loop μ-loop
 loop-holds c = (search needs, (λ i l. omega arith), (λ i l m. omega arith))
 
-add-half : tie.Need-add-half Inv-loop μ-loop
-add-half c = search needs
-
-add-s : tie.Need-add-s Inv-loop μ-loop
-add-s c = search needs
-
-sub-s : tie.Need-sub-s Inv-loop μ-loop
-sub-s c = search needs
-
-mul-s : tie.Need-mul-s Inv-loop μ-loop
-mul-s c = search needs
-
-shared-slice-read-s : tie.Need-shared-slice-read-s Inv-loop μ-loop
-shared-slice-read-s c = search needs
-
 cast-s : tie.Need-cast-s Inv-loop μ-loop
 cast-s c =
     let l = c .before .before .loop in
@@ -50,12 +35,6 @@ shared-slice-read-if1 c =
 
 add-base : tie.Need-add-base Inv-loop μ-loop
 add-base c = ⊎-elim (λ w. omega arith) (λ w. omega arith) (c .before .if1 .came)
-
-sub-len : tie.Need-sub-len Inv-loop μ-loop
-sub-len c = search needs
-
-loop-less : tie.Need-loop-less Inv-loop μ-loop
-loop-less c = search needs
 
 loop-again : tie.Need-loop-again Inv-loop μ-loop
 loop-again c =
@@ -78,16 +57,16 @@ rank-below-spec =
     Inv-loop
     μ-loop
     loop-holds
-    add-half
-    add-s
-    sub-s
-    mul-s
-    shared-slice-read-s
+    (λ c. search needs)
+    (λ c. search needs)
+    (λ c. search needs)
+    (λ c. search needs)
+    (λ c. search needs)
     cast-s
     mul-if1
     shared-slice-read-if1
     add-base
-    sub-len
-    loop-less
+    (λ c. search needs)
+    (λ c. search needs)
     loop-again
     returns)

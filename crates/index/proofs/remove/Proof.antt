@@ -15,12 +15,6 @@ move-down-requires c κs =
     let start = c .before .before .before .before .before .before .before .before in
     let f = index-fits _ _ _ (start .pre .0) in (start .pre .1, start .pre .2, f)
 
-same-length : tie.Need-same-length
-same-length c = search needs
-
-same-length-2 : tie.Need-same-length-2
-same-length-2 c = search needs
-
 returns : tie.Need-returns
 returns c =
     let at-move-down = c .before .before in
@@ -29,4 +23,4 @@ returns c =
     removed _ _ _ _ _ _ _ (start .pre .0) (start .pre .1) (start .pre .2) (at-clear .clear .ensures) (at-move-down .move-down .ensures)
 
 pub remove-spec : {M : Type 1} → statement M
-remove-spec = tie.close (tie.spec clear-requires move-down-requires same-length same-length-2 returns)
+remove-spec = tie.close (tie.spec clear-requires move-down-requires (λ c. search needs) (λ c. search needs) returns)

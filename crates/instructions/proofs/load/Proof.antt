@@ -12,12 +12,6 @@ use borrow.Author.Needs.{needs}
 use Rattle.instructions.proofs.load.Statement.{statement}
 use Rattle.instructions.proofs.load.Tie as tie
 
-well-formed-requires : tie.Need-well-formed-requires
-well-formed-requires c κs = search needs
-
-refused-requires : tie.Need-refused-requires
-refused-requires c κs = search needs
-
 returns : tie.Need-returns
 returns c =
     let at-refused = c in
@@ -26,12 +20,6 @@ returns c =
     let start = at-well-formed .before .before .before .before .before in
     let m = mem (start .args .bytes .now) (start .args .keys .now) (start .args .order .now) (start .args .words .now) in
     refused-runs m (Load (start .args .area) (start .args .frame) (operandOf (start .args .operand))) (start .args .frame) _ 3 (at-refused .refused .ensures .0) (at-refused .refused .ensures .1) (ill m (Load (start .args .area) (start .args .frame) (operandOf (start .args .operand))) (failed (at-well-formed .well-formed .ensures) (at-if1 .if1 .taken)))
-
-reach-requires : tie.Need-reach-requires
-reach-requires c κs = search needs
-
-panicked-requires : tie.Need-panicked-requires
-panicked-requires c κs = search needs
 
 returns-2 : tie.Need-returns-2
 returns-2 c =
@@ -44,12 +32,6 @@ returns-2 c =
     let m = mem (start .args .bytes .now) (start .args .keys .now) (start .args .order .now) (start .args .words .now) in
     load-panics m (start .args .area) (start .args .frame) (operandOf (start .args .operand)) (passed (at-well-formed .well-formed .ensures) (at-if1 .if1 .left)) (at-reach .reach .result) (at-reach .reach .ensures) _ (at-if2 .if2 .taken) (at-panicked .panicked .ensures .0) (at-panicked .panicked .ensures .1)
 
-page-of-requires : tie.Need-page-of-requires
-page-of-requires c κs = search needs
-
-low-u32-requires : tie.Need-low-u32-requires
-low-u32-requires c κs = search needs
-
 read-word-requires : tie.Need-read-word-requires
 read-word-requires c κs =
     let at-if1 = c .before .before .before .before .before .before in
@@ -57,12 +39,6 @@ read-word-requires c κs =
     let start = at-well-formed .before .before .before .before .before in
     let m = mem (start .args .bytes .now) (start .args .keys .now) (start .args .order .now) (start .args .words .now) in
     well-formed-means m (passed (at-well-formed .well-formed .ensures) (at-if1 .if1 .left))
-
-from-big-endian-requires : tie.Need-from-big-endian-requires
-from-big-endian-requires c κs = search needs
-
-carried-out-requires : tie.Need-carried-out-requires
-carried-out-requires c κs = search needs
 
 returns-3 : tie.Need-returns-3
 returns-3 c =
@@ -85,4 +61,4 @@ returns-3 c =
     (at-carried-out .carried-out .ensures .0) (at-carried-out .carried-out .ensures .1)
 
 pub load-spec : {M : Type 1} → statement M
-load-spec = tie.close (tie.spec well-formed-requires refused-requires returns reach-requires panicked-requires returns-2 page-of-requires low-u32-requires read-word-requires from-big-endian-requires carried-out-requires returns-3)
+load-spec = tie.close (tie.spec (λ c κs. search needs) (λ c κs. search needs) returns (λ c κs. search needs) (λ c κs. search needs) returns-2 (λ c κs. search needs) (λ c κs. search needs) read-word-requires (λ c κs. search needs) (λ c κs. search needs) returns-3)

@@ -13,12 +13,6 @@ use borrow.Author.Needs.{needs}
 use Rattle.instructions.proofs.load_static.Statement.{statement}
 use Rattle.instructions.proofs.load_static.Tie as tie
 
-well-formed-requires : tie.Need-well-formed-requires
-well-formed-requires c κs = search needs
-
-refused-requires : tie.Need-refused-requires
-refused-requires c κs = search needs
-
 returns : tie.Need-returns
 returns c =
     let at-refused = c in
@@ -27,12 +21,6 @@ returns c =
     let start = at-well-formed .before .before .before .before .before in
     let m = mem (start .args .bytes .now) (start .args .keys .now) (start .args .order .now) (start .args .words .now) in
     refused-runs m (LoadStatic (start .args .frame) (operandOf (start .args .operand))) (start .args .frame) _ 3 (at-refused .refused .ensures .0) (at-refused .refused .ensures .1) (ill m (LoadStatic (start .args .frame) (operandOf (start .args .operand))) (failed (at-well-formed .well-formed .ensures) (at-if1 .if1 .taken)))
-
-bigger-than-last-address-requires : tie.Need-bigger-than-last-address-requires
-bigger-than-last-address-requires c κs = search needs
-
-panicked-requires : tie.Need-panicked-requires
-panicked-requires c κs = search needs
 
 returns-2 : tie.Need-returns-2
 returns-2 c =
@@ -53,9 +41,6 @@ static-page-requires c κs =
     let m = mem (start .args .bytes .now) (start .args .keys .now) (start .args .order .now) (start .args .words .now) in
     well-formed-means m (passed (at-well-formed .well-formed .ensures) (at-if1 .if1 .left))
 
-low-u32-requires : tie.Need-low-u32-requires
-low-u32-requires c κs = search needs
-
 read-word-requires : tie.Need-read-word-requires
 read-word-requires c κs =
     let at-if1 = c .before .before .before .before in
@@ -63,12 +48,6 @@ read-word-requires c κs =
     let start = at-well-formed .before .before .before .before .before in
     let m = mem (start .args .bytes .now) (start .args .keys .now) (start .args .order .now) (start .args .words .now) in
     well-formed-means m (passed (at-well-formed .well-formed .ensures) (at-if1 .if1 .left))
-
-from-big-endian-requires : tie.Need-from-big-endian-requires
-from-big-endian-requires c κs = search needs
-
-carried-out-requires : tie.Need-carried-out-requires
-carried-out-requires c κs = search needs
 
 returns-3 : tie.Need-returns-3
 returns-3 c =
@@ -90,4 +69,4 @@ returns-3 c =
     (at-carried-out .carried-out .ensures .0) (at-carried-out .carried-out .ensures .1)
 
 pub load-static-spec : {M : Type 1} → statement M
-load-static-spec = tie.close (tie.spec well-formed-requires refused-requires returns bigger-than-last-address-requires panicked-requires returns-2 static-page-requires low-u32-requires read-word-requires from-big-endian-requires carried-out-requires returns-3)
+load-static-spec = tie.close (tie.spec (λ c κs. search needs) (λ c κs. search needs) returns (λ c κs. search needs) (λ c κs. search needs) returns-2 static-page-requires (λ c κs. search needs) read-word-requires (λ c κs. search needs) (λ c κs. search needs) returns-3)

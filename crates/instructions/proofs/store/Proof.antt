@@ -10,24 +10,6 @@ use borrow.Author.Needs.{needs}
 use Rattle.instructions.proofs.store.Statement.{statement}
 use Rattle.instructions.proofs.store.Tie as tie
 
-well-formed-requires : tie.Need-well-formed-requires
-well-formed-requires c κs = search needs
-
-refused-requires : tie.Need-refused-requires
-refused-requires c κs = search needs
-
-same-length : tie.Need-same-length
-same-length c = search needs
-
-same-length-2 : tie.Need-same-length-2
-same-length-2 c = search needs
-
-same-length-3 : tie.Need-same-length-3
-same-length-3 c = search needs
-
-same-length-4 : tie.Need-same-length-4
-same-length-4 c = search needs
-
 returns : tie.Need-returns
 returns c =
     let at-refused = c in
@@ -36,24 +18,6 @@ returns c =
     let start = at-well-formed .before .before .before .before .before .before .before .before .before in
     let m = mem (start .args .bytes .now) (start .args .keys .now) (start .args .order .now) (start .args .words .now) in
     refused-runs m (Store (start .args .area) (start .args .frame) (operandOf (start .args .operand)) (value (start .args .word .limbs)) (hookOf (start .args .hook))) (start .args .frame) _ 3 (at-refused .refused .ensures .0) (at-refused .refused .ensures .1) (ill m (Store (start .args .area) (start .args .frame) (operandOf (start .args .operand)) (value (start .args .word .limbs)) (hookOf (start .args .hook))) (failed (at-well-formed .well-formed .ensures) (at-if1 .if1 .taken)))
-
-reach-requires : tie.Need-reach-requires
-reach-requires c κs = search needs
-
-panicked-requires : tie.Need-panicked-requires
-panicked-requires c κs = search needs
-
-same-length-5 : tie.Need-same-length-5
-same-length-5 c = search needs
-
-same-length-6 : tie.Need-same-length-6
-same-length-6 c = search needs
-
-same-length-7 : tie.Need-same-length-7
-same-length-7 c = search needs
-
-same-length-8 : tie.Need-same-length-8
-same-length-8 c = search needs
 
 returns-2 : tie.Need-returns-2
 returns-2 c =
@@ -66,12 +30,6 @@ returns-2 c =
     let m = mem (start .args .bytes .now) (start .args .keys .now) (start .args .order .now) (start .args .words .now) in
     store-panics m (start .args .area) (start .args .frame) (operandOf (start .args .operand)) (value (start .args .word .limbs)) (hookOf (start .args .hook)) (passed (at-well-formed .well-formed .ensures) (at-if1 .if1 .left)) (at-reach .reach .result) (at-reach .reach .ensures) _ (at-if2 .if2 .taken) (at-panicked .panicked .ensures .0) (at-panicked .panicked .ensures .1)
 
-page-of-requires : tie.Need-page-of-requires
-page-of-requires c κs = search needs
-
-low-u32-requires : tie.Need-low-u32-requires
-low-u32-requires c κs = search needs
-
 store-refusal-requires : tie.Need-store-refusal-requires
 store-refusal-requires c κs =
     let at-if1 = c .before .before .before .before .before .before .before .before .before .before in
@@ -79,21 +37,6 @@ store-refusal-requires c κs =
     let start = at-well-formed .before .before .before .before .before .before .before .before .before in
     let m = mem (start .args .bytes .now) (start .args .keys .now) (start .args .order .now) (start .args .words .now) in
     well-formed-means m (passed (at-well-formed .well-formed .ensures) (at-if1 .if1 .left))
-
-refused-requires-2 : tie.Need-refused-requires-2
-refused-requires-2 c κs = search needs
-
-same-length-9 : tie.Need-same-length-9
-same-length-9 c = search needs
-
-same-length-10 : tie.Need-same-length-10
-same-length-10 c = search needs
-
-same-length-11 : tie.Need-same-length-11
-same-length-11 c = search needs
-
-same-length-12 : tie.Need-same-length-12
-same-length-12 c = search needs
 
 returns-3 : tie.Need-returns-3
 returns-3 c =
@@ -110,9 +53,6 @@ returns-3 c =
     let m = mem (start .args .bytes .now) (start .args .keys .now) (start .args .order .now) (start .args .words .now) in
     store-refused m (start .args .area) (start .args .frame) (operandOf (start .args .operand)) (value (start .args .word .limbs)) (hookOf (start .args .hook)) (passed (at-well-formed .well-formed .ensures) (at-if1 .if1 .left)) (at-reach .reach .result) (at-reach .reach .ensures) (at-if2 .if2 .left) (at-page-of .page-of .result) (at-low-u32 .low-u32 .result) (at-page-of .page-of .ensures) (at-low-u32 .low-u32 .ensures) (at-store-refusal .store-refusal .result) (at-store-refusal .store-refusal .ensures) (at-if3 .if3 .taken) _ (at-refused2 .refused2 .ensures .0) (at-refused2 .refused2 .ensures .1)
 
-to-big-endian-requires : tie.Need-to-big-endian-requires
-to-big-endian-requires c κs = search needs
-
 write-word-requires : tie.Need-write-word-requires
 write-word-requires c κs =
     let at-if3 = c .before .before .before .before .before in
@@ -126,27 +66,6 @@ write-word-requires c κs =
     let start = at-well-formed .before .before .before .before .before .before .before .before .before in
     let m = mem (start .args .bytes .now) (start .args .keys .now) (start .args .order .now) (start .args .words .now) in
     store-asks m (start .args .area) (start .args .frame) (operandOf (start .args .operand)) (value (start .args .word .limbs)) (hookOf (start .args .hook)) (passed (at-well-formed .well-formed .ensures) (at-if1 .if1 .left)) (at-reach .reach .result) (at-reach .reach .ensures) (at-if2 .if2 .left) (at-page-of .page-of .result) (at-low-u32 .low-u32 .result) (at-page-of .page-of .ensures) (at-low-u32 .low-u32 .ensures) (sym (at-store-refusal .store-refusal .ensures) ∙ at-if3 .if3 .left)
-
-stop-of-requires : tie.Need-stop-of-requires
-stop-of-requires c κs = search needs
-
-no-word-requires : tie.Need-no-word-requires
-no-word-requires c κs = search needs
-
-carried-out-requires : tie.Need-carried-out-requires
-carried-out-requires c κs = search needs
-
-same-length-13 : tie.Need-same-length-13
-same-length-13 c = search needs
-
-same-length-14 : tie.Need-same-length-14
-same-length-14 c = search needs
-
-same-length-15 : tie.Need-same-length-15
-same-length-15 c = search needs
-
-same-length-16 : tie.Need-same-length-16
-same-length-16 c = search needs
 
 returns-4 : tie.Need-returns-4
 returns-4 c =
@@ -168,4 +87,4 @@ returns-4 c =
     store-done m (start .args .area) (start .args .frame) (operandOf (start .args .operand)) (value (start .args .word .limbs)) (hookOf (start .args .hook)) (passed (at-well-formed .well-formed .ensures) (at-if1 .if1 .left)) (at-reach .reach .result) (at-reach .reach .ensures) (at-if2 .if2 .left) (at-page-of .page-of .result) (at-low-u32 .low-u32 .result) (at-page-of .page-of .ensures) (at-low-u32 .low-u32 .ensures) (sym (at-store-refusal .store-refusal .ensures) ∙ at-if3 .if3 .left) (at-to-big-endian .to-big-endian .result) (at-to-big-endian .to-big-endian .ensures .1) (at-write-word .write-word .ensures) _ (at-stop-of .stop-of .result) _ (at-stop-of .stop-of .ensures) (at-no-word .no-word .ensures) (at-carried-out .carried-out .ensures .0) (at-carried-out .carried-out .ensures .1)
 
 pub store-spec : {M : Type 1} → statement M
-store-spec = tie.close (tie.spec well-formed-requires refused-requires same-length same-length-2 same-length-3 same-length-4 returns reach-requires panicked-requires same-length-5 same-length-6 same-length-7 same-length-8 returns-2 page-of-requires low-u32-requires store-refusal-requires refused-requires-2 same-length-9 same-length-10 same-length-11 same-length-12 returns-3 to-big-endian-requires write-word-requires stop-of-requires no-word-requires carried-out-requires same-length-13 same-length-14 same-length-15 same-length-16 returns-4)
+store-spec = tie.close (tie.spec (λ c κs. search needs) (λ c κs. search needs) (λ c. search needs) (λ c. search needs) (λ c. search needs) (λ c. search needs) returns (λ c κs. search needs) (λ c κs. search needs) (λ c. search needs) (λ c. search needs) (λ c. search needs) (λ c. search needs) returns-2 (λ c κs. search needs) (λ c κs. search needs) store-refusal-requires (λ c κs. search needs) (λ c. search needs) (λ c. search needs) (λ c. search needs) (λ c. search needs) returns-3 (λ c κs. search needs) write-word-requires (λ c κs. search needs) (λ c κs. search needs) (λ c κs. search needs) (λ c. search needs) (λ c. search needs) (λ c. search needs) (λ c. search needs) returns-4)

@@ -5,31 +5,10 @@ use Rattle.journal.proofs.Notes.{note-slots}
 use Rattle.journal.proofs.note.Statement.{statement}
 use Rattle.journal.proofs.note.Tie as tie
 
-place-requires : tie.Need-place-requires
-place-requires c κs = search needs
-
-mul-k : tie.Need-mul-k
-mul-k c = search needs
-
-add-k : tie.Need-add-k
-add-k c = search needs
-
-cast-slot-of : tie.Need-cast-slot-of
-cast-slot-of c = search needs
-
-add-slot-of : tie.Need-add-slot-of
-add-slot-of c = search needs
-
 slot-of-requires : tie.Need-slot-of-requires
 slot-of-requires c κs =
     let start = c .before .before .before .before .before .before in
     (slots-indexed (start .args .bytes .now) (start .args .keys .now) (start .args .order .now) (start .args .words .now) (start .pre .formed), omega arith)
-
-add-slot-of-2 : tie.Need-add-slot-of-2
-add-slot-of-2 c = search needs
-
-add-slot-of-3 : tie.Need-add-slot-of-3
-add-slot-of-3 c = search needs
 
 slot-of-requires-2 : tie.Need-slot-of-requires-2
 slot-of-requires-2 c κs =
@@ -44,12 +23,6 @@ note-found-requires c κs =
     let start = at-place .before .before .before .before .before in
     (start .pre, note-slots (start .args .bytes .now) (start .args .keys .now) (start .args .order .now) (start .args .words .now) (start .args .j) (start .args .address) (start .pre) (at-place .place .result) (at-place .place .ensures .0) (at-slot-of .slot-of .result) (at-slot-of2 .slot-of2 .result) (at-slot-of .slot-of .ensures) (at-slot-of2 .slot-of2 .ensures))
 
-same-length : tie.Need-same-length
-same-length c = search needs
-
-same-length-2 : tie.Need-same-length-2
-same-length-2 c = search needs
-
 returns : tie.Need-returns
 returns c = let at-note-found = c .before .before .before .before in at-note-found .note-found .ensures
 
@@ -57,16 +30,16 @@ pub note-spec : {M : Type 1} → statement M
 note-spec =
     tie.close
     (tie.spec
-    place-requires
-    mul-k
-    add-k
-    cast-slot-of
-    add-slot-of
+    (λ c κs. search needs)
+    (λ c. search needs)
+    (λ c. search needs)
+    (λ c. search needs)
+    (λ c. search needs)
     slot-of-requires
-    add-slot-of-2
-    add-slot-of-3
+    (λ c. search needs)
+    (λ c. search needs)
     slot-of-requires-2
     note-found-requires
-    same-length
-    same-length-2
+    (λ c. search needs)
+    (λ c. search needs)
     returns)

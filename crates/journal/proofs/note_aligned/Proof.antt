@@ -26,24 +26,12 @@ loop-holds c =
     let start = c .before .before .before .before in
     (search needs, refl, refl, aligned-none (mem (start .args .bytes .now) (start .args .keys .now) (start .args .order .now) (start .args .words .now)) (start .args .j) (start .args .first) (start .args .count) (start .pre))
 
-add-note : tie.Need-add-note Inv-loop μ-loop
-add-note c = search needs
-
-mul-note : tie.Need-mul-note Inv-loop μ-loop
-mul-note c = search needs
-
 note-requires : tie.Need-note-requires Inv-loop μ-loop
 note-requires c κs =
     let at-loop-test = c .before .before in
     let at-loop = at-loop-test .before in
     let start = at-loop .before .before .before .before .before in
     aligned-asks (mem (start .args .bytes .now) (start .args .keys .now) (start .args .order .now) (start .args .words .now)) (start .args .j) (start .args .first) (start .args .count) (start .pre) (mem (at-loop .loop .bytes) (start .args .keys .now) (start .args .order .now) (at-loop .loop .words)) (at-loop .loop .i) (at-loop-test .loop-test .taken) (at-loop .loop .inv .3)
-
-add-i : tie.Need-add-i Inv-loop μ-loop
-add-i c = search needs
-
-loop-less : tie.Need-loop-less Inv-loop μ-loop
-loop-less c = search needs
 
 loop-again : tie.Need-loop-again Inv-loop μ-loop
 loop-again c =
@@ -52,12 +40,6 @@ loop-again c =
     let at-loop = at-loop-test .before in
     let start = at-loop .before .before .before .before .before in
     (omega (arith, at-loop-test .loop-test .taken), at-note .note .kept .0 ∙ at-loop .loop .inv .1, at-note .note .kept .1 .1 .1 .0 ∙ at-loop .loop .inv .2, aligned-more (mem (start .args .bytes .now) (start .args .keys .now) (start .args .order .now) (start .args .words .now)) (start .args .j) (start .args .first) (start .args .count) (start .pre) (mem (at-loop .loop .bytes) (start .args .keys .now) (start .args .order .now) (at-loop .loop .words)) (at-loop .loop .i) (at-loop-test .loop-test .taken) (at-loop .loop .inv .3) (mem (at-note .note .last .0) (start .args .keys .now) (start .args .order .now) (at-note .note .last .1 .1 .1 .0)) (at-note .note .ensures))
-
-same-length : tie.Need-same-length Inv-loop μ-loop
-same-length c = search needs
-
-same-length-2 : tie.Need-same-length-2 Inv-loop μ-loop
-same-length-2 c = search needs
 
 returns : tie.Need-returns Inv-loop μ-loop
 returns c =
@@ -73,12 +55,12 @@ note-aligned-spec =
     Inv-loop
     μ-loop
     loop-holds
-    add-note
-    mul-note
+    (λ c. search needs)
+    (λ c. search needs)
     note-requires
-    add-i
-    loop-less
+    (λ c. search needs)
+    (λ c. search needs)
     loop-again
-    same-length
-    same-length-2
+    (λ c. search needs)
+    (λ c. search needs)
     returns)

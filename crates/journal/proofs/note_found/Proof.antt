@@ -8,12 +8,6 @@ note-at-requires c κs =
     let start = c .before .before .before .before .before .before in
     note-room (start .args .bytes .now) (start .args .keys .now) (start .args .order .now) (start .args .words .now) (start .args .j) (start .args .address) (start .pre .0) (start .args .s) (start .args .t) (start .pre .1)
 
-same-length : tie.Need-same-length
-same-length c = search needs
-
-same-length-2 : tie.Need-same-length-2
-same-length-2 c = search needs
-
 returns : tie.Need-returns
 returns c =
     let at-note-at = c .before .before .before .before in
@@ -21,4 +15,4 @@ returns c =
     note-shows (start .args .bytes .now) (start .args .keys .now) (start .args .order .now) (start .args .words .now) (start .args .j) (start .args .address) (start .pre .0) (start .args .s) (start .args .t) (start .pre .1) (at-note-at .note-at .last .0) (at-note-at .note-at .last .1 .0) (at-note-at .note-at .kept .0) (at-note-at .note-at .ensures)
 
 pub note-found-spec : {M : Type 1} → statement M
-note-found-spec = tie.close (tie.spec note-at-requires same-length same-length-2 returns)
+note-found-spec = tie.close (tie.spec note-at-requires (λ c. search needs) (λ c. search needs) returns)

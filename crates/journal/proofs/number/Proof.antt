@@ -7,9 +7,6 @@ use Rattle.store.specs.Mem.{journalRoom}
 use Rattle.journal.proofs.number.Statement.{statement}
 use Rattle.journal.proofs.number.Tie as tie
 
-shared-slice-read-result : tie.Need-shared-slice-read-result
-shared-slice-read-result c = search needs
-
 mul-result : tie.Need-mul-result
 mul-result c =
     let start = c .before in
@@ -26,4 +23,4 @@ returns c =
     (refl, number-lt (journalRoom (start .args .words .now)) (start .args .j) (start .args .i) journalCount (start .pre .which) (start .pre .inside))
 
 pub number-spec : {M : Type 1} → statement M
-number-spec = tie.close (tie.spec shared-slice-read-result mul-result add-result returns)
+number-spec = tie.close (tie.spec (λ c. search needs) mul-result add-result returns)

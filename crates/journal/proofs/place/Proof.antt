@@ -4,9 +4,6 @@ use Rattle.journal.proofs.Numbers.{place-other}
 use Rattle.journal.proofs.place.Statement.{statement}
 use Rattle.journal.proofs.place.Tie as tie
 
-returns : tie.Need-returns
-returns c = search needs
-
 returns-2 : tie.Need-returns-2
 returns-2 c =
     let at-if1 = c in
@@ -14,4 +11,4 @@ returns-2 c =
     (place-other (start .args .j) (at-if1 .if1 .left), omega arith)
 
 pub place-spec : {M : Type 1} → statement M
-place-spec = tie.close (tie.spec returns returns-2)
+place-spec = tie.close (tie.spec (λ c. search needs) returns-2)

@@ -14,12 +14,6 @@ undo-requires-2 c κs =
     let start = at-undo .before .before .before .before .before .before .before in
     aux-asks (start .args .bytes .now) (start .args .keys .now) (start .args .order .now) (start .args .words .now) (start .args .heap) (start .args .aux) (start .pre) (at-undo .undo .last .0) (at-undo .undo .last .1 .1 .1 .0) (at-undo .undo .ensures)
 
-same-length : tie.Need-same-length
-same-length c = search needs
-
-same-length-2 : tie.Need-same-length-2
-same-length-2 c = search needs
-
 returns : tie.Need-returns
 returns c =
     let at-undo2 = c .before .before .before .before in
@@ -29,4 +23,4 @@ returns c =
 
 pub roll-back-spec : {M : Type 1} → statement M
 roll-back-spec =
-    tie.close (tie.spec undo-requires undo-requires-2 same-length same-length-2 returns)
+    tie.close (tie.spec undo-requires undo-requires-2 (λ c. search needs) (λ c. search needs) returns)

@@ -19,15 +19,6 @@ loop-holds c =
     let start = c .before .before .before in
     (search needs, refl, refl, first-none (start .args .words .now) (start .args .entries .now) (start .args .order .now) (start .pre))
 
-cast-insert : tie.Need-cast-insert Inv-loop μ-loop
-cast-insert c = search needs
-
-mul-insert : tie.Need-mul-insert Inv-loop μ-loop
-mul-insert c = search needs
-
-shared-slice-read-insert : tie.Need-shared-slice-read-insert Inv-loop μ-loop
-shared-slice-read-insert c = search needs
-
 add-insert : tie.Need-add-insert Inv-loop μ-loop
 add-insert c =
     let at-loop-test = c .before .before .before in
@@ -42,12 +33,6 @@ insert-requires c κs =
     let start = at-loop .before .before .before .before in
     first-asks (start .args .words .now) (at-loop .loop .entries) (at-loop .loop .order) (at-loop .loop .i) (at-loop .loop .inv .3) (start .pre .apart) (at-loop-test .loop-test .taken) (omega arith) (omega arith)
 
-add-i : tie.Need-add-i Inv-loop μ-loop
-add-i c = search needs
-
-loop-less : tie.Need-loop-less Inv-loop μ-loop
-loop-less c = search needs
-
 loop-again : tie.Need-loop-again Inv-loop μ-loop
 loop-again c =
     let at-insert = c .before .before .before .before in
@@ -58,12 +43,6 @@ loop-again c =
       at-insert .insert .kept .1 .0 ∙ at-loop .loop .inv .2,
       first-more (start .args .words .now) (at-loop .loop .entries) (at-loop .loop .order) (at-loop .loop .i) (at-loop .loop .inv .3) (omega arith) (at-insert .insert .last .0) (at-insert .insert .last .1 .0) (at-insert .insert .ensures .0) (at-insert .insert .ensures .1),
     )
-
-same-length : tie.Need-same-length Inv-loop μ-loop
-same-length c = search needs
-
-same-length-2 : tie.Need-same-length-2 Inv-loop μ-loop
-same-length-2 c = search needs
 
 returns : tie.Need-returns Inv-loop μ-loop
 returns c =
@@ -79,14 +58,14 @@ list-fixed-spec =
     Inv-loop
     μ-loop
     loop-holds
-    cast-insert
-    mul-insert
-    shared-slice-read-insert
+    (λ c. search needs)
+    (λ c. search needs)
+    (λ c. search needs)
     add-insert
     insert-requires
-    add-i
-    loop-less
+    (λ c. search needs)
+    (λ c. search needs)
     loop-again
-    same-length
-    same-length-2
+    (λ c. search needs)
+    (λ c. search needs)
     returns)

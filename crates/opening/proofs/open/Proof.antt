@@ -7,21 +7,6 @@ use Rattle.opening.proofs.Refusals.{open-refused, open-asks, calldata-a
 use Rattle.opening.proofs.open.Statement.{statement}
 use Rattle.opening.proofs.open.Tie as tie
 
-open-refusal-requires : tie.Need-open-refusal-requires
-open-refusal-requires c κs = search needs
-
-same-length : tie.Need-same-length
-same-length c = search needs
-
-same-length-2 : tie.Need-same-length-2
-same-length-2 c = search needs
-
-same-length-3 : tie.Need-same-length-3
-same-length-3 c = search needs
-
-same-length-4 : tie.Need-same-length-4
-same-length-4 c = search needs
-
 returns : tie.Need-returns
 returns c =
     let at-if1 = c in
@@ -44,18 +29,6 @@ put-calldata-requires c κs =
     let start = at-open-refusal .before .before .before .before .before .before .before .before .before .before in
     calldata-asks nothing (setting (start .args .layout) (start .args .chunks) (start .args .pages) (start .args .room)) (mem (start .args .bytes .now) (start .args .keys .now) (start .args .order .now) (start .args .words .now)) (length (start .args .calldata .now)) (at-open-refusal .open-refusal .result) (at-open-refusal .open-refusal .ensures) (at-if1 .if1 .left) (mem (at-start .start .last .0) (at-start .start .last .1 .0) (at-start .start .last .1 .1 .0) (at-start .start .last .1 .1 .1 .0)) (at-start .start .ensures)
 
-same-length-5 : tie.Need-same-length-5
-same-length-5 c = search needs
-
-same-length-6 : tie.Need-same-length-6
-same-length-6 c = search needs
-
-same-length-7 : tie.Need-same-length-7
-same-length-7 c = search needs
-
-same-length-8 : tie.Need-same-length-8
-same-length-8 c = search needs
-
 returns-2 : tie.Need-returns-2
 returns-2 c =
     let at-put-calldata = c .before .before .before .before .before .before .before .before in
@@ -69,16 +42,16 @@ pub open-spec : {M : Type 1} → statement M
 open-spec =
     tie.close
     (tie.spec
-    open-refusal-requires
-    same-length
-    same-length-2
-    same-length-3
-    same-length-4
+    (λ c κs. search needs)
+    (λ c. search needs)
+    (λ c. search needs)
+    (λ c. search needs)
+    (λ c. search needs)
     returns
     start-requires
     put-calldata-requires
-    same-length-5
-    same-length-6
-    same-length-7
-    same-length-8
+    (λ c. search needs)
+    (λ c. search needs)
+    (λ c. search needs)
+    (λ c. search needs)
     returns-2)

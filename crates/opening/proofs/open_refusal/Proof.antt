@@ -9,18 +9,12 @@ use Rattle.opening.proofs.Refusals.{refused-1, refused-2, refused-10, r
 use Rattle.opening.proofs.open_refusal.Statement.{statement}
 use Rattle.opening.proofs.open_refusal.Tie as tie
 
-bad-layout-requires : tie.Need-bad-layout-requires
-bad-layout-requires c κs = search needs
-
 returns : tie.Need-returns
 returns c =
     let at-if1 = c in
     let at-bad-layout = at-if1 .before in
     let start = at-bad-layout .before .before .before .before .before .before in
     refused-1 nothing (setting (start .args .layout) (start .args .chunks) (start .args .pages) (start .args .room)) (mem (start .args .bytes .now) (start .args .keys .now) (start .args .order .now) (start .args .words .now)) (length (start .args .calldata .now)) (sym (at-bad-layout .bad-layout .ensures) ∙ at-if1 .if1 .taken)
-
-sizes-right-requires : tie.Need-sizes-right-requires
-sizes-right-requires c κs = search needs
 
 returns-2 : tie.Need-returns-2
 returns-2 c =
@@ -30,9 +24,6 @@ returns-2 c =
     let at-bad-layout = at-if1 .before in
     let start = at-bad-layout .before .before .before .before .before .before in
     refused-2 nothing (setting (start .args .layout) (start .args .chunks) (start .args .pages) (start .args .room)) (mem (start .args .bytes .now) (start .args .keys .now) (start .args .order .now) (start .args .words .now)) (length (start .args .calldata .now)) (sym (at-bad-layout .bad-layout .ensures) ∙ at-if1 .if1 .left) (sym (at-sizes-right .sizes-right .ensures (start .args .layout)) ∙ not-true _ (at-if2 .if2 .taken))
-
-mul-if3 : tie.Need-mul-if3
-mul-if3 c = search needs
 
 returns-3 : tie.Need-returns-3
 returns-3 c =
@@ -58,10 +49,10 @@ pub open-refusal-spec : {M : Type 1} → statement M
 open-refusal-spec =
     tie.close
     (tie.spec
-    bad-layout-requires
+    (λ c κs. search needs)
     returns
-    sizes-right-requires
+    (λ c κs. search needs)
     returns-2
-    mul-if3
+    (λ c. search needs)
     returns-3
     returns-4)

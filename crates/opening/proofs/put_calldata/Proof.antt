@@ -6,12 +6,6 @@ use Rattle.opening.proofs.Calldata.{hold-asks, put-asks, calldata-put}
 use Rattle.opening.proofs.put_calldata.Statement.{statement}
 use Rattle.opening.proofs.put_calldata.Tie as tie
 
-add-count : tie.Need-add-count
-add-count c = search needs
-
-cast-count : tie.Need-cast-count
-cast-count c = search needs
-
 hold-chunks-requires : tie.Need-hold-chunks-requires
 hold-chunks-requires c κs =
     let start = c .before .before .before .before .before .before .before .before .before in
@@ -22,18 +16,6 @@ write-from-requires c κs =
     let at-hold-chunks = c .before .before .before .before .before .before .before .before .before .before in
     let start = at-hold-chunks .before .before .before .before .before .before .before .before .before .before in
     put-asks (mem (start .args .bytes .now) (start .args .keys .now) (start .args .order .now) (start .args .words .now)) (start .args .page) (length (start .args .calldata .now)) (start .pre) (mem (start .args .bytes .now) (at-hold-chunks .hold-chunks .last .1 .0) (at-hold-chunks .hold-chunks .last .1 .1 .0) (at-hold-chunks .hold-chunks .last .1 .1 .1 .0)) (at-hold-chunks .hold-chunks .ensures)
-
-same-length : tie.Need-same-length
-same-length c = search needs
-
-same-length-2 : tie.Need-same-length-2
-same-length-2 c = search needs
-
-same-length-3 : tie.Need-same-length-3
-same-length-3 c = search needs
-
-same-length-4 : tie.Need-same-length-4
-same-length-4 c = search needs
 
 returns : tie.Need-returns
 returns c =
@@ -46,12 +28,12 @@ pub put-calldata-spec : {M : Type 1} → statement M
 put-calldata-spec =
     tie.close
     (tie.spec
-    add-count
-    cast-count
+    (λ c. search needs)
+    (λ c. search needs)
     hold-chunks-requires
     write-from-requires
-    same-length
-    same-length-2
-    same-length-3
-    same-length-4
+    (λ c. search needs)
+    (λ c. search needs)
+    (λ c. search needs)
+    (λ c. search needs)
     returns)

@@ -38,26 +38,11 @@ returns-5 c =
     let start = at-if5 .before .before .before .before .before in
     λ l. refute _ (λ y. omega (arith, sizes-are (setting l (start .args .chunks) (start .args .pages) (start .args .room)) (mem (start .args .bytes .now) (start .args .keys .now) (start .args .order .now) (start .args .words .now)) y .room-hi, at-if5 .if5 .taken))
 
-mul-if6 : tie.Need-mul-if6
-mul-if6 c = search needs
-
-mul-if6-2 : tie.Need-mul-if6-2
-mul-if6-2 c = search needs
-
-add-if6 : tie.Need-add-if6
-add-if6 c = search needs
-
 returns-6 : tie.Need-returns-6
 returns-6 c =
     let at-if6 = c in
     let start = at-if6 .before .before .before .before .before .before in
     λ l. refute _ (λ y. at-if6 .if6 .taken (sizes-are (setting l (start .args .chunks) (start .args .pages) (start .args .room)) (mem (start .args .bytes .now) (start .args .keys .now) (start .args .order .now) (start .args .words .now)) y .in-bytes))
-
-add-if7 : tie.Need-add-if7
-add-if7 c = search needs
-
-add-if7-2 : tie.Need-add-if7-2
-add-if7-2 c = search needs
 
 returns-7 : tie.Need-returns-7
 returns-7 c =
@@ -65,26 +50,11 @@ returns-7 c =
     let start = at-if7 .before .before .before .before .before .before .before in
     λ l. refute _ (λ y. at-if7 .if7 .taken (sizes-are (setting l (start .args .chunks) (start .args .pages) (start .args .room)) (mem (start .args .bytes .now) (start .args .keys .now) (start .args .order .now) (start .args .words .now)) y .in-keys))
 
-mul-if8 : tie.Need-mul-if8
-mul-if8 c = search needs
-
-add-if8 : tie.Need-add-if8
-add-if8 c = search needs
-
-add-if8-2 : tie.Need-add-if8-2
-add-if8-2 c = search needs
-
 returns-8 : tie.Need-returns-8
 returns-8 c =
     let at-if8 = c in
     let start = at-if8 .before .before .before .before .before .before .before .before in
     λ l. refute _ (λ y. at-if8 .if8 .taken (sizes-are (setting l (start .args .chunks) (start .args .pages) (start .args .room)) (mem (start .args .bytes .now) (start .args .keys .now) (start .args .order .now) (start .args .words .now)) y .in-order))
-
-mul-if9 : tie.Need-mul-if9
-mul-if9 c = search needs
-
-add-if9 : tie.Need-add-if9
-add-if9 c = search needs
 
 returns-9 : tie.Need-returns-9
 returns-9 c =
@@ -115,18 +85,18 @@ sizes-right-spec =
     returns-3
     returns-4
     returns-5
-    mul-if6
-    mul-if6-2
-    add-if6
+    (λ c. search needs)
+    (λ c. search needs)
+    (λ c. search needs)
     returns-6
-    add-if7
-    add-if7-2
+    (λ c. search needs)
+    (λ c. search needs)
     returns-7
-    mul-if8
-    add-if8
-    add-if8-2
+    (λ c. search needs)
+    (λ c. search needs)
+    (λ c. search needs)
     returns-8
-    mul-if9
-    add-if9
+    (λ c. search needs)
+    (λ c. search needs)
     returns-9
     returns-10)

@@ -5,9 +5,6 @@ use Rattle.opening.proofs.Starts.{head-stores}
 use Rattle.opening.proofs.write_head.Statement.{statement}
 use Rattle.opening.proofs.write_head.Tie as tie
 
-slice-write-words : tie.Need-slice-write-words
-slice-write-words c = search needs
-
 slice-write-words-2 : tie.Need-slice-write-words-2
 slice-write-words-2 c = simp length-set (omega arith)
 
@@ -57,7 +54,7 @@ pub write-head-spec : {M : Type 1} → statement M
 write-head-spec =
     tie.close
     (tie.spec
-    slice-write-words
+    (λ c. search needs)
     slice-write-words-2
     slice-write-words-3
     slice-write-words-4

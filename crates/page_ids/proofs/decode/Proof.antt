@@ -4,17 +4,11 @@ use Rattle.outcome.specs.Outcome.{done}
 use Rattle.page_ids.proofs.decode.Statement.{statement}
 use Rattle.page_ids.proofs.decode.Tie as tie
 
-bad-layout-requires : tie.Need-bad-layout-requires
-bad-layout-requires c κs = search needs
-
 returns : tie.Need-returns
 returns c = rw (sym (c .before .bad-layout .ensures) ∙ c .if1 .taken) refl
-
-decode-page-requires : tie.Need-decode-page-requires
-decode-page-requires c κs = search needs
 
 returns-2 : tie.Need-returns-2
 returns-2 c = rw (sym (c .before .before .bad-layout .ensures) ∙ c .before .if1 .left) (ap done (c .decode-page .ensures))
 
 pub decode-spec : {M : Type 1} → statement M
-decode-spec = tie.close (tie.spec bad-layout-requires returns decode-page-requires returns-2)
+decode-spec = tie.close (tie.spec (λ c κs. search needs) returns (λ c κs. search needs) returns-2)

@@ -21,15 +21,6 @@ returns-5 c = simp (ne-eqb _ _ (c .before .before .before .before .if1 .left), n
 returns-6 : tie.Need-returns-6
 returns-6 c = simp (ne-eqb _ _ (c .before .before .before .before .before .if1 .left), ne-eqb _ _ (c .before .before .before .before .if2 .left), ne-eqb _ _ (c .before .before .before .if3 .left), ne-eqb _ _ (c .before .before .if4 .left), le-ltb _ _ (c .before .if5 .left), eq-eqb _ _ (c .if6 .taken))
 
-rem-by-remainder : tie.Need-rem-by-remainder
-rem-by-remainder c = search needs
-
-div-by-remainder : tie.Need-div-by-remainder
-div-by-remainder c = search needs
-
-by-remainder-requires : tie.Need-by-remainder-requires
-by-remainder-requires c κs = search needs
-
 returns-7 : tie.Need-returns-7
 returns-7 c = simp (ne-eqb _ _ (c .before .before .before .before .before .before .if1 .left), ne-eqb _ _ (c .before .before .before .before .before .if2 .left), ne-eqb _ _ (c .before .before .before .before .if3 .left), ne-eqb _ _ (c .before .before .before .if4 .left), le-ltb _ _ (c .before .before .if5 .left), ne-eqb _ _ (c .before .if6 .left)) (c .by-remainder .ensures)
 
@@ -43,7 +34,7 @@ decode-page-spec =
     returns-4
     returns-5
     returns-6
-    rem-by-remainder
-    div-by-remainder
-    by-remainder-requires
+    (λ c. search needs)
+    (λ c. search needs)
+    (λ c κs. search needs)
     returns-7)

@@ -10,21 +10,6 @@ entry-of-requires c κs =
     let start = c .before .before .before .before .before .before .before in
     pages-asked _ (start .pre .formed)
 
-slice-read-if1 : tie.Need-slice-read-if1
-slice-read-if1 c = search needs
-
-add-if1 : tie.Need-add-if1
-add-if1 c = search needs
-
-same-length : tie.Need-same-length
-same-length c = search needs
-
-same-length-2 : tie.Need-same-length-2
-same-length-2 c = search needs
-
-same-length-3 : tie.Need-same-length-3
-same-length-3 c = search needs
-
 returns : tie.Need-returns
 returns c =
     let at-if1 = c in
@@ -39,15 +24,6 @@ take-entry-requires c κs =
     let start = at-entry-of .before .before .before .before .before .before .before .before in
     entry-asks _ _ (start .pre) (omega (arith, at-entry-of .entry-of .ensures, at-if1 .if1 .left))
 
-same-length-4 : tie.Need-same-length-4
-same-length-4 c = search needs
-
-same-length-5 : tie.Need-same-length-5
-same-length-5 c = search needs
-
-same-length-6 : tie.Need-same-length-6
-same-length-6 c = search needs
-
 returns-2 : tie.Need-returns-2
 returns-2 c =
     let at-take-entry = c .before .before .before .before .before .before in
@@ -61,14 +37,14 @@ list-page-spec =
     tie.close
     (tie.spec
     entry-of-requires
-    slice-read-if1
-    add-if1
-    same-length
-    same-length-2
-    same-length-3
+    (λ c. search needs)
+    (λ c. search needs)
+    (λ c. search needs)
+    (λ c. search needs)
+    (λ c. search needs)
     returns
     take-entry-requires
-    same-length-4
-    same-length-5
-    same-length-6
+    (λ c. search needs)
+    (λ c. search needs)
+    (λ c. search needs)
     returns-2)

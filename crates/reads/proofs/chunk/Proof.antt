@@ -8,18 +8,6 @@ use Rattle.reads.proofs.Answers.{passed, failed, show-none, show-all, s
 use Rattle.reads.proofs.chunk.Statement.{statement}
 use Rattle.reads.proofs.chunk.Tie as tie
 
-well-formed-requires : tie.Need-well-formed-requires
-well-formed-requires c κs = search needs
-
-sub-result : tie.Need-sub-result
-sub-result c = search needs
-
-part-result-start : tie.Need-part-result-start
-part-result-start c = search needs
-
-part-result-end : tie.Need-part-result-end
-part-result-end c = search needs
-
 returns : tie.Need-returns
 returns c =
     let at-if1 = c .before in
@@ -27,18 +15,6 @@ returns c =
     let start = at-well-formed .before .before .before .before .before .before in
     let m = mem (start .args .bytes .now) (start .args .keys .now) (start .args .order .now) (start .args .words .now) in
     show-none m (shown (viewOf m) (start .args .page .0) (start .args .number) (start .args .block .now)) (failed (at-well-formed .well-formed .ensures) (at-if1 .if1 .taken))
-
-is-zero-block-requires : tie.Need-is-zero-block-requires
-is-zero-block-requires c κs = search needs
-
-sub-result-2 : tie.Need-sub-result-2
-sub-result-2 c = search needs
-
-part-result-start-2 : tie.Need-part-result-start-2
-part-result-start-2 c = search needs
-
-part-result-end-2 : tie.Need-part-result-end-2
-part-result-end-2 c = search needs
 
 returns-2 : tie.Need-returns-2
 returns-2 c =
@@ -78,15 +54,15 @@ pub chunk-spec : {M : Type 1} → statement M
 chunk-spec =
     tie.close
     (tie.spec
-    well-formed-requires
-    sub-result
-    part-result-start
-    part-result-end
+    (λ c κs. search needs)
+    (λ c. search needs)
+    (λ c. search needs)
+    (λ c. search needs)
     returns
-    is-zero-block-requires
-    sub-result-2
-    part-result-start-2
-    part-result-end-2
+    (λ c κs. search needs)
+    (λ c. search needs)
+    (λ c. search needs)
+    (λ c. search needs)
     returns-2
     chunk-of-requires
     returns-3)

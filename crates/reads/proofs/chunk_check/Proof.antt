@@ -6,9 +6,6 @@ use Rattle.reads.proofs.Answers.{passed, failed, ill, well, lookup-bad,
 use Rattle.reads.proofs.chunk_check.Statement.{statement}
 use Rattle.reads.proofs.chunk_check.Tie as tie
 
-well-formed-requires : tie.Need-well-formed-requires
-well-formed-requires c κs = search needs
-
 returns : tie.Need-returns
 returns c =
     let at-if1 = c in
@@ -16,9 +13,6 @@ returns c =
     let start = at-well-formed .before .before .before .before .before .before in
     let m = mem (start .args .bytes .now) (start .args .keys .now) (start .args .order .now) (start .args .words .now) in
     sym (ill m (lookupChecks (start .args .block .now)) tt (failed (at-well-formed .well-formed .ensures) (at-if1 .if1 .taken)))
-
-is-zero-block-requires : tie.Need-is-zero-block-requires
-is-zero-block-requires c κs = search needs
 
 returns-2 : tie.Need-returns-2
 returns-2 c =
@@ -42,4 +36,4 @@ returns-3 c =
 
 pub chunk-check-spec : {M : Type 1} → statement M
 chunk-check-spec =
-    tie.close (tie.spec well-formed-requires returns is-zero-block-requires returns-2 returns-3)
+    tie.close (tie.spec (λ c κs. search needs) returns (λ c κs. search needs) returns-2 returns-3)

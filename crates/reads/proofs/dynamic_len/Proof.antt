@@ -8,9 +8,6 @@ use Rattle.reads.proofs.Answers.{passed, failed, ill, well, read-refuse
 use Rattle.reads.proofs.dynamic_len.Statement.{statement}
 use Rattle.reads.proofs.dynamic_len.Tie as tie
 
-well-formed-requires : tie.Need-well-formed-requires
-well-formed-requires c κs = search needs
-
 returns : tie.Need-returns
 returns c =
     let at-if1 = c in
@@ -45,4 +42,4 @@ returns-2 c =
 
 pub dynamic-len-spec : {M : Type 1} → statement M
 dynamic-len-spec =
-    tie.close (tie.spec well-formed-requires returns shared-slice-read-t8 cast-t9 returns-2)
+    tie.close (tie.spec (λ c κs. search needs) returns shared-slice-read-t8 cast-t9 returns-2)

@@ -10,9 +10,6 @@ returns c =
     let start = at-if1 .before .before in
     rw (ne-eqb (length (start .args .block .now)) 256 (at-if1 .if1 .taken))
 
-all-zero-requires : tie.Need-all-zero-requires
-all-zero-requires c κs = search needs
-
 returns-2 : tie.Need-returns-2
 returns-2 c =
     let at-all-zero = c in
@@ -21,4 +18,4 @@ returns-2 c =
     rw (eq-eqb (length (start .args .block .now)) 256 (at-if1 .if1 .left)) (at-all-zero .all-zero .ensures)
 
 pub is-zero-block-spec : {M : Type 1} → statement M
-is-zero-block-spec = tie.close (tie.spec returns all-zero-requires returns-2)
+is-zero-block-spec = tie.close (tie.spec returns (λ c κs. search needs) returns-2)

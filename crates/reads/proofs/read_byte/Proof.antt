@@ -9,9 +9,6 @@ use Rattle.reads.proofs.Answers.{passed, failed, ill, well, read-refuse
 use Rattle.reads.proofs.read_byte.Statement.{statement}
 use Rattle.reads.proofs.read_byte.Tie as tie
 
-well-formed-requires : tie.Need-well-formed-requires
-well-formed-requires c κs = search needs
-
 returns : tie.Need-returns
 returns c =
     let at-if1 = c in
@@ -38,4 +35,4 @@ returns-2 c =
     read-done _ _ (at-byte-at .byte-at .result) 0 refl (well m [] (viewOf m .bytes (start .args .page .0) (start .args .address .0)) (passed (at-well-formed .well-formed .ensures) (at-if1 .if1 .left)) ∙ ap done (sym (at-byte-at .byte-at .ensures)))
 
 pub read-byte-spec : {M : Type 1} → statement M
-read-byte-spec = tie.close (tie.spec well-formed-requires returns byte-at-requires returns-2)
+read-byte-spec = tie.close (tie.spec (λ c κs. search needs) returns byte-at-requires returns-2)

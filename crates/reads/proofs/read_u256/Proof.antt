@@ -11,12 +11,6 @@ use Rattle.reads.proofs.Answers.{passed, failed, ill, well, read-refuse
 use Rattle.reads.proofs.read_u256.Statement.{statement}
 use Rattle.reads.proofs.read_u256.Tie as tie
 
-well-formed-requires : tie.Need-well-formed-requires
-well-formed-requires c κs = search needs
-
-no-word-requires : tie.Need-no-word-requires
-no-word-requires c κs = search needs
-
 returns : tie.Need-returns
 returns c =
     let at-no-word = c in
@@ -34,9 +28,6 @@ read-word-requires c κs =
     let m = mem (start .args .bytes .now) (start .args .keys .now) (start .args .order .now) (start .args .words .now) in
     well-formed-means m (passed (at-well-formed .well-formed .ensures) (at-if1 .if1 .left))
 
-from-big-endian-requires : tie.Need-from-big-endian-requires
-from-big-endian-requires c κs = search needs
-
 returns-2 : tie.Need-returns-2
 returns-2 c =
     let at-from-big-endian = c in
@@ -52,9 +43,9 @@ pub read-u256-spec : {M : Type 1} → statement M
 read-u256-spec =
     tie.close
     (tie.spec
-    well-formed-requires
-    no-word-requires
+    (λ c κs. search needs)
+    (λ c κs. search needs)
     returns
     read-word-requires
-    from-big-endian-requires
+    (λ c κs. search needs)
     returns-2)

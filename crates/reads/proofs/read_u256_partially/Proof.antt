@@ -13,12 +13,6 @@ use Rattle.reads.proofs.Answers.{passed, failed, ill, well, partial-ove
 use Rattle.reads.proofs.read_u256_partially.Statement.{statement}
 use Rattle.reads.proofs.read_u256_partially.Tie as tie
 
-well-formed-requires : tie.Need-well-formed-requires
-well-formed-requires c κs = search needs
-
-no-word-requires : tie.Need-no-word-requires
-no-word-requires c κs = search needs
-
 returns : tie.Need-returns
 returns c =
     let at-no-word = c in
@@ -28,12 +22,6 @@ returns c =
     let m = mem (start .args .bytes .now) (start .args .keys .now) (start .args .order .now) (start .args .words .now) in
     let a = bigEndian (padded (run (viewOf m) (start .args .page .0) (start .args .start .0) (start .args .end .0 - start .args .start .0))) in
     read-refused _ _ 3 _ 0 (at-no-word .no-word .ensures .0) (ill m (partialChecks (start .args .start .0) (start .args .end .0)) a (failed (at-well-formed .well-formed .ensures) (at-if1 .if1 .taken))) (at-no-word .no-word .ensures .1)
-
-span-requires : tie.Need-span-requires
-span-requires c κs = search needs
-
-no-word-requires-2 : tie.Need-no-word-requires-2
-no-word-requires-2 c κs = search needs
 
 returns-2 : tie.Need-returns-2
 returns-2 c =
@@ -49,9 +37,6 @@ returns-2 c =
     (well m (partialChecks (start .args .start .0) (start .args .end .0)) a (passed (at-well-formed .well-formed .ensures) (at-if1 .if1 .left)) ∙ partial-over a (start .args .start .0) (start .args .end .0) (omega (arith, at-span .span .ensures, at-if2 .if2 .taken)))
     (at-no-word2 .no-word2 .ensures .1)
 
-cast-read-padded : tie.Need-cast-read-padded
-cast-read-padded c = search needs
-
 read-padded-requires : tie.Need-read-padded-requires
 read-padded-requires c κs =
     let at-if1 = c .before .before in
@@ -59,9 +44,6 @@ read-padded-requires c κs =
     let start = at-well-formed .before .before .before .before .before in
     let m = mem (start .args .bytes .now) (start .args .keys .now) (start .args .order .now) (start .args .words .now) in
     (well-formed-means m (passed (at-well-formed .well-formed .ensures) (at-if1 .if1 .left)), search needs)
-
-from-big-endian-requires : tie.Need-from-big-endian-requires
-from-big-endian-requires c κs = search needs
 
 returns-3 : tie.Need-returns-3
 returns-3 c =
@@ -82,13 +64,13 @@ pub read-u256-partially-spec : {M : Type 1} → statement M
 read-u256-partially-spec =
     tie.close
     (tie.spec
-    well-formed-requires
-    no-word-requires
+    (λ c κs. search needs)
+    (λ c κs. search needs)
     returns
-    span-requires
-    no-word-requires-2
+    (λ c κs. search needs)
+    (λ c κs. search needs)
     returns-2
-    cast-read-padded
+    (λ c. search needs)
     read-padded-requires
-    from-big-endian-requires
+    (λ c κs. search needs)
     returns-3)

@@ -10,9 +10,6 @@ use Rattle.reads.proofs.Answers.{passed, failed, ill, well, read-refuse
 use Rattle.reads.proofs.snapshot.Statement.{statement}
 use Rattle.reads.proofs.snapshot.Tie as tie
 
-well-formed-requires : tie.Need-well-formed-requires
-well-formed-requires c κs = search needs
-
 returns : tie.Need-returns
 returns c =
     let at-if1 = c in
@@ -66,7 +63,7 @@ pub snapshot-spec : {M : Type 1} → statement M
 snapshot-spec =
     tie.close
     (tie.spec
-    well-formed-requires
+    (λ c κs. search needs)
     returns
     shared-slice-read-t8
     cast-t9

@@ -9,9 +9,6 @@ use Rattle.refusals.proofs.Chosen.{ill-chosen, well-chosen}
 use Rattle.refusals.proofs.allocate_refusal.Statement.{statement}
 use Rattle.refusals.proofs.allocate_refusal.Tie as tie
 
-well-formed-requires : tie.Need-well-formed-requires
-well-formed-requires c κs = search needs
-
 returns : tie.Need-returns
 returns c =
     let at-if1 = c in
@@ -41,7 +38,7 @@ pub allocate-refusal-spec : {M : Type 1} → statement M
 allocate-refusal-spec =
     tie.close
     (tie.spec
-    well-formed-requires
+    (λ c κs. search needs)
     returns
     allocate-room-requires
     returns-2)

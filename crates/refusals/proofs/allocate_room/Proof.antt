@@ -16,9 +16,6 @@ decode-requires c κs =
     let start = c .before .before .before .before in
     start .pre
 
-is-undecodable-requires : tie.Need-is-undecodable-requires
-is-undecodable-requires c κs = search needs
-
 returns : tie.Need-returns
 returns c =
     let at-if1 = c in
@@ -27,9 +24,6 @@ returns c =
     let start = at-decode .before .before .before .before .before in
     let m = mem (start .args .bytes .now) (start .args .keys .now) (start .args .order .now) (start .args .words .now) in
     chosen-4 (settingOf m) (viewOf m) (start .args .page) _ (at-decode .decode .ensures) ((fixed (settingOf m .layout) (start .args .page), refused 5) ∷ (viewOf m .allocated (start .args .page), refused 6) ∷ room (settingOf m) (viewOf m) (start .args .page) 0 (start .args .n) 0) (sym (at-is-undecodable .is-undecodable .ensures) ∙ at-if1 .if1 .taken)
-
-is-fixed-requires : tie.Need-is-fixed-requires
-is-fixed-requires c κs = search needs
 
 returns-2 : tie.Need-returns-2
 returns-2 c =
@@ -60,9 +54,6 @@ returns-3 c =
     let m = mem (start .args .bytes .now) (start .args .keys .now) (start .args .order .now) (start .args .words .now) in
     allocate-6 (settingOf m) (viewOf m) (start .args .page) _ (at-decode .decode .ensures) (start .args .n) (sym (at-is-undecodable .is-undecodable .ensures) ∙ at-if1 .if1 .left) (sym (at-is-fixed .is-fixed .ensures) ∙ at-if2 .if2 .left) (sym (at-is-allocated .is-allocated .ensures) ∙ at-if3 .if3 .taken)
 
-touched-requires : tie.Need-touched-requires
-touched-requires c κs = search needs
-
 room-refusal-requires : tie.Need-room-refusal-requires
 room-refusal-requires c κs =
     let at-touched = c in
@@ -89,12 +80,12 @@ allocate-room-spec =
     tie.close
     (tie.spec
     decode-requires
-    is-undecodable-requires
+    (λ c κs. search needs)
     returns
-    is-fixed-requires
+    (λ c κs. search needs)
     returns-2
     is-allocated-requires
     returns-3
-    touched-requires
+    (λ c κs. search needs)
     room-refusal-requires
     returns-4)

@@ -18,9 +18,6 @@ decode-requires c κs =
     let start = c .before .before .before .before in
     start .pre
 
-is-undecodable-requires : tie.Need-is-undecodable-requires
-is-undecodable-requires c κs = search needs
-
 returns : tie.Need-returns
 returns c =
     let at-if1 = c in
@@ -29,9 +26,6 @@ returns c =
     let start = at-decode .before .before .before .before .before in
     let m = mem (start .args .bytes .now) (start .args .keys .now) (start .args .order .now) (start .args .words .now) in
     chosen-4 (settingOf m) (viewOf m) (start .args .page) _ (at-decode .decode .ensures) ((ltb (2 ^ 32) (start .args .start + start .args .n), refused 8) ∷ room (settingOf m) (viewOf m) (start .args .page) (start .args .start) (start .args .n) (alignedCount (start .args .start) (start .args .n))) (sym (at-is-undecodable .is-undecodable .ensures) ∙ at-if1 .if1 .taken)
-
-sub-if2 : tie.Need-sub-if2
-sub-if2 c = search needs
 
 returns-2 : tie.Need-returns-2
 returns-2 c =
@@ -42,15 +36,6 @@ returns-2 c =
     let start = at-decode .before .before .before .before .before in
     let m = mem (start .args .bytes .now) (start .args .keys .now) (start .args .order .now) (start .args .words .now) in
     bytes-8 (settingOf m) (viewOf m) (start .args .page) _ (at-decode .decode .ensures) (start .args .start) (start .args .n) (sym (at-is-undecodable .is-undecodable .ensures) ∙ at-if1 .if1 .left) (start .fits .start .fits) (at-if2 .if2 .taken)
-
-touched-requires : tie.Need-touched-requires
-touched-requires c κs = search needs
-
-aligned-requires : tie.Need-aligned-requires
-aligned-requires c κs = search needs
-
-cast-room-refusal : tie.Need-cast-room-refusal
-cast-room-refusal c = search needs
 
 room-refusal-requires : tie.Need-room-refusal-requires
 room-refusal-requires c κs =
@@ -78,12 +63,12 @@ bytes-room-spec =
     tie.close
     (tie.spec
     decode-requires
-    is-undecodable-requires
+    (λ c κs. search needs)
     returns
-    sub-if2
+    (λ c. search needs)
     returns-2
-    touched-requires
-    aligned-requires
-    cast-room-refusal
+    (λ c κs. search needs)
+    (λ c κs. search needs)
+    (λ c. search needs)
     room-refusal-requires
     returns-3)

@@ -13,9 +13,6 @@ layout-of-requires c κs =
     let m = mem (start .args .bytes .now) (start .args .keys .now) (start .args .order .now) (start .args .words .now) in
     layout-asks m (start .pre)
 
-decode-page-requires : tie.Need-decode-page-requires
-decode-page-requires c κs = search needs
-
 returns : tie.Need-returns
 returns c =
     let at-decode-page = c in
@@ -28,5 +25,5 @@ decode-spec =
     tie.close
     (tie.spec
     layout-of-requires
-    decode-page-requires
+    (λ c κs. search needs)
     returns)

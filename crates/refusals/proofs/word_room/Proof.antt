@@ -13,9 +13,6 @@ decode-requires c κs =
     let start = c .before .before .before .before in
     start .pre
 
-is-undecodable-requires : tie.Need-is-undecodable-requires
-is-undecodable-requires c κs = search needs
-
 returns : tie.Need-returns
 returns c =
     let at-if1 = c in
@@ -24,12 +21,6 @@ returns c =
     let start = at-decode .before .before .before .before .before in
     let m = mem (start .args .bytes .now) (start .args .keys .now) (start .args .order .now) (start .args .words .now) in
     chosen-4 (settingOf m) (viewOf m) (start .args .page) _ (at-decode .decode .ensures) (room (settingOf m) (viewOf m) (start .args .page) (start .args .address) 32 1) (sym (at-is-undecodable .is-undecodable .ensures) ∙ at-if1 .if1 .taken)
-
-touched-requires : tie.Need-touched-requires
-touched-requires c κs = search needs
-
-cast-room-refusal : tie.Need-cast-room-refusal
-cast-room-refusal c = search needs
 
 room-refusal-requires : tie.Need-room-refusal-requires
 room-refusal-requires c κs =
@@ -53,9 +44,9 @@ word-room-spec =
     tie.close
     (tie.spec
     decode-requires
-    is-undecodable-requires
+    (λ c κs. search needs)
     returns
-    touched-requires
-    cast-room-refusal
+    (λ c κs. search needs)
+    (λ c. search needs)
     room-refusal-requires
     returns-2)

@@ -8,15 +8,9 @@ use Rattle.room.proofs.is_allocated.Tie as tie
 entry-of-requires : tie.Need-entry-of-requires
 entry-of-requires c κs = let start = c .before .before .before .before in pages-asked (mem (start .args .bytes .now) (start .args .keys .now) (start .args .order .now) (start .args .words .now)) (start .pre)
 
-shared-slice-read-result : tie.Need-shared-slice-read-result
-shared-slice-read-result c = search needs
-
-add-result : tie.Need-add-result
-add-result c = search needs
-
 returns : tie.Need-returns
 returns c = let start = c .before .before .before .before .before .before in allocated-by (mem (start .args .bytes .now) (start .args .keys .now) (start .args .order .now) (start .args .words .now)) (start .pre) (start .args .page) _ (c .before .entry-of .ensures)
 
 pub is-allocated-spec : {M : Type 1} → statement M
 is-allocated-spec =
-    tie.close (tie.spec entry-of-requires shared-slice-read-result add-result returns)
+    tie.close (tie.spec entry-of-requires (λ c. search needs) (λ c. search needs) returns)

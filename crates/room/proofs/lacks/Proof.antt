@@ -6,21 +6,6 @@ use Rattle.room.proofs.lacks.Tie as tie
 returns : tie.Need-returns
 returns c = let start = c .before .before .before .before in lacks-far (start .args .keys .now) (start .args .words .now) (start .args .e) (start .args .k) (c .if1 .taken)
 
-mul-slot-of : tie.Need-mul-slot-of
-mul-slot-of c = search needs
-
-add-slot-of : tie.Need-add-slot-of
-add-slot-of c = search needs
-
-add-slot-of-2 : tie.Need-add-slot-of-2
-add-slot-of-2 c = search needs
-
-slot-of-requires : tie.Need-slot-of-requires
-slot-of-requires c κs = search needs
-
-shared-slice-read-result : tie.Need-shared-slice-read-result
-shared-slice-read-result c = search needs
-
 returns-2 : tie.Need-returns-2
 returns-2 c = let start = c .before .before .before .before .before .before in lacks-near (start .args .keys .now) (start .args .words .now) (start .args .e) (start .args .k) _ (c .before .before .if1 .left) (c .before .slot-of .ensures)
 
@@ -29,9 +14,9 @@ lacks-spec =
     tie.close
     (tie.spec
     returns
-    mul-slot-of
-    add-slot-of
-    add-slot-of-2
-    slot-of-requires
-    shared-slice-read-result
+    (λ c. search needs)
+    (λ c. search needs)
+    (λ c. search needs)
+    (λ c κs. search needs)
+    (λ c. search needs)
     returns-2)

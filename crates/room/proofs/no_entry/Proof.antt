@@ -5,20 +5,8 @@ use Rattle.room.proofs.Tables.{left-none}
 use Rattle.room.proofs.no_entry.Statement.{statement}
 use Rattle.room.proofs.no_entry.Tie as tie
 
-is-allocated-requires : tie.Need-is-allocated-requires
-is-allocated-requires c κs = search needs
-
 returns : tie.Need-returns
 returns c = let t = sym (c .before .is-allocated .ensures) ∙ c .if1 .taken in rw t refl
-
-shared-slice-read-result : tie.Need-shared-slice-read-result
-shared-slice-read-result c = search needs
-
-shared-slice-read-result-2 : tie.Need-shared-slice-read-result-2
-shared-slice-read-result-2 c = search needs
-
-add-result : tie.Need-add-result
-add-result c = search needs
 
 returns-2 : tie.Need-returns-2
 returns-2 c = let start = c .before .before .before .before .before .before .before .before in let t = sym (c .before .before .before .is-allocated .ensures) ∙ c .before .before .if1 .left in rw t (left-none (mem (start .args .bytes .now) (start .args .keys .now) (start .args .order .now) (start .args .words .now)) (start .pre))
@@ -27,9 +15,9 @@ pub no-entry-spec : {M : Type 1} → statement M
 no-entry-spec =
     tie.close
     (tie.spec
-    is-allocated-requires
+    (λ c κs. search needs)
     returns
-    shared-slice-read-result
-    shared-slice-read-result-2
-    add-result
+    (λ c. search needs)
+    (λ c. search needs)
+    (λ c. search needs)
     returns-2)

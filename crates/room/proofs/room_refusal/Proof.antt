@@ -6,20 +6,11 @@ use Rattle.room.proofs.Numbers.{room-9, room-10, room-11, room-0}
 use Rattle.room.proofs.room_refusal.Statement.{statement}
 use Rattle.room.proofs.room_refusal.Tie as tie
 
-no-entry-requires : tie.Need-no-entry-requires
-no-entry-requires c κs = search needs
-
 returns : tie.Need-returns
 returns c = let start = c .before .before .before .before .before .before in room-9 (settingOf (mem (start .args .bytes .now) (start .args .keys .now) (start .args .order .now) (start .args .words .now))) (viewOf (mem (start .args .bytes .now) (start .args .keys .now) (start .args .order .now) (start .args .words .now))) (start .args .page) (start .args .first) (start .args .count) (start .args .w) (sym (c .before .no-entry .ensures) ∙ c .if1 .taken)
 
-short-of-chunks-requires : tie.Need-short-of-chunks-requires
-short-of-chunks-requires c κs = search needs
-
 returns-2 : tie.Need-returns-2
 returns-2 c = let start = c .before .before .before .before .before .before .before .before in room-10 (settingOf (mem (start .args .bytes .now) (start .args .keys .now) (start .args .order .now) (start .args .words .now))) (viewOf (mem (start .args .bytes .now) (start .args .keys .now) (start .args .order .now) (start .args .words .now))) (start .args .page) (start .args .first) (start .args .count) (start .args .w) (sym (c .before .before .before .no-entry .ensures) ∙ c .before .before .if1 .left) (sym (c .before .short-of-chunks .ensures) ∙ c .if2 .taken)
-
-short-of-words-requires : tie.Need-short-of-words-requires
-short-of-words-requires c κs = search needs
 
 returns-3 : tie.Need-returns-3
 returns-3 c = let start = c .before .before .before .before .before .before .before .before .before .before in room-11 (settingOf (mem (start .args .bytes .now) (start .args .keys .now) (start .args .order .now) (start .args .words .now))) (viewOf (mem (start .args .bytes .now) (start .args .keys .now) (start .args .order .now) (start .args .words .now))) (start .args .page) (start .args .first) (start .args .count) (start .args .w) (sym (c .before .before .before .before .before .no-entry .ensures) ∙ c .before .before .before .before .if1 .left) (sym (c .before .before .before .short-of-chunks .ensures) ∙ c .before .before .if2 .left) (sym (c .before .short-of-words .ensures) ∙ c .if3 .taken)
@@ -31,10 +22,10 @@ pub room-refusal-spec : {M : Type 1} → statement M
 room-refusal-spec =
     tie.close
     (tie.spec
-    no-entry-requires
+    (λ c κs. search needs)
     returns
-    short-of-chunks-requires
+    (λ c κs. search needs)
     returns-2
-    short-of-words-requires
+    (λ c κs. search needs)
     returns-3
     returns-4)

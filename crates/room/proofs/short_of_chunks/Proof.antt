@@ -29,23 +29,11 @@ entry-of-requires c κs = let start = c .before .before .before .before .before 
 loop-holds : tie.Need-loop-holds Inv-loop μ-loop
 loop-holds c = let start = c .before .before .before .before .before .before in (search needs, search needs, sym (missing-none (viewOf (mem (start .args .bytes .now) (start .args .keys .now) (start .args .order .now) (start .args .words .now)) .held (start .args .page)) (start .args .first)))
 
-add-lacks : tie.Need-add-lacks Inv-loop μ-loop
-add-lacks c = search needs
-
 lacks-requires : tie.Need-lacks-requires Inv-loop μ-loop
 lacks-requires c κs = let start = c .before .before .before .before .before .before .before .before in (slots-asked (mem (start .args .bytes .now) (start .args .keys .now) (start .args .order .now) (start .args .words .now)) (start .pre .0), let e = entry-few (mem (start .args .bytes .now) (start .args .keys .now) (start .args .order .now) (start .args .words .now)) (start .pre .0) (start .args .page) in let q = c .before .before .entry-of .ensures in omega arith)
 
 returns : tie.Need-returns Inv-loop μ-loop
 returns c = let start = c .before .before .before .before .before .before .before .before .before .before .before in let at-loop = c .before .before .before .before in over-pool (viewOf (mem (start .args .bytes .now) (start .args .keys .now) (start .args .order .now) (start .args .words .now)) .held (start .args .page)) (start .args .first) _ (at-loop .loop .i) (c .before .before .lacks .ensures ∙ lacks-at (mem (start .args .bytes .now) (start .args .keys .now) (start .args .order .now) (start .args .words .now)) (start .args .page) _ _ (c .before .before .before .before .before .entry-of .ensures)) (start .args .count) _ _ (c .before .before .before .loop-test .taken) (c .before .if1 .taken) (at-loop .loop .inv .2) (c .if2 .taken ∙ c .before .before .before .before .before .before .pool-count .ensures)
-
-add-missing : tie.Need-add-missing Inv-loop μ-loop
-add-missing c = search needs
-
-add-i : tie.Need-add-i Inv-loop μ-loop
-add-i c = search needs
-
-loop-less : tie.Need-loop-less Inv-loop μ-loop
-loop-less c = search needs
 
 loop-again : tie.Need-loop-again Inv-loop μ-loop
 loop-again c =
@@ -69,11 +57,11 @@ short-of-chunks-spec =
     pool-count-requires
     entry-of-requires
     loop-holds
-    add-lacks
+    (λ c. search needs)
     lacks-requires
     returns
-    add-missing
-    add-i
-    loop-less
+    (λ c. search needs)
+    (λ c. search needs)
+    (λ c. search needs)
     loop-again
     returns-2)

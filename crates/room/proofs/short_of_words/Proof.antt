@@ -6,29 +6,11 @@ use Rattle.room.proofs.Journals.{full-heap, full-aux, full-none}
 use Rattle.room.proofs.short_of_words.Statement.{statement}
 use Rattle.room.proofs.short_of_words.Tie as tie
 
-shared-slice-read-if1 : tie.Need-shared-slice-read-if1
-shared-slice-read-if1 c = search needs
-
-shared-slice-read-result : tie.Need-shared-slice-read-result
-shared-slice-read-result c = search needs
-
-shared-slice-read-result-2 : tie.Need-shared-slice-read-result-2
-shared-slice-read-result-2 c = search needs
-
 add-result : tie.Need-add-result
 add-result c = let start = c .before .before .before .before in let h = start .pre .0 .encoded in let k = start .pre .0 .in-capacity 0 (omega arith) in let l = start .pre .0 .lengths .room-hi in omega (arith, start .pre .1)
 
 returns : tie.Need-returns
 returns c = let start = c .before .before .before .before in sym (full-heap (mem (start .args .bytes .now) (start .args .keys .now) (start .args .order .now) (start .args .words .now)) (start .pre .0) (start .args .page) (start .args .w) (c .before .before .if1 .taken))
-
-shared-slice-read-if2 : tie.Need-shared-slice-read-if2
-shared-slice-read-if2 c = search needs
-
-shared-slice-read-result-3 : tie.Need-shared-slice-read-result-3
-shared-slice-read-result-3 c = search needs
-
-shared-slice-read-result-4 : tie.Need-shared-slice-read-result-4
-shared-slice-read-result-4 c = search needs
 
 add-result-2 : tie.Need-add-result-2
 add-result-2 c = let start = c .before .before .before .before .before .before in let k = start .pre .0 .in-capacity 1 (omega arith) in let l = start .pre .0 .lengths .room-hi in omega (arith, start .pre .1)
@@ -43,14 +25,14 @@ pub short-of-words-spec : {M : Type 1} → statement M
 short-of-words-spec =
     tie.close
     (tie.spec
-    shared-slice-read-if1
-    shared-slice-read-result
-    shared-slice-read-result-2
+    (λ c. search needs)
+    (λ c. search needs)
+    (λ c. search needs)
     add-result
     returns
-    shared-slice-read-if2
-    shared-slice-read-result-3
-    shared-slice-read-result-4
+    (λ c. search needs)
+    (λ c. search needs)
+    (λ c. search needs)
     add-result-2
     returns-2
     returns-3)

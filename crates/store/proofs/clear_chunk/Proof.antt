@@ -15,19 +15,10 @@ abbrev μ-loop : tie.MeasureT-loop
 loop-holds : tie.Need-loop-holds Inv-loop μ-loop
 loop-holds c = (search needs, zero-none _ _)
 
-add-bytes : tie.Need-add-bytes Inv-loop μ-loop
-add-bytes c = search needs
-
 slice-write-bytes : tie.Need-slice-write-bytes Inv-loop μ-loop
 slice-write-bytes c =
     let at-loop = c .before in
     let l = at-loop .loop .inv .1 .long in search needs
-
-add-i : tie.Need-add-i Inv-loop μ-loop
-add-i c = search needs
-
-loop-less : tie.Need-loop-less Inv-loop μ-loop
-loop-less c = search needs
 
 loop-again : tie.Need-loop-again Inv-loop μ-loop
 loop-again c =
@@ -35,9 +26,6 @@ loop-again c =
     let at-loop = at-loop-test .before in
     let start = at-loop .before in
     (omega arith, zero-more _ _ _ _ (omega (arith, at-loop-test .loop-test .taken, start .pre)) (at-loop .loop .inv .1))
-
-same-length : tie.Need-same-length Inv-loop μ-loop
-same-length c = search needs
 
 returns : tie.Need-returns Inv-loop μ-loop
 returns c =
@@ -52,10 +40,10 @@ clear-chunk-spec =
     Inv-loop
     μ-loop
     loop-holds
-    add-bytes
+    (λ c. search needs)
     slice-write-bytes
-    add-i
-    loop-less
+    (λ c. search needs)
+    (λ c. search needs)
     loop-again
-    same-length
+    (λ c. search needs)
     returns)

@@ -14,12 +14,6 @@ returns c =
     let e : start .args .address / 256 ≡ (start .args .address + 31) / 256 = omega arith in
     λ l. start .pre .1 ∙ ap (slotFor (start .args .keys .now) (start .args .words .now) (start .args .page)) e
 
-add-hinted : tie.Need-add-hinted
-add-hinted c = search needs
-
-hinted-requires : tie.Need-hinted-requires
-hinted-requires c κs = search needs
-
 returns-2 : tie.Need-returns-2
 returns-2 c =
     let at-hinted = c in
@@ -30,4 +24,4 @@ returns-2 c =
     λ l. at-hinted .hinted .ensures l ∙ ap (slotFor (start .args .keys .now) (start .args .words .now) (start .args .page)) e
 
 pub hinted-last-spec : {M : Type 1} → statement M
-hinted-last-spec = tie.close (tie.spec returns add-hinted hinted-requires returns-2)
+hinted-last-spec = tie.close (tie.spec returns (λ c. search needs) (λ c κs. search needs) returns-2)

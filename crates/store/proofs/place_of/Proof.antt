@@ -9,20 +9,11 @@ use borrow.Author.Needs.{needs}
 use Rattle.store.proofs.place_of.Statement.{statement}
 use Rattle.store.proofs.place_of.Tie as tie
 
-hinted-requires : tie.Need-hinted-requires
-hinted-requires c κs = search needs
-
-shared-slice-read-if1 : tie.Need-shared-slice-read-if1
-shared-slice-read-if1 c = search needs
-
 returns : tie.Need-returns
 returns c =
     let at-if1 = c in
     let at-hinted = at-if1 .before .before in
     at-hinted .hinted .ensures (at-if1 .if1 .taken)
-
-entry-of-requires : tie.Need-entry-of-requires
-entry-of-requires c κs = search needs
 
 mul-slot-of : tie.Need-mul-slot-of
 mul-slot-of c =
@@ -42,9 +33,6 @@ add-slot-of-2 c =
     let start = at-entry-of .before .before .before .before .before .before .before in
     let h = entry-few (start .args .keys .now) (start .args .order .now) (start .args .words .now) (start .args .page) (at-entry-of .entry-of .result) (start .pre .0) (at-entry-of .entry-of .ensures) in let l = start .pre .1 in omega arith
 
-slot-of-requires : tie.Need-slot-of-requires
-slot-of-requires c κs = search needs
-
 returns-2 : tie.Need-returns-2
 returns-2 c =
     let at-slot-of = c in
@@ -56,12 +44,12 @@ pub place-of-spec : {M : Type 1} → statement M
 place-of-spec =
     tie.close
     (tie.spec
-    hinted-requires
-    shared-slice-read-if1
+    (λ c κs. search needs)
+    (λ c. search needs)
     returns
-    entry-of-requires
+    (λ c κs. search needs)
     mul-slot-of
     add-slot-of
     add-slot-of-2
-    slot-of-requires
+    (λ c κs. search needs)
     returns-2)

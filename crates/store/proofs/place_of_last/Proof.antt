@@ -14,12 +14,6 @@ returns c =
     let e : start .args .address / 256 ≡ (start .args .address + 31) / 256 = omega arith in
     start .pre .1 ∙ ap (slotFor (start .args .keys .now) (start .args .words .now) (start .args .page)) e
 
-add-place-of : tie.Need-add-place-of
-add-place-of c = search needs
-
-place-of-requires : tie.Need-place-of-requires
-place-of-requires c κs = search needs
-
 returns-2 : tie.Need-returns-2
 returns-2 c =
     let at-place-of = c in
@@ -30,4 +24,4 @@ returns-2 c =
     at-place-of .place-of .ensures ∙ ap (slotFor (start .args .keys .now) (start .args .words .now) (start .args .page)) e
 
 pub place-of-last-spec : {M : Type 1} → statement M
-place-of-last-spec = tie.close (tie.spec returns add-place-of place-of-requires returns-2)
+place-of-last-spec = tie.close (tie.spec returns (λ c. search needs) (λ c κs. search needs) returns-2)

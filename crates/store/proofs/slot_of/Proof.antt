@@ -3,30 +3,6 @@ use Rattle.store.proofs.Holds.{part-index, part-seek}
 use Rattle.store.proofs.slot_of.Statement.{statement}
 use Rattle.store.proofs.slot_of.Tie as tie
 
-shared-slice-read-c : tie.Need-shared-slice-read-c
-shared-slice-read-c c = search needs
-
-sub-find : tie.Need-sub-find
-sub-find c = search needs
-
-part-find-start : tie.Need-part-find-start
-part-find-start c = search needs
-
-part-find-end : tie.Need-part-find-end
-part-find-end c = search needs
-
-sub-find-2 : tie.Need-sub-find-2
-sub-find-2 c = search needs
-
-part-find-start-2 : tie.Need-part-find-start-2
-part-find-start-2 c = search needs
-
-part-find-end-2 : tie.Need-part-find-end-2
-part-find-end-2 c = search needs
-
-shared-slice-read-find : tie.Need-shared-slice-read-find
-shared-slice-read-find c = search needs
-
 find-requires : tie.Need-find-requires
 find-requires c κs =
     let start = c .before .before .before .before .before .before .before in
@@ -41,13 +17,13 @@ pub slot-of-spec : {M : Type 1} → statement M
 slot-of-spec =
     tie.close
     (tie.spec
-    shared-slice-read-c
-    sub-find
-    part-find-start
-    part-find-end
-    sub-find-2
-    part-find-start-2
-    part-find-end-2
-    shared-slice-read-find
+    (λ c. search needs)
+    (λ c. search needs)
+    (λ c. search needs)
+    (λ c. search needs)
+    (λ c. search needs)
+    (λ c. search needs)
+    (λ c. search needs)
+    (λ c. search needs)
     find-requires
     returns)

@@ -15,12 +15,6 @@ abbrev μ-loop : tie.MeasureT-loop
 loop-holds : tie.Need-loop-holds Inv-loop μ-loop
 loop-holds c = (search needs, search needs, wipe-none _ _ _ _ (omega arith))
 
-mul-clear-chunk : tie.Need-mul-clear-chunk Inv-loop μ-loop
-mul-clear-chunk c = search needs
-
-shared-slice-read-clear-chunk : tie.Need-shared-slice-read-clear-chunk Inv-loop μ-loop
-shared-slice-read-clear-chunk c = search needs
-
 cast-clear-chunk : tie.Need-cast-clear-chunk Inv-loop μ-loop
 cast-clear-chunk c =
     let at-loop = c .before .before .before in
@@ -41,20 +35,11 @@ clear-chunk-requires c κs =
     let start = at-loop .before .before .before in
     let l = start .pre .2 (at-loop .loop .i) (at-loop .loop .inv .0) (at-loop-test .loop-test .taken) in let e = at-loop .loop .inv .2 .long in omega arith
 
-add-i : tie.Need-add-i Inv-loop μ-loop
-add-i c = search needs
-
-loop-less : tie.Need-loop-less Inv-loop μ-loop
-loop-less c = search needs
-
 loop-again : tie.Need-loop-again Inv-loop μ-loop
 loop-again c =
     let at-clear-chunk = c .before .before in
     let at-loop = at-clear-chunk .before .before .before .before in
     (omega arith, omega arith, wipe-more _ _ _ _ _ _ (at-loop .loop .inv .0) (at-loop .loop .inv .2) (at-clear-chunk .clear-chunk .ensures))
-
-same-length : tie.Need-same-length Inv-loop μ-loop
-same-length c = search needs
 
 returns : tie.Need-returns Inv-loop μ-loop
 returns c =
@@ -69,13 +54,13 @@ wipe-spec =
     Inv-loop
     μ-loop
     loop-holds
-    mul-clear-chunk
-    shared-slice-read-clear-chunk
+    (λ c. search needs)
+    (λ c. search needs)
     cast-clear-chunk
     mul-clear-chunk-2
     clear-chunk-requires
-    add-i
-    loop-less
+    (λ c. search needs)
+    (λ c. search needs)
     loop-again
-    same-length
+    (λ c. search needs)
     returns)

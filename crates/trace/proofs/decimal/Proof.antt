@@ -15,9 +15,6 @@ Inv-loop field no' n₀ i₀ n i = (i ≤ length field) × (n ≤ 4294967295) ×
 abbrev μ-loop : tie.MeasureT-loop
 μ-loop field no' n₀ i₀ n i = length field - i
 
-led-well-requires : tie.Need-led-well-requires Inv-loop μ-loop
-led-well-requires c κs = search needs
-
 returns : tie.Need-returns Inv-loop μ-loop
 returns c =
     let at-if1 = c in
@@ -28,12 +25,6 @@ returns c =
 loop-holds : tie.Need-loop-holds Inv-loop μ-loop
 loop-holds c = (omega arith, omega arith, refl, refl)
 
-shared-slice-read-digit : tie.Need-shared-slice-read-digit Inv-loop μ-loop
-shared-slice-read-digit c = search needs
-
-digit-requires : tie.Need-digit-requires Inv-loop μ-loop
-digit-requires c κs = search needs
-
 returns-2 : tie.Need-returns-2 Inv-loop μ-loop
 returns-2 c =
     let at-if2 = c in
@@ -42,12 +33,6 @@ returns-2 c =
     let at-loop = at-loop-test .before in
     let start = at-loop .before .before .before .before in
     let d = at-digit .digit .ensures in let t = at-if2 .if2 .taken in decimal-digit (start .args .field .now) (sym (at-loop .loop .inv .2) ∙ digital-stop 10 (start .args .field .now) (at-loop .loop .i) (at-loop-test .loop-test .taken) (omega arith))
-
-mul-n : tie.Need-mul-n Inv-loop μ-loop
-mul-n c = search needs
-
-add-n : tie.Need-add-n Inv-loop μ-loop
-add-n c = search needs
 
 returns-3 : tie.Need-returns-3 Inv-loop μ-loop
 returns-3 c =
@@ -60,12 +45,6 @@ returns-3 c =
     let g = number-grows (at-loop .loop .n * 10 + at-digit .digit .result) (drop (at-loop .loop .i + 1) (start .args .field .now)) in
     let t = at-if3 .if3 .taken in
     decimal-wide (start .args .field .now) (omega arith)
-
-add-i : tie.Need-add-i Inv-loop μ-loop
-add-i c = search needs
-
-loop-less : tie.Need-loop-less Inv-loop μ-loop
-loop-less c = search needs
 
 loop-again : tie.Need-loop-again Inv-loop μ-loop
 loop-again c =
@@ -83,9 +62,6 @@ loop-again c =
       ap (λ (d : ℕ). numberAfter 10 (at-loop .loop .n * 10 + d) (drop (at-loop .loop .i + 1) (start .args .field .now))) (at-digit .digit .ensures) ∙ number-step 10 (start .args .field .now) (at-loop .loop .i) (at-loop-test .loop-test .taken) (at-loop .loop .n) ∙ at-loop .loop .inv .3,
     )
 
-cast-t13 : tie.Need-cast-t13 Inv-loop μ-loop
-cast-t13 c = search needs
-
 returns-4 : tie.Need-returns-4 Inv-loop μ-loop
 returns-4 c =
     let at-loop-test = c in
@@ -101,17 +77,17 @@ decimal-spec =
     (tie.spec
     Inv-loop
     μ-loop
-    led-well-requires
+    (λ c κs. search needs)
     returns
     loop-holds
-    shared-slice-read-digit
-    digit-requires
+    (λ c. search needs)
+    (λ c κs. search needs)
     returns-2
-    mul-n
-    add-n
+    (λ c. search needs)
+    (λ c. search needs)
     returns-3
-    add-i
-    loop-less
+    (λ c. search needs)
+    (λ c. search needs)
     loop-again
-    cast-t13
+    (λ c. search needs)
     returns-4)

@@ -35,21 +35,6 @@ returns c =
       bad = λ e forms. at-loop .loop .inv .2 forms ∙ decimals-past (start .args .line .now) (at-loop .loop .at) (start .args .n) (at-loop .loop .i) (take (at-loop .loop .i) (at-loop .loop .values)) forms (at-loop-test .loop-test .taken) (at-if1 .if1 .taken);
     }
 
-field-end-requires : tie.Need-field-end-requires Inv-loop μ-loop
-field-end-requires c κs = search needs
-
-sub-decimal : tie.Need-sub-decimal Inv-loop μ-loop
-sub-decimal c = search needs
-
-part-decimal-start : tie.Need-part-decimal-start Inv-loop μ-loop
-part-decimal-start c = search needs
-
-part-decimal-end : tie.Need-part-decimal-end Inv-loop μ-loop
-part-decimal-end c = search needs
-
-decimal-requires : tie.Need-decimal-requires Inv-loop μ-loop
-decimal-requires c κs = search needs
-
 returns-2 : tie.Need-returns-2 Inv-loop μ-loop
 returns-2 c =
     let at-if2 = c in
@@ -65,21 +50,6 @@ returns-2 c =
       good = λ e. absurd (false≢true e);
       bad = λ e forms. at-loop .loop .inv .2 forms ∙ decimals-bad (start .args .line .now) (at-loop .loop .at) (start .args .n) (at-loop .loop .i) (at-loop-test .loop-test .taken) (at-if1 .if1 .left) (take (at-loop .loop .i) (at-loop .loop .values)) forms (ap decimal (sym z) ∙ q);
     }
-
-mul-values : tie.Need-mul-values Inv-loop μ-loop
-mul-values c = search needs
-
-array-write-values : tie.Need-array-write-values Inv-loop μ-loop
-array-write-values c = search needs
-
-add-at : tie.Need-add-at Inv-loop μ-loop
-add-at c = search needs
-
-add-i : tie.Need-add-i Inv-loop μ-loop
-add-i c = search needs
-
-loop-less : tie.Need-loop-less Inv-loop μ-loop
-loop-less c = search needs
 
 loop-again : tie.Need-loop-again Inv-loop μ-loop
 loop-again c =
@@ -119,16 +89,16 @@ decimals-spec =
     μ-loop
     loop-holds
     returns
-    field-end-requires
-    sub-decimal
-    part-decimal-start
-    part-decimal-end
-    decimal-requires
+    (λ c κs. search needs)
+    (λ c. search needs)
+    (λ c. search needs)
+    (λ c. search needs)
+    (λ c κs. search needs)
     returns-2
-    mul-values
-    array-write-values
-    add-at
-    add-i
-    loop-less
+    (λ c. search needs)
+    (λ c. search needs)
+    (λ c. search needs)
+    (λ c. search needs)
+    (λ c. search needs)
     loop-again
     returns-3)

@@ -10,9 +10,6 @@ returns c =
     let start = at-if1 .before in
     digit-low (start .args .b) (at-if1 .if1 .taken)
 
-cast-result : tie.Need-cast-result
-cast-result c = search needs
-
 returns-2 : tie.Need-returns-2
 returns-2 c =
     let at-if2 = c in
@@ -26,12 +23,6 @@ returns-3 c =
     let at-if2 = at-if3 .before in
     let start = at-if2 .before .before in
     digit-gap (start .args .b) (at-if2 .if2 .left) (at-if3 .if3 .taken)
-
-sub-result : tie.Need-sub-result
-sub-result c = search needs
-
-cast-result-2 : tie.Need-cast-result-2
-cast-result-2 c = search needs
 
 returns-4 : tie.Need-returns-4
 returns-4 c =
@@ -49,4 +40,4 @@ returns-5 c =
 pub digit-spec : {M : Type 1} → statement M
 digit-spec =
     tie.close
-    (tie.spec returns cast-result returns-2 returns-3 sub-result cast-result-2 returns-4 returns-5)
+    (tie.spec returns (λ c. search needs) returns-2 returns-3 (λ c. search needs) (λ c. search needs) returns-4 returns-5)

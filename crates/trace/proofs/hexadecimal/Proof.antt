@@ -16,12 +16,6 @@ Inv-loop field no' w₀ i₀ w i = (i ≤ length field) × (value (w .limbs) < 1
 abbrev μ-loop : tie.MeasureT-loop
 μ-loop field no' w₀ i₀ w i = length field - i
 
-no-word-requires : tie.Need-no-word-requires Inv-loop μ-loop
-no-word-requires c κs = search needs
-
-led-well-requires : tie.Need-led-well-requires Inv-loop μ-loop
-led-well-requires c κs = search needs
-
 returns : tie.Need-returns Inv-loop μ-loop
 returns c =
     let at-if1 = c in
@@ -44,12 +38,6 @@ loop-holds c =
     let z = at-no-word .no-word .ensures .1 in
     (omega arith, omega arith, refl, ap (λ (n : ℕ). numberAfter 16 n (start .args .field .now)) z)
 
-shared-slice-read-digit : tie.Need-shared-slice-read-digit Inv-loop μ-loop
-shared-slice-read-digit c = search needs
-
-digit-requires : tie.Need-digit-requires Inv-loop μ-loop
-digit-requires c κs = search needs
-
 returns-3 : tie.Need-returns-3 Inv-loop μ-loop
 returns-3 c =
     let at-if3 = c in
@@ -67,12 +55,6 @@ lengthened-requires c κs =
     let at-loop = at-loop-test .before in
     let at-if2 = at-loop .before .before in
     let t = at-loop-test .loop-test .taken in let s = at-if2 .if2 .left in (digits-room _ (at-loop .loop .i) (at-loop .loop .inv .1) (omega arith), omega (arith, at-if3 .if3 .left))
-
-add-i : tie.Need-add-i Inv-loop μ-loop
-add-i c = search needs
-
-loop-less : tie.Need-loop-less Inv-loop μ-loop
-loop-less c = search needs
 
 loop-again : tie.Need-loop-again Inv-loop μ-loop
 loop-again c =
@@ -107,16 +89,16 @@ hexadecimal-spec =
     (tie.spec
     Inv-loop
     μ-loop
-    no-word-requires
-    led-well-requires
+    (λ c κs. search needs)
+    (λ c κs. search needs)
     returns
     returns-2
     loop-holds
-    shared-slice-read-digit
-    digit-requires
+    (λ c. search needs)
+    (λ c κs. search needs)
     returns-3
     lengthened-requires
-    add-i
-    loop-less
+    (λ c. search needs)
+    (λ c. search needs)
     loop-again
     returns-4)

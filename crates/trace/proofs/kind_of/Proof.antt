@@ -5,24 +5,12 @@ use borrow.Author.Needs.{needs}
 use Rattle.trace.proofs.kind_of.Statement.{statement}
 use Rattle.trace.proofs.kind_of.Tie as tie
 
-slice-aggregate-same : tie.Need-slice-aggregate-same
-slice-aggregate-same c = search needs
-
-same-requires : tie.Need-same-requires
-same-requires c κs = search needs
-
 returns : tie.Need-returns
 returns c =
     let at-if1 = c in
     let at-same = at-if1 .before in
     let start = at-same .before .before .before in
     kind-open (start .args .name .now) (sym (at-same .same .ensures) ∙ at-if1 .if1 .taken)
-
-slice-aggregate-same-2 : tie.Need-slice-aggregate-same-2
-slice-aggregate-same-2 c = search needs
-
-same-requires-2 : tie.Need-same-requires-2
-same-requires-2 c κs = search needs
 
 returns-2 : tie.Need-returns-2
 returns-2 c =
@@ -32,12 +20,6 @@ returns-2 c =
     let at-same = at-if1 .before in
     let start = at-same .before .before .before in
     kind-write (start .args .name .now) (sym (at-same .same .ensures) ∙ at-if1 .if1 .left) (sym (at-same2 .same2 .ensures) ∙ at-if2 .if2 .taken)
-
-slice-aggregate-same-3 : tie.Need-slice-aggregate-same-3
-slice-aggregate-same-3 c = search needs
-
-same-requires-3 : tie.Need-same-requires-3
-same-requires-3 c κs = search needs
 
 returns-3 : tie.Need-returns-3
 returns-3 c =
@@ -49,12 +31,6 @@ returns-3 c =
     let at-same = at-if1 .before in
     let start = at-same .before .before .before in
     kind-read (start .args .name .now) (sym (at-same .same .ensures) ∙ at-if1 .if1 .left) (sym (at-same2 .same2 .ensures) ∙ at-if2 .if2 .left) (sym (at-same3 .same3 .ensures) ∙ at-if3 .if3 .taken)
-
-slice-aggregate-same-4 : tie.Need-slice-aggregate-same-4
-slice-aggregate-same-4 c = search needs
-
-same-requires-4 : tie.Need-same-requires-4
-same-requires-4 c κs = search needs
 
 returns-4 : tie.Need-returns-4
 returns-4 c =
@@ -68,12 +44,6 @@ returns-4 c =
     let at-same = at-if1 .before in
     let start = at-same .before .before .before in
     kind-snapshot (start .args .name .now) (sym (at-same .same .ensures) ∙ at-if1 .if1 .left) (sym (at-same2 .same2 .ensures) ∙ at-if2 .if2 .left) (sym (at-same3 .same3 .ensures) ∙ at-if3 .if3 .left) (sym (at-same4 .same4 .ensures) ∙ at-if4 .if4 .taken)
-
-slice-aggregate-same-5 : tie.Need-slice-aggregate-same-5
-slice-aggregate-same-5 c = search needs
-
-same-requires-5 : tie.Need-same-requires-5
-same-requires-5 c κs = search needs
 
 returns-5 : tie.Need-returns-5
 returns-5 c =
@@ -109,19 +79,19 @@ pub kind-of-spec : {M : Type 1} → statement M
 kind-of-spec =
     tie.close
     (tie.spec
-    slice-aggregate-same
-    same-requires
+    (λ c. search needs)
+    (λ c κs. search needs)
     returns
-    slice-aggregate-same-2
-    same-requires-2
+    (λ c. search needs)
+    (λ c κs. search needs)
     returns-2
-    slice-aggregate-same-3
-    same-requires-3
+    (λ c. search needs)
+    (λ c κs. search needs)
     returns-3
-    slice-aggregate-same-4
-    same-requires-4
+    (λ c. search needs)
+    (λ c κs. search needs)
     returns-4
-    slice-aggregate-same-5
-    same-requires-5
+    (λ c. search needs)
+    (λ c κs. search needs)
     returns-5
     returns-6)

@@ -16,9 +16,6 @@ returns-2 c =
     let start = at-if2 .before .before in
     led-one (start .args .field .now) (at-if2 .if2 .taken)
 
-shared-slice-read-result : tie.Need-shared-slice-read-result
-shared-slice-read-result c = search needs
-
 returns-3 : tie.Need-returns-3
 returns-3 c =
     let at-if2 = c .before in
@@ -27,4 +24,4 @@ returns-3 c =
     led-more (start .args .field .now) (at-if1 .if1 .left) (at-if2 .if2 .left)
 
 pub led-well-spec : {M : Type 1} → statement M
-led-well-spec = tie.close (tie.spec returns returns-2 shared-slice-read-result returns-3)
+led-well-spec = tie.close (tie.spec returns returns-2 (λ c. search needs) returns-3)

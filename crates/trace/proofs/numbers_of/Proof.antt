@@ -7,9 +7,6 @@ use borrow.Author.Needs.{needs}
 use Rattle.trace.proofs.numbers_of.Statement.{statement}
 use Rattle.trace.proofs.numbers_of.Tie as tie
 
-unread-requires : tie.Need-unread-requires
-unread-requires c κs = search needs
-
 returns : tie.Need-returns
 returns c =
     let at-unread = c in
@@ -25,4 +22,4 @@ returns-2 c =
     numbers-end (start .args .kind) (start .args .line .now) (start .args .values) (start .args .at) _ (at-if1 .if1 .left) refl
 
 pub numbers-of-spec : {M : Type 1} → statement M
-numbers-of-spec = tie.close (tie.spec unread-requires returns returns-2)
+numbers-of-spec = tie.close (tie.spec (λ c κs. search needs) returns returns-2)

@@ -34,35 +34,11 @@ other Read o = refl
 other Snapshot o = refl
 other Rollback o = refl
 
-field-end-requires : tie.Need-field-end-requires
-field-end-requires c κs = search needs
-
-sub-kind-of : tie.Need-sub-kind-of
-sub-kind-of c = search needs
-
-part-kind-of-start : tie.Need-part-kind-of-start
-part-kind-of-start c = search needs
-
-part-kind-of-end : tie.Need-part-kind-of-end
-part-kind-of-end c = search needs
-
-kind-of-requires : tie.Need-kind-of-requires
-kind-of-requires c κs = search needs
-
-add-decimals : tie.Need-add-decimals
-add-decimals c = search needs
-
-count-requires : tie.Need-count-requires
-count-requires c κs = search needs
-
 decimals-requires : tie.Need-decimals-requires
 decimals-requires c κs =
     let at-count = c in
     let at-kind-of = at-count .before in
     let e = at-count .count .ensures in omega (arith, count-le (at-kind-of .kind-of .result))
-
-unread-requires : tie.Need-unread-requires
-unread-requires c κs = search needs
 
 returns : tie.Need-returns
 returns c =
@@ -74,12 +50,6 @@ returns c =
     let at-field-end = at-kind-of .before .before in
     let start = at-field-end .before .before in
     at-unread .unread .ensures ∙ line-bad (start .args .line .now) (at-kind-of .kind-of .result) (at-field-end .field-end .result) (at-count .count .result) (at-field-end .field-end .ensures .0) (at-kind-of .kind-of .ensures) (at-count .count .ensures) (at-decimals .decimals .ensures .bad (not-true _ (at-if1 .if1 .taken)))
-
-enum-told : tie.Need-enum-told
-enum-told c = search needs
-
-write-of-requires : tie.Need-write-of-requires
-write-of-requires c κs = search needs
 
 returns-2 : tie.Need-returns-2
 returns-2 c =
@@ -93,9 +63,6 @@ returns-2 c =
     let start = at-field-end .before .before in
     let w = sym (at-enum-told .enum-told .given .1) in
     at-write-of .write-of .ensures ∙ line-good (start .args .line .now) Write (at-field-end .field-end .result) (at-count .count .result) (at-field-end .field-end .ensures .0) (w ∙ at-kind-of .kind-of .ensures) (at-count .count .ensures ∙ ap countOf (sym w)) (at-decimals .decimals .result .values) (at-decimals .decimals .result .at) (at-decimals .decimals .ensures .good (not-false _ (at-if1 .if1 .left)))
-
-numbers-of-requires : tie.Need-numbers-of-requires
-numbers-of-requires c κs = search needs
 
 returns-3 : tie.Need-returns-3
 returns-3 c =
@@ -115,18 +82,18 @@ pub parse-spec : {M : Type 1} → statement M
 parse-spec =
     tie.close
     (tie.spec
-    field-end-requires
-    sub-kind-of
-    part-kind-of-start
-    part-kind-of-end
-    kind-of-requires
-    add-decimals
-    count-requires
+    (λ c κs. search needs)
+    (λ c. search needs)
+    (λ c. search needs)
+    (λ c. search needs)
+    (λ c κs. search needs)
+    (λ c. search needs)
+    (λ c κs. search needs)
     decimals-requires
-    unread-requires
+    (λ c κs. search needs)
     returns
-    enum-told
-    write-of-requires
+    (λ c. search needs)
+    (λ c κs. search needs)
     returns-2
-    numbers-of-requires
+    (λ c κs. search needs)
     returns-3)

@@ -2,8 +2,5 @@ use borrow.Author.Needs.{needs}
 use Rattle.trace.proofs.unread.Statement.{statement}
 use Rattle.trace.proofs.unread.Tie as tie
 
-returns : tie.Need-returns
-returns c = search needs
-
 pub unread-spec : {M : Type 1} → statement M
-unread-spec = tie.close (tie.spec returns)
+unread-spec = tie.close (tie.spec (λ c. search needs))

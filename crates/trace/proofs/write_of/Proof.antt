@@ -11,21 +11,12 @@ use borrow.Author.Needs.{needs}
 use Rattle.trace.proofs.write_of.Statement.{statement}
 use Rattle.trace.proofs.write_of.Tie as tie
 
-unread-requires : tie.Need-unread-requires
-unread-requires c κs = search needs
-
 returns : tie.Need-returns
 returns c =
     let at-unread = c in
     let at-if1 = at-unread .before in
     let start = at-if1 .before .before in
     at-unread .unread .ensures ∙ word-past (start .args .line .now) (start .args .values) (start .args .at) (at-if1 .if1 .taken)
-
-field-end-requires : tie.Need-field-end-requires
-field-end-requires c κs = search needs
-
-unread-requires-2 : tie.Need-unread-requires-2
-unread-requires-2 c κs = search needs
 
 returns-2 : tie.Need-returns-2
 returns-2 c =
@@ -35,21 +26,6 @@ returns-2 c =
     let at-if1 = at-field-end .before in
     let start = at-if1 .before .before in
     let e = at-field-end .field-end .ensures .0 in let t = at-if2 .if2 .taken in at-unread2 .unread2 .ensures ∙ word-more (start .args .line .now) (start .args .values) (start .args .at) (at-if1 .if1 .left) (omega arith)
-
-sub-hexadecimal : tie.Need-sub-hexadecimal
-sub-hexadecimal c = search needs
-
-part-hexadecimal-start : tie.Need-part-hexadecimal-start
-part-hexadecimal-start c = search needs
-
-part-hexadecimal-end : tie.Need-part-hexadecimal-end
-part-hexadecimal-end c = search needs
-
-hexadecimal-requires : tie.Need-hexadecimal-requires
-hexadecimal-requires c κs = search needs
-
-unread-requires-3 : tie.Need-unread-requires-3
-unread-requires-3 c κs = search needs
 
 returns-3 : tie.Need-returns-3
 returns-3 c =
@@ -82,15 +58,15 @@ pub write-of-spec : {M : Type 1} → statement M
 write-of-spec =
     tie.close
     (tie.spec
-    unread-requires
+    (λ c κs. search needs)
     returns
-    field-end-requires
-    unread-requires-2
+    (λ c κs. search needs)
+    (λ c κs. search needs)
     returns-2
-    sub-hexadecimal
-    part-hexadecimal-start
-    part-hexadecimal-end
-    hexadecimal-requires
-    unread-requires-3
+    (λ c. search needs)
+    (λ c. search needs)
+    (λ c. search needs)
+    (λ c κs. search needs)
+    (λ c κs. search needs)
     returns-3
     returns-4)

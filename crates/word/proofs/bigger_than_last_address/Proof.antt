@@ -9,29 +9,17 @@ use Rattle.word.proofs.Limbs.{above-a, above-b, above-c, above-d, only-
 use Rattle.word.proofs.bigger_than_last_address.Statement.{statement}
 use Rattle.word.proofs.bigger_than_last_address.Tie as tie
 
-array-read-if1 : tie.Need-array-read-if1
-array-read-if1 c = search needs
-
 returns : tie.Need-returns
 unfolding value
 returns c = let l = c .before .before .args .w .limbs in sym (lt-ltb 4294967263 (value l) (above-a 4294967263 (omega arith) (getD l 0 0) (getD l 1 0) (getD l 2 0) (getD l 3 0) (c .if1 .taken)))
-
-array-read-if2 : tie.Need-array-read-if2
-array-read-if2 c = search needs
 
 returns-2 : tie.Need-returns-2
 unfolding value
 returns-2 c = let l = c .before .before .before .args .w .limbs in sym (lt-ltb 4294967263 (value l) (above-b 4294967263 (omega arith) (getD l 0 0) (getD l 1 0) (getD l 2 0) (getD l 3 0) (c .if2 .taken)))
 
-array-read-if3 : tie.Need-array-read-if3
-array-read-if3 c = search needs
-
 returns-3 : tie.Need-returns-3
 unfolding value
 returns-3 c = let l = c .before .before .before .before .args .w .limbs in sym (lt-ltb 4294967263 (value l) (above-c 4294967263 (omega arith) (getD l 0 0) (getD l 1 0) (getD l 2 0) (getD l 3 0) (c .if3 .taken)))
-
-array-read-if4 : tie.Need-array-read-if4
-array-read-if4 c = search needs
 
 returns-4 : tie.Need-returns-4
 unfolding value
@@ -45,12 +33,12 @@ pub bigger-than-last-address-spec : {M : Type 1} → statement M
 bigger-than-last-address-spec =
     tie.close
     (tie.spec
-    array-read-if1
+    (λ c. search needs)
     returns
-    array-read-if2
+    (λ c. search needs)
     returns-2
-    array-read-if3
+    (λ c. search needs)
     returns-3
-    array-read-if4
+    (λ c. search needs)
     returns-4
     returns-5)

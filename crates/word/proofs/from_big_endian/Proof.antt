@@ -5,18 +5,6 @@ use Rattle.word.proofs.Bytes.{limbs}
 use Rattle.word.proofs.from_big_endian.Statement.{statement}
 use Rattle.word.proofs.from_big_endian.Tie as tie
 
-be8-requires : tie.Need-be8-requires
-be8-requires c κs = search needs
-
-be8-requires-2 : tie.Need-be8-requires-2
-be8-requires-2 c κs = search needs
-
-be8-requires-3 : tie.Need-be8-requires-3
-be8-requires-3 c κs = search needs
-
-be8-requires-4 : tie.Need-be8-requires-4
-be8-requires-4 c κs = search needs
-
 returns : tie.Need-returns
 unfolding value
 returns c =
@@ -25,4 +13,4 @@ returns c =
 
 pub from-big-endian-spec : {M : Type 1} → statement M
 from-big-endian-spec =
-    tie.close (tie.spec be8-requires be8-requires-2 be8-requires-3 be8-requires-4 returns)
+    tie.close (tie.spec (λ c κs. search needs) (λ c κs. search needs) (λ c κs. search needs) (λ c κs. search needs) returns)

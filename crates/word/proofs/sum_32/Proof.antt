@@ -4,32 +4,17 @@ use Rattle.word.proofs.Limbs.{sum-a, sum-b, sum-c, sum-d, sum-e}
 use Rattle.word.proofs.sum_32.Statement.{statement}
 use Rattle.word.proofs.sum_32.Tie as tie
 
-add-t12 : tie.Need-add-t12
-add-t12 c = search needs
-
 returns : tie.Need-returns
 unfolding value
 returns c = let s = c .before in sum-a (s .args .a) (s .args .b) (s .args .c) (s .args .d) (s .fits .a .fits) (s .fits .b .fits) (s .fits .c .fits) (s .fits .d .fits) (c .if1 .taken)
-
-sub-z : tie.Need-sub-z
-sub-z c = search needs
-
-add-t13 : tie.Need-add-t13
-add-t13 c = search needs
 
 returns-2 : tie.Need-returns-2
 unfolding value
 returns-2 c = let s = c .before .before in sum-b (s .args .a) (s .args .b) (s .args .c) (s .args .d) (s .fits .a .fits) (s .fits .b .fits) (s .fits .c .fits) (s .fits .d .fits) (c .before .if1 .left) (c .if2 .taken)
 
-add-t14 : tie.Need-add-t14
-add-t14 c = search needs
-
 returns-3 : tie.Need-returns-3
 unfolding value
 returns-3 c = let s = c .before .before .before in sum-c (s .args .a) (s .args .b) (s .args .c) (s .args .d) (s .fits .a .fits) (s .fits .b .fits) (s .fits .c .fits) (s .fits .d .fits) (c .before .before .if1 .left) (c .before .if2 .left) (c .if3 .taken)
-
-add-t15 : tie.Need-add-t15
-add-t15 c = search needs
 
 returns-4 : tie.Need-returns-4
 unfolding value
@@ -43,13 +28,13 @@ pub sum-32-spec : {M : Type 1} → statement M
 sum-32-spec =
     tie.close
     (tie.spec
-    add-t12
+    (λ c. search needs)
     returns
-    sub-z
-    add-t13
+    (λ c. search needs)
+    (λ c. search needs)
     returns-2
-    add-t14
+    (λ c. search needs)
     returns-3
-    add-t15
+    (λ c. search needs)
     returns-4
     returns-5)

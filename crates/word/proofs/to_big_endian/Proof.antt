@@ -5,42 +5,6 @@ use Rattle.word.proofs.Swaps.{written}
 use Rattle.word.proofs.to_big_endian.Statement.{statement}
 use Rattle.word.proofs.to_big_endian.Tie as tie
 
-array-read-swap : tie.Need-array-read-swap
-array-read-swap c = search needs
-
-swap-requires : tie.Need-swap-requires
-swap-requires c κs = search needs
-
-le-put-requires : tie.Need-le-put-requires
-le-put-requires c κs = search needs
-
-array-read-swap-2 : tie.Need-array-read-swap-2
-array-read-swap-2 c = search needs
-
-swap-requires-2 : tie.Need-swap-requires-2
-swap-requires-2 c κs = search needs
-
-le-put-requires-2 : tie.Need-le-put-requires-2
-le-put-requires-2 c κs = search needs
-
-array-read-swap-3 : tie.Need-array-read-swap-3
-array-read-swap-3 c = search needs
-
-swap-requires-3 : tie.Need-swap-requires-3
-swap-requires-3 c κs = search needs
-
-le-put-requires-3 : tie.Need-le-put-requires-3
-le-put-requires-3 c κs = search needs
-
-array-read-swap-4 : tie.Need-array-read-swap-4
-array-read-swap-4 c = search needs
-
-swap-requires-4 : tie.Need-swap-requires-4
-swap-requires-4 c κs = search needs
-
-le-put-requires-4 : tie.Need-le-put-requires-4
-le-put-requires-4 c κs = search needs
-
 returns : tie.Need-returns
 unfolding value
 returns c =
@@ -53,16 +17,16 @@ pub to-big-endian-spec : {M : Type 1} → statement M
 to-big-endian-spec =
     tie.close
     (tie.spec
-    array-read-swap
-    swap-requires
-    le-put-requires
-    array-read-swap-2
-    swap-requires-2
-    le-put-requires-2
-    array-read-swap-3
-    swap-requires-3
-    le-put-requires-3
-    array-read-swap-4
-    swap-requires-4
-    le-put-requires-4
+    (λ c. search needs)
+    (λ c κs. search needs)
+    (λ c κs. search needs)
+    (λ c. search needs)
+    (λ c κs. search needs)
+    (λ c κs. search needs)
+    (λ c. search needs)
+    (λ c κs. search needs)
+    (λ c κs. search needs)
+    (λ c. search needs)
+    (λ c κs. search needs)
+    (λ c κs. search needs)
     returns)

@@ -11,21 +11,6 @@ use Rattle.writes.proofs.Chains.{allocate-asks}
 use Rattle.writes.proofs.allocate_at.Statement.{statement}
 use Rattle.writes.proofs.allocate_at.Tie as tie
 
-allocate-refusal-requires : tie.Need-allocate-refusal-requires
-allocate-refusal-requires c κs = search needs
-
-same-length : tie.Need-same-length
-same-length c = search needs
-
-same-length-2 : tie.Need-same-length-2
-same-length-2 c = search needs
-
-same-length-3 : tie.Need-same-length-3
-same-length-3 c = search needs
-
-same-length-4 : tie.Need-same-length-4
-same-length-4 c = search needs
-
 returns : tie.Need-returns
 returns c =
     let at-if1 = c in
@@ -40,18 +25,6 @@ list-page-requires c κs =
     let start = at-allocate-refusal .before .before .before .before .before .before .before .before .before in
     allocate-asks (mem (start .args .bytes .now) (start .args .keys .now) (start .args .order .now) (start .args .words .now)) (start .args .page .0) (omega (arith, start .good .1 .1 .1 .1 .0)) (passed-formed (mem (start .args .bytes .now) (start .args .keys .now) (start .args .order .now) (start .args .words .now)) (allocateChecks (settingOf (mem (start .args .bytes .now) (start .args .keys .now) (start .args .order .now) (start .args .words .now))) (viewOf (mem (start .args .bytes .now) (start .args .keys .now) (start .args .order .now) (start .args .words .now))) (start .args .page .0) 0) (settingOf (mem (start .args .bytes .now) (start .args .keys .now) (start .args .order .now) (start .args .words .now))) (nextOf (settingOf (mem (start .args .bytes .now) (start .args .keys .now) (start .args .order .now) (start .args .words .now))) (Call.Allocate (start .args .page .0) []) (viewOf (mem (start .args .bytes .now) (start .args .keys .now) (start .args .order .now) (start .args .words .now)))) (sym (at-allocate-refusal .allocate-refusal .ensures) ∙ at-if1 .if1 .left))
 
-same-length-5 : tie.Need-same-length-5
-same-length-5 c = search needs
-
-same-length-6 : tie.Need-same-length-6
-same-length-6 c = search needs
-
-same-length-7 : tie.Need-same-length-7
-same-length-7 c = search needs
-
-same-length-8 : tie.Need-same-length-8
-same-length-8 c = search needs
-
 returns-2 : tie.Need-returns-2
 returns-2 c =
     let at-list-page = c .before .before .before .before .before .before in
@@ -61,4 +34,4 @@ returns-2 c =
     done-does (mem (start .args .bytes .now) (start .args .keys .now) (start .args .order .now) (start .args .words .now)) (allocateChecks (settingOf (mem (start .args .bytes .now) (start .args .keys .now) (start .args .order .now) (start .args .words .now))) (viewOf (mem (start .args .bytes .now) (start .args .keys .now) (start .args .order .now) (start .args .words .now))) (start .args .page .0) 0) (settingOf (mem (start .args .bytes .now) (start .args .keys .now) (start .args .order .now) (start .args .words .now))) (nextOf (settingOf (mem (start .args .bytes .now) (start .args .keys .now) (start .args .order .now) (start .args .words .now))) (Call.Allocate (start .args .page .0) []) (viewOf (mem (start .args .bytes .now) (start .args .keys .now) (start .args .order .now) (start .args .words .now)))) (next (next (next (room-refusals (settingOf (mem (start .args .bytes .now) (start .args .keys .now) (start .args .order .now) (start .args .words .now))) (viewOf (mem (start .args .bytes .now) (start .args .keys .now) (start .args .order .now) (start .args .words .now))) (start .args .page .0) 0 0 0)))) (sym (at-allocate-refusal .allocate-refusal .ensures) ∙ at-if1 .if1 .left) (at-list-page .list-page .ensures)
 
 pub allocate-at-spec : {M : Type 1} → statement M
-allocate-at-spec = tie.close (tie.spec allocate-refusal-requires same-length same-length-2 same-length-3 same-length-4 returns list-page-requires same-length-5 same-length-6 same-length-7 same-length-8 returns-2)
+allocate-at-spec = tie.close (tie.spec (λ c κs. search needs) (λ c. search needs) (λ c. search needs) (λ c. search needs) (λ c. search needs) returns list-page-requires (λ c. search needs) (λ c. search needs) (λ c. search needs) (λ c. search needs) returns-2)

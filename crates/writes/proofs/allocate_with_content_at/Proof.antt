@@ -9,21 +9,6 @@ use Rattle.refusals.proofs.Passed.{next, room-refusals, refused-does, passed-fo
 use Rattle.writes.proofs.allocate_with_content_at.Statement.{statement}
 use Rattle.writes.proofs.allocate_with_content_at.Tie as tie
 
-allocate-refusal-requires : tie.Need-allocate-refusal-requires
-allocate-refusal-requires c κs = search needs
-
-same-length : tie.Need-same-length
-same-length c = search needs
-
-same-length-2 : tie.Need-same-length-2
-same-length-2 c = search needs
-
-same-length-3 : tie.Need-same-length-3
-same-length-3 c = search needs
-
-same-length-4 : tie.Need-same-length-4
-same-length-4 c = search needs
-
 returns : tie.Need-returns
 returns c =
     let at-if1 = c in
@@ -38,18 +23,6 @@ fill-requires c κs =
     let start = at-allocate-refusal .before .before .before .before .before .before .before .before .before .before in
     passed-formed (mem (start .args .bytes .now) (start .args .keys .now) (start .args .order .now) (start .args .words .now)) (allocateChecks (settingOf (mem (start .args .bytes .now) (start .args .keys .now) (start .args .order .now) (start .args .words .now))) (viewOf (mem (start .args .bytes .now) (start .args .keys .now) (start .args .order .now) (start .args .words .now))) (start .args .page .0) (length (start .args .contents .now))) (settingOf (mem (start .args .bytes .now) (start .args .keys .now) (start .args .order .now) (start .args .words .now))) (nextOf (settingOf (mem (start .args .bytes .now) (start .args .keys .now) (start .args .order .now) (start .args .words .now))) (Call.Allocate (start .args .page .0) (start .args .contents .now)) (viewOf (mem (start .args .bytes .now) (start .args .keys .now) (start .args .order .now) (start .args .words .now)))) (sym (at-allocate-refusal .allocate-refusal .ensures) ∙ at-if1 .if1 .left)
 
-same-length-5 : tie.Need-same-length-5
-same-length-5 c = search needs
-
-same-length-6 : tie.Need-same-length-6
-same-length-6 c = search needs
-
-same-length-7 : tie.Need-same-length-7
-same-length-7 c = search needs
-
-same-length-8 : tie.Need-same-length-8
-same-length-8 c = search needs
-
 returns-2 : tie.Need-returns-2
 returns-2 c =
     let at-fill = c .before .before .before .before .before .before .before .before in
@@ -59,4 +32,4 @@ returns-2 c =
     done-does (mem (start .args .bytes .now) (start .args .keys .now) (start .args .order .now) (start .args .words .now)) (allocateChecks (settingOf (mem (start .args .bytes .now) (start .args .keys .now) (start .args .order .now) (start .args .words .now))) (viewOf (mem (start .args .bytes .now) (start .args .keys .now) (start .args .order .now) (start .args .words .now))) (start .args .page .0) (length (start .args .contents .now))) (settingOf (mem (start .args .bytes .now) (start .args .keys .now) (start .args .order .now) (start .args .words .now))) (nextOf (settingOf (mem (start .args .bytes .now) (start .args .keys .now) (start .args .order .now) (start .args .words .now))) (Call.Allocate (start .args .page .0) (start .args .contents .now)) (viewOf (mem (start .args .bytes .now) (start .args .keys .now) (start .args .order .now) (start .args .words .now)))) (next (next (next (room-refusals (settingOf (mem (start .args .bytes .now) (start .args .keys .now) (start .args .order .now) (start .args .words .now))) (viewOf (mem (start .args .bytes .now) (start .args .keys .now) (start .args .order .now) (start .args .words .now))) (start .args .page .0) 0 (length (start .args .contents .now)) 0)))) (sym (at-allocate-refusal .allocate-refusal .ensures) ∙ at-if1 .if1 .left) (at-fill .fill .ensures)
 
 pub allocate-with-content-at-spec : {M : Type 1} → statement M
-allocate-with-content-at-spec = tie.close (tie.spec allocate-refusal-requires same-length same-length-2 same-length-3 same-length-4 returns fill-requires same-length-5 same-length-6 same-length-7 same-length-8 returns-2)
+allocate-with-content-at-spec = tie.close (tie.spec (λ c κs. search needs) (λ c. search needs) (λ c. search needs) (λ c. search needs) (λ c. search needs) returns fill-requires (λ c. search needs) (λ c. search needs) (λ c. search needs) (λ c. search needs) returns-2)

@@ -10,21 +10,6 @@ use Rattle.view.specs.Steps.{alignedCount}
 use Rattle.writes.proofs.write_bytes.Statement.{statement}
 use Rattle.writes.proofs.write_bytes.Tie as tie
 
-bytes-refusal-requires : tie.Need-bytes-refusal-requires
-bytes-refusal-requires c κs = search needs
-
-same-length : tie.Need-same-length
-same-length c = search needs
-
-same-length-2 : tie.Need-same-length-2
-same-length-2 c = search needs
-
-same-length-3 : tie.Need-same-length-3
-same-length-3 c = search needs
-
-same-length-4 : tie.Need-same-length-4
-same-length-4 c = search needs
-
 returns : tie.Need-returns
 returns c =
     let at-if1 = c in
@@ -39,18 +24,6 @@ write-range-requires c κs =
     let start = at-bytes-refusal .before .before .before .before .before .before .before .before .before .before in
     passed-formed (mem (start .args .bytes .now) (start .args .keys .now) (start .args .order .now) (start .args .words .now)) (byteWriteChecks (settingOf (mem (start .args .bytes .now) (start .args .keys .now) (start .args .order .now) (start .args .words .now))) (viewOf (mem (start .args .bytes .now) (start .args .keys .now) (start .args .order .now) (start .args .words .now))) (start .args .page .0) (start .args .start .0) (length (start .args .src .now))) (settingOf (mem (start .args .bytes .now) (start .args .keys .now) (start .args .order .now) (start .args .words .now))) (nextOf (settingOf (mem (start .args .bytes .now) (start .args .keys .now) (start .args .order .now) (start .args .words .now))) (Call.WriteBytes (start .args .page .0) (start .args .start .0) (start .args .src .now)) (viewOf (mem (start .args .bytes .now) (start .args .keys .now) (start .args .order .now) (start .args .words .now)))) (sym (at-bytes-refusal .bytes-refusal .ensures) ∙ at-if1 .if1 .left)
 
-same-length-5 : tie.Need-same-length-5
-same-length-5 c = search needs
-
-same-length-6 : tie.Need-same-length-6
-same-length-6 c = search needs
-
-same-length-7 : tie.Need-same-length-7
-same-length-7 c = search needs
-
-same-length-8 : tie.Need-same-length-8
-same-length-8 c = search needs
-
 returns-2 : tie.Need-returns-2
 returns-2 c =
     let at-write-range = c .before .before .before .before .before .before .before .before in
@@ -60,4 +33,4 @@ returns-2 c =
     done-does (mem (start .args .bytes .now) (start .args .keys .now) (start .args .order .now) (start .args .words .now)) (byteWriteChecks (settingOf (mem (start .args .bytes .now) (start .args .keys .now) (start .args .order .now) (start .args .words .now))) (viewOf (mem (start .args .bytes .now) (start .args .keys .now) (start .args .order .now) (start .args .words .now))) (start .args .page .0) (start .args .start .0) (length (start .args .src .now))) (settingOf (mem (start .args .bytes .now) (start .args .keys .now) (start .args .order .now) (start .args .words .now))) (nextOf (settingOf (mem (start .args .bytes .now) (start .args .keys .now) (start .args .order .now) (start .args .words .now))) (Call.WriteBytes (start .args .page .0) (start .args .start .0) (start .args .src .now)) (viewOf (mem (start .args .bytes .now) (start .args .keys .now) (start .args .order .now) (start .args .words .now)))) (next (next (room-refusals (settingOf (mem (start .args .bytes .now) (start .args .keys .now) (start .args .order .now) (start .args .words .now))) (viewOf (mem (start .args .bytes .now) (start .args .keys .now) (start .args .order .now) (start .args .words .now))) (start .args .page .0) (start .args .start .0) (length (start .args .src .now)) (alignedCount (start .args .start .0) (length (start .args .src .now)))))) (sym (at-bytes-refusal .bytes-refusal .ensures) ∙ at-if1 .if1 .left) (at-write-range .write-range .ensures)
 
 pub write-bytes-spec : {M : Type 1} → statement M
-write-bytes-spec = tie.close (tie.spec bytes-refusal-requires same-length same-length-2 same-length-3 same-length-4 returns write-range-requires same-length-5 same-length-6 same-length-7 same-length-8 returns-2)
+write-bytes-spec = tie.close (tie.spec (λ c κs. search needs) (λ c. search needs) (λ c. search needs) (λ c. search needs) (λ c. search needs) returns write-range-requires (λ c. search needs) (λ c. search needs) (λ c. search needs) (λ c. search needs) returns-2)

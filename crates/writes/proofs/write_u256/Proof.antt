@@ -10,21 +10,6 @@ use Rattle.writes.proofs.Chains.{word-shown}
 use Rattle.writes.proofs.write_u256.Statement.{statement}
 use Rattle.writes.proofs.write_u256.Tie as tie
 
-word-refusal-requires : tie.Need-word-refusal-requires
-word-refusal-requires c κs = search needs
-
-same-length : tie.Need-same-length
-same-length c = search needs
-
-same-length-2 : tie.Need-same-length-2
-same-length-2 c = search needs
-
-same-length-3 : tie.Need-same-length-3
-same-length-3 c = search needs
-
-same-length-4 : tie.Need-same-length-4
-same-length-4 c = search needs
-
 returns : tie.Need-returns
 returns c =
     let at-if1 = c in
@@ -32,27 +17,12 @@ returns c =
     let start = at-word-refusal .before .before .before .before .before .before .before .before .before in
     refused-does (mem (start .args .bytes .now) (start .args .keys .now) (start .args .order .now) (start .args .words .now)) (wordWriteChecks (settingOf (mem (start .args .bytes .now) (start .args .keys .now) (start .args .order .now) (start .args .words .now))) (viewOf (mem (start .args .bytes .now) (start .args .keys .now) (start .args .order .now) (start .args .words .now))) (start .args .page .0) (start .args .address .0)) (settingOf (mem (start .args .bytes .now) (start .args .keys .now) (start .args .order .now) (start .args .words .now))) (nextOf (settingOf (mem (start .args .bytes .now) (start .args .keys .now) (start .args .order .now) (start .args .words .now))) (Call.WriteWord (start .args .page .0) (start .args .address .0) (value (start .args .word .limbs))) (viewOf (mem (start .args .bytes .now) (start .args .keys .now) (start .args .order .now) (start .args .words .now)))) (at-word-refusal .word-refusal .result) (at-word-refusal .word-refusal .ensures) (at-if1 .if1 .taken)
 
-to-big-endian-requires : tie.Need-to-big-endian-requires
-to-big-endian-requires c κs = search needs
-
 write-word-requires : tie.Need-write-word-requires
 write-word-requires c κs =
     let at-if1 = c .before .before .before .before .before in
     let at-word-refusal = at-if1 .before in
     let start = at-word-refusal .before .before .before .before .before .before .before .before .before in
     passed-formed (mem (start .args .bytes .now) (start .args .keys .now) (start .args .order .now) (start .args .words .now)) (wordWriteChecks (settingOf (mem (start .args .bytes .now) (start .args .keys .now) (start .args .order .now) (start .args .words .now))) (viewOf (mem (start .args .bytes .now) (start .args .keys .now) (start .args .order .now) (start .args .words .now))) (start .args .page .0) (start .args .address .0)) (settingOf (mem (start .args .bytes .now) (start .args .keys .now) (start .args .order .now) (start .args .words .now))) (nextOf (settingOf (mem (start .args .bytes .now) (start .args .keys .now) (start .args .order .now) (start .args .words .now))) (Call.WriteWord (start .args .page .0) (start .args .address .0) (value (start .args .word .limbs))) (viewOf (mem (start .args .bytes .now) (start .args .keys .now) (start .args .order .now) (start .args .words .now)))) (sym (at-word-refusal .word-refusal .ensures) ∙ at-if1 .if1 .left)
-
-same-length-5 : tie.Need-same-length-5
-same-length-5 c = search needs
-
-same-length-6 : tie.Need-same-length-6
-same-length-6 c = search needs
-
-same-length-7 : tie.Need-same-length-7
-same-length-7 c = search needs
-
-same-length-8 : tie.Need-same-length-8
-same-length-8 c = search needs
 
 returns-2 : tie.Need-returns-2
 returns-2 c =
@@ -64,4 +34,4 @@ returns-2 c =
     done-does (mem (start .args .bytes .now) (start .args .keys .now) (start .args .order .now) (start .args .words .now)) (wordWriteChecks (settingOf (mem (start .args .bytes .now) (start .args .keys .now) (start .args .order .now) (start .args .words .now))) (viewOf (mem (start .args .bytes .now) (start .args .keys .now) (start .args .order .now) (start .args .words .now))) (start .args .page .0) (start .args .address .0)) (settingOf (mem (start .args .bytes .now) (start .args .keys .now) (start .args .order .now) (start .args .words .now))) (nextOf (settingOf (mem (start .args .bytes .now) (start .args .keys .now) (start .args .order .now) (start .args .words .now))) (Call.WriteWord (start .args .page .0) (start .args .address .0) (value (start .args .word .limbs))) (viewOf (mem (start .args .bytes .now) (start .args .keys .now) (start .args .order .now) (start .args .words .now)))) (next (room-refusals (settingOf (mem (start .args .bytes .now) (start .args .keys .now) (start .args .order .now) (start .args .words .now))) (viewOf (mem (start .args .bytes .now) (start .args .keys .now) (start .args .order .now) (start .args .words .now))) (start .args .page .0) (start .args .address .0) 32 1)) (sym (at-word-refusal .word-refusal .ensures) ∙ at-if1 .if1 .left) (word-shown (mem (start .args .bytes .now) (start .args .keys .now) (start .args .order .now) (start .args .words .now)) (start .args .page .0) (start .args .address .0) (value (start .args .word .limbs)) (at-to-big-endian .to-big-endian .result) (at-to-big-endian .to-big-endian .ensures .1) _ (at-write-word .write-word .ensures))
 
 pub write-u256-spec : {M : Type 1} → statement M
-write-u256-spec = tie.close (tie.spec word-refusal-requires same-length same-length-2 same-length-3 same-length-4 returns to-big-endian-requires write-word-requires same-length-5 same-length-6 same-length-7 same-length-8 returns-2)
+write-u256-spec = tie.close (tie.spec (λ c κs. search needs) (λ c. search needs) (λ c. search needs) (λ c. search needs) (λ c. search needs) returns (λ c κs. search needs) write-word-requires (λ c. search needs) (λ c. search needs) (λ c. search needs) (λ c. search needs) returns-2)

@@ -9,9 +9,6 @@ slice-aggregate-read-range-big-endian c = refl
 read-range-big-endian-requires : tie.Need-read-range-big-endian-requires
 read-range-big-endian-requires c κs = tt
 
-slice-aggregate-other-than-zero : tie.Need-slice-aggregate-other-than-zero
-slice-aggregate-other-than-zero c = search needs
-
 other-than-zero-requires : tie.Need-other-than-zero-requires
 other-than-zero-requires c κs = tt
 
@@ -36,7 +33,7 @@ blank-spec =
     (tie.spec
     slice-aggregate-read-range-big-endian
     read-range-big-endian-requires
-    slice-aggregate-other-than-zero
+    (λ c. search needs)
     other-than-zero-requires
     slice-aggregate-done
     done-requires

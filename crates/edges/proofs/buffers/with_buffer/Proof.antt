@@ -11,15 +11,6 @@ Inv-loop bytes keys order words buffer n before sum₀ i₀ sum i = i ≤ n
 abbrev μ-loop : tie.MeasureT-loop
 μ-loop bytes keys order words buffer n before sum₀ i₀ sum i = n - i
 
-loop-holds : tie.Need-loop-holds Inv-loop μ-loop
-loop-holds c = search needs
-
-peek-requires : tie.Need-peek-requires Inv-loop μ-loop
-peek-requires c κs = search needs
-
-with-number-requires : tie.Need-with-number-requires Inv-loop μ-loop
-with-number-requires c κs = search needs
-
 add-i : tie.Need-add-i Inv-loop μ-loop
 add-i c = omega arith
 
@@ -29,19 +20,16 @@ loop-less c = omega arith
 loop-again : tie.Need-loop-again Inv-loop μ-loop
 loop-again c = omega arith
 
-returns : tie.Need-returns Inv-loop μ-loop
-returns c = search needs
-
 pub with-buffer-spec : {M : Type 1} → statement M
 with-buffer-spec =
     tie.close
     (tie.spec
     Inv-loop
     μ-loop
-    loop-holds
-    peek-requires
-    with-number-requires
+    (λ c. search needs)
+    (λ c κs. search needs)
+    (λ c κs. search needs)
     add-i
     loop-less
     loop-again
-    returns)
+    (λ c. search needs))

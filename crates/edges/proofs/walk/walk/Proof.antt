@@ -13,20 +13,11 @@ Inv-loop bytes₀ keys₀ order₀ words₀ input n state₀ i₀ bytes keys ord
 abbrev μ-loop : tie.MeasureT-loop
 μ-loop bytes₀ keys₀ order₀ words₀ input n state₀ i₀ bytes keys order words state i = n - i
 
-new-state-requires : tie.Need-new-state-requires Inv-loop μ-loop
-new-state-requires c κs = search needs
-
 loop-holds : tie.Need-loop-holds Inv-loop μ-loop
 loop-holds c = (search needs, refl, refl, refl, refl)
 
-byte-at-requires : tie.Need-byte-at-requires Inv-loop μ-loop
-byte-at-requires c κs = search needs
-
 add-i : tie.Need-add-i Inv-loop μ-loop
 add-i c = omega arith
-
-take-requires : tie.Need-take-requires Inv-loop μ-loop
-take-requires c κs = search needs
 
 loop-less : tie.Need-loop-less Inv-loop μ-loop
 loop-less c = omega arith
@@ -46,24 +37,21 @@ same-length-3 c = omega arith
 same-length-4 : tie.Need-same-length-4 Inv-loop μ-loop
 same-length-4 c = omega arith
 
-returns : tie.Need-returns Inv-loop μ-loop
-returns c = search needs
-
 pub walk-spec : {M : Type 1} → statement M
 walk-spec =
     tie.close
     (tie.spec
     Inv-loop
     μ-loop
-    new-state-requires
+    (λ c κs. search needs)
     loop-holds
-    byte-at-requires
+    (λ c κs. search needs)
     add-i
-    take-requires
+    (λ c κs. search needs)
     loop-less
     loop-again
     same-length
     same-length-2
     same-length-3
     same-length-4
-    returns)
+    (λ c. search needs))

@@ -13,12 +13,6 @@ use Rattle.formed.proofs.Pages.{less-one}
 use Rattle.formed.proofs.entry.entry_ok.Statement.{statement}
 use Rattle.formed.proofs.entry.entry_ok.Tie as tie
 
-mul-x : tie.Need-mul-x
-mul-x c = search needs
-
-shared-slice-read-x : tie.Need-shared-slice-read-x
-shared-slice-read-x c = search needs
-
 returns : tie.Need-returns
 unfolding entryRight
 returns c =
@@ -26,15 +20,6 @@ returns c =
     let at-if1 = at-if2 .before in
     let start = at-if1 .before .before .before .before in
     rw (lt-ltb (start .args .e) 4 (at-if1 .if1 .taken), at-if2 .if2 .taken) (sym (ne-eqb 0 (getD (start .args .words .now) (start .args .e) 0 + 1) (λ z. omega arith)))
-
-sub-result : tie.Need-sub-result
-sub-result c = search needs
-
-mul-result : tie.Need-mul-result
-mul-result c = search needs
-
-shared-slice-read-result : tie.Need-shared-slice-read-result
-shared-slice-read-result c = search needs
 
 returns-2 : tie.Need-returns-2
 unfolding entryRight
@@ -61,18 +46,6 @@ returns-4 c =
     let start = at-if1 .before .before .before .before in
     rw (le-ltb (start .args .e) 4 (at-if1 .if1 .left), ne-eqb (getD (start .args .entries .now) (start .args .e) 0) 0 (at-if3 .if3 .left), lt-leb (getD (start .args .entries .now) (start .args .e) 0) 4294967296 (at-if4 .if4 .taken))
 
-shared-slice-read-page-ok : tie.Need-shared-slice-read-page-ok
-shared-slice-read-page-ok c = search needs
-
-sub-t16 : tie.Need-sub-t16
-sub-t16 c = search needs
-
-cast-t17 : tie.Need-cast-t17
-cast-t17 c = search needs
-
-page-ok-requires : tie.Need-page-ok-requires
-page-ok-requires c κs = search needs
-
 returns-5 : tie.Need-returns-5
 unfolding entryRight
 returns-5 c =
@@ -88,17 +61,17 @@ pub entry-ok-spec : {M : Type 1} → statement M
 entry-ok-spec =
     tie.close
     (tie.spec
-    mul-x
-    shared-slice-read-x
+    (λ c. search needs)
+    (λ c. search needs)
     returns
-    sub-result
-    mul-result
-    shared-slice-read-result
+    (λ c. search needs)
+    (λ c. search needs)
+    (λ c. search needs)
     returns-2
     returns-3
     returns-4
-    shared-slice-read-page-ok
-    sub-t16
-    cast-t17
-    page-ok-requires
+    (λ c. search needs)
+    (λ c. search needs)
+    (λ c. search needs)
+    (λ c κs. search needs)
     returns-5)

@@ -32,15 +32,6 @@ other BootloaderAuxHeap k = refl
 other (Dynamic kind group) k = absurd (none-of k)
 other Undecodable k = refl
 
-decode-page-requires : tie.Need-decode-page-requires
-decode-page-requires c κs = search needs
-
-enum-known-group : tie.Need-enum-known-group
-enum-known-group c = search needs
-
-cast-result : tie.Need-cast-result
-cast-result c = search needs
-
 returns : tie.Need-returns
 returns c =
     let at-group = c .before in
@@ -59,4 +50,4 @@ returns-2 c =
 
 pub page-ok-spec : {M : Type 1} → statement M
 page-ok-spec =
-    tie.close (tie.spec decode-page-requires enum-known-group cast-result returns returns-2)
+    tie.close (tie.spec (λ c κs. search needs) (λ c. search needs) (λ c. search needs) returns returns-2)

@@ -17,9 +17,6 @@ Inv-loop entries words layout e₀ e = (e ≤ length entries) × (all (entryRigh
 abbrev μ-loop : tie.MeasureT-loop
 μ-loop entries words layout e₀ e = length entries - e
 
-layout-of-requires : tie.Need-layout-of-requires Inv-loop μ-loop
-layout-of-requires c κs = search needs
-
 loop-holds : tie.Need-loop-holds Inv-loop μ-loop
 loop-holds c = (search needs, all-none _)
 
@@ -38,12 +35,6 @@ returns c =
     let at-loop = at-loop-test .before in
     let start = at-loop .before .before .before .before in
     sym (all-fails (entryRight (start .args .words .now) (start .args .entries .now)) (length (start .args .entries .now)) (at-loop .loop .e) (at-loop-test .loop-test .taken) (sym (at-entry-ok .entry-ok .ensures) ∙ not-true _ (at-if1 .if1 .taken)))
-
-add-e : tie.Need-add-e Inv-loop μ-loop
-add-e c = search needs
-
-loop-less : tie.Need-loop-less Inv-loop μ-loop
-loop-less c = search needs
 
 loop-again : tie.Need-loop-again Inv-loop μ-loop
 loop-again c =
@@ -65,11 +56,11 @@ pages-ok-spec =
     (tie.spec
     Inv-loop
     μ-loop
-    layout-of-requires
+    (λ c κs. search needs)
     loop-holds
     entry-ok-requires
     returns
-    add-e
-    loop-less
+    (λ c. search needs)
+    (λ c. search needs)
     loop-again
     returns-2)

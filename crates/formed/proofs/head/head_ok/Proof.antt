@@ -8,9 +8,6 @@ use Rattle.formed.proofs.Bools.{and-stop, and-pass}
 use Rattle.formed.proofs.head.head_ok.Statement.{statement}
 use Rattle.formed.proofs.head.head_ok.Tie as tie
 
-narrow-ok-requires : tie.Need-narrow-ok-requires
-narrow-ok-requires c κs = search needs
-
 returns : tie.Need-returns
 unfolding headRight
 returns c =
@@ -26,9 +23,6 @@ layout-of-requires c κs =
     let start = at-narrow-ok .before .before in
     (start .pre, sym (at-narrow-ok .narrow-ok .ensures) ∙ not-false _ (at-if1 .if1 .left))
 
-bad-layout-requires : tie.Need-bad-layout-requires
-bad-layout-requires c κs = search needs
-
 returns-2 : tie.Need-returns-2
 unfolding headRight
 returns-2 c =
@@ -42,4 +36,4 @@ returns-2 c =
 pub head-ok-spec : {M : Type 1} → statement M
 head-ok-spec =
     tie.close
-    (tie.spec narrow-ok-requires returns layout-of-requires bad-layout-requires returns-2)
+    (tie.spec (λ c κs. search needs) returns layout-of-requires (λ c κs. search needs) returns-2)

@@ -6,17 +6,11 @@ use Rattle.formed.proofs.Bools.{refute}
 use Rattle.formed.proofs.head.narrow_ok.Statement.{statement}
 use Rattle.formed.proofs.head.narrow_ok.Tie as tie
 
-shared-slice-read-if1 : tie.Need-shared-slice-read-if1
-shared-slice-read-if1 c = search needs
-
 returns : tie.Need-returns
 returns c =
     let at-if1 = c in
     let start = at-if1 .before .before in
     refute _ (λ n. omega (arith, width-head (start .args .words .now) n 0 (omega arith), at-if1 .if1 .taken))
-
-shared-slice-read-if2 : tie.Need-shared-slice-read-if2
-shared-slice-read-if2 c = search needs
 
 returns-2 : tie.Need-returns-2
 returns-2 c =
@@ -24,17 +18,11 @@ returns-2 c =
     let start = at-if2 .before .before .before .before in
     refute _ (λ n. omega (arith, width-head (start .args .words .now) n 1 (omega arith), at-if2 .if2 .taken))
 
-shared-slice-read-if3 : tie.Need-shared-slice-read-if3
-shared-slice-read-if3 c = search needs
-
 returns-3 : tie.Need-returns-3
 returns-3 c =
     let at-if3 = c in
     let start = at-if3 .before .before .before .before .before .before in
     refute _ (λ n. omega (arith, width-head (start .args .words .now) n 2 (omega arith), at-if3 .if3 .taken))
-
-shared-slice-read-if4 : tie.Need-shared-slice-read-if4
-shared-slice-read-if4 c = search needs
 
 returns-4 : tie.Need-returns-4
 returns-4 c =
@@ -42,26 +30,17 @@ returns-4 c =
     let start = at-if4 .before .before .before .before .before .before .before .before in
     refute _ (λ n. omega (arith, width-head (start .args .words .now) n 3 (omega arith), at-if4 .if4 .taken))
 
-shared-slice-read-if5 : tie.Need-shared-slice-read-if5
-shared-slice-read-if5 c = search needs
-
 returns-5 : tie.Need-returns-5
 returns-5 c =
     let at-if5 = c in
     let start = at-if5 .before .before .before .before .before .before .before .before .before .before in
     refute _ (λ n. omega (arith, width-head (start .args .words .now) n 4 (omega arith), at-if5 .if5 .taken))
 
-shared-slice-read-if6 : tie.Need-shared-slice-read-if6
-shared-slice-read-if6 c = search needs
-
 returns-6 : tie.Need-returns-6
 returns-6 c =
     let at-if6 = c in
     let start = at-if6 .before .before .before .before .before .before .before .before .before .before .before .before in
     refute _ (λ n. omega (arith, width-head (start .args .words .now) n 5 (omega arith), at-if6 .if6 .taken))
-
-shared-slice-read-if7 : tie.Need-shared-slice-read-if7
-shared-slice-read-if7 c = search needs
 
 returns-7 : tie.Need-returns-7
 returns-7 c =
@@ -85,18 +64,18 @@ pub narrow-ok-spec : {M : Type 1} → statement M
 narrow-ok-spec =
     tie.close
     (tie.spec
-    shared-slice-read-if1
+    (λ c. search needs)
     returns
-    shared-slice-read-if2
+    (λ c. search needs)
     returns-2
-    shared-slice-read-if3
+    (λ c. search needs)
     returns-3
-    shared-slice-read-if4
+    (λ c. search needs)
     returns-4
-    shared-slice-read-if5
+    (λ c. search needs)
     returns-5
-    shared-slice-read-if6
+    (λ c. search needs)
     returns-6
-    shared-slice-read-if7
+    (λ c. search needs)
     returns-7
     returns-8)

@@ -13,15 +13,6 @@ returns c =
     let start = at-if1 .before in
     refute _ (λ s. omega (arith, lengths-are (mem (start .args .bytes .now) (start .args .keys .now) (start .args .order .now) (start .args .words .now)) s .in-words, at-if1 .if1 .taken))
 
-shared-slice-read-c : tie.Need-shared-slice-read-c
-shared-slice-read-c c = search needs
-
-shared-slice-read-p : tie.Need-shared-slice-read-p
-shared-slice-read-p c = search needs
-
-shared-slice-read-j : tie.Need-shared-slice-read-j
-shared-slice-read-j c = search needs
-
 returns-2 : tie.Need-returns-2
 returns-2 c =
     let at-if2 = c in
@@ -52,26 +43,11 @@ returns-6 c =
     let start = at-if6 .before .before .before .before .before .before .before .before .before in
     refute _ (λ s. omega (arith, lengths-are (mem (start .args .bytes .now) (start .args .keys .now) (start .args .order .now) (start .args .words .now)) s .room-hi, at-if6 .if6 .taken))
 
-mul-if7 : tie.Need-mul-if7
-mul-if7 c = search needs
-
-mul-if7-2 : tie.Need-mul-if7-2
-mul-if7-2 c = search needs
-
-add-if7 : tie.Need-add-if7
-add-if7 c = search needs
-
 returns-7 : tie.Need-returns-7
 returns-7 c =
     let at-if7 = c in
     let start = at-if7 .before .before .before .before .before .before .before .before .before .before in
     refute _ (λ s. at-if7 .if7 .taken (lengths-are (mem (start .args .bytes .now) (start .args .keys .now) (start .args .order .now) (start .args .words .now)) s .in-bytes))
-
-add-if8 : tie.Need-add-if8
-add-if8 c = search needs
-
-add-if8-2 : tie.Need-add-if8-2
-add-if8-2 c = search needs
 
 returns-8 : tie.Need-returns-8
 returns-8 c =
@@ -79,26 +55,11 @@ returns-8 c =
     let start = at-if8 .before .before .before .before .before .before .before .before .before .before .before in
     refute _ (λ s. at-if8 .if8 .taken (lengths-are (mem (start .args .bytes .now) (start .args .keys .now) (start .args .order .now) (start .args .words .now)) s .in-keys))
 
-mul-if9 : tie.Need-mul-if9
-mul-if9 c = search needs
-
-add-if9 : tie.Need-add-if9
-add-if9 c = search needs
-
-add-if9-2 : tie.Need-add-if9-2
-add-if9-2 c = search needs
-
 returns-9 : tie.Need-returns-9
 returns-9 c =
     let at-if9 = c in
     let start = at-if9 .before .before .before .before .before .before .before .before .before .before .before .before in
     refute _ (λ s. at-if9 .if9 .taken (lengths-are (mem (start .args .bytes .now) (start .args .keys .now) (start .args .order .now) (start .args .words .now)) s .in-order))
-
-mul-if10 : tie.Need-mul-if10
-mul-if10 c = search needs
-
-add-if10 : tie.Need-add-if10
-add-if10 c = search needs
 
 returns-10 : tie.Need-returns-10
 returns-10 c =
@@ -125,26 +86,26 @@ sized-ok-spec =
     tie.close
     (tie.spec
     returns
-    shared-slice-read-c
-    shared-slice-read-p
-    shared-slice-read-j
+    (λ c. search needs)
+    (λ c. search needs)
+    (λ c. search needs)
     returns-2
     returns-3
     returns-4
     returns-5
     returns-6
-    mul-if7
-    mul-if7-2
-    add-if7
+    (λ c. search needs)
+    (λ c. search needs)
+    (λ c. search needs)
     returns-7
-    add-if8
-    add-if8-2
+    (λ c. search needs)
+    (λ c. search needs)
     returns-8
-    mul-if9
-    add-if9
-    add-if9-2
+    (λ c. search needs)
+    (λ c. search needs)
+    (λ c. search needs)
     returns-9
-    mul-if10
-    add-if10
+    (λ c. search needs)
+    (λ c. search needs)
     returns-10
     returns-11)

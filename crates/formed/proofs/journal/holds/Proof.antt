@@ -12,14 +12,5 @@ returns c =
     let start = at-if1 .before in
     rw (List·getD-eq-default (start .args .holders .now) 0 (at-if1 .if1 .taken)) (sym (ne-eqb 0 (start .args .k) (λ e. omega arith)))
 
-mul-result : tie.Need-mul-result
-mul-result c = search needs
-
-shared-slice-read-result : tie.Need-shared-slice-read-result
-shared-slice-read-result c = search needs
-
-returns-2 : tie.Need-returns-2
-returns-2 c = search needs
-
 pub holds-spec : {M : Type 1} → statement M
-holds-spec = tie.close (tie.spec returns mul-result shared-slice-read-result returns-2)
+holds-spec = tie.close (tie.spec returns (λ c. search needs) (λ c. search needs) (λ c. search needs))

@@ -17,27 +17,6 @@ returns c =
     let start = at-if1 .before .before .before in
     and-stop (leb (start .args .n) (start .args .room)) _ (lt-leb (start .args .n) (start .args .room) (at-if1 .if1 .taken))
 
-mul-end : tie.Need-mul-end
-mul-end c = search needs
-
-add-end : tie.Need-add-end
-add-end c = search needs
-
-mul-notes-ok : tie.Need-mul-notes-ok
-mul-notes-ok c = search needs
-
-sub-notes-ok : tie.Need-sub-notes-ok
-sub-notes-ok c = search needs
-
-part-notes-ok-start : tie.Need-part-notes-ok-start
-part-notes-ok-start c = search needs
-
-part-notes-ok-end : tie.Need-part-notes-ok-end
-part-notes-ok-end c = search needs
-
-notes-ok-requires : tie.Need-notes-ok-requires
-notes-ok-requires c κs = search needs
-
 returns-2 : tie.Need-returns-2
 returns-2 c =
     let at-notes-ok = c in
@@ -51,11 +30,11 @@ journal-ok-spec =
     tie.close
     (tie.spec
     returns
-    mul-end
-    add-end
-    mul-notes-ok
-    sub-notes-ok
-    part-notes-ok-start
-    part-notes-ok-end
-    notes-ok-requires
+    (λ c. search needs)
+    (λ c. search needs)
+    (λ c. search needs)
+    (λ c. search needs)
+    (λ c. search needs)
+    (λ c. search needs)
+    (λ c κs. search needs)
     returns-2)

@@ -7,33 +7,12 @@ use Rattle.formed.proofs.Journals.{journal-heap, journal-aux, journals-
 use Rattle.formed.proofs.journal.journals_ok.Statement.{statement}
 use Rattle.formed.proofs.journal.journals_ok.Tie as tie
 
-shared-slice-read-room : tie.Need-shared-slice-read-room
-shared-slice-read-room c = search needs
-
-shared-slice-read-journal-ok : tie.Need-shared-slice-read-journal-ok
-shared-slice-read-journal-ok c = search needs
-
-journal-ok-requires : tie.Need-journal-ok-requires
-journal-ok-requires c κs = search needs
-
 returns : tie.Need-returns
 returns c =
     let at-if1 = c in
     let at-journal-ok = at-if1 .before in
     let start = at-journal-ok .before .before .before .before .before in
     and-stop (journalOf (start .args .holders .now) (start .args .words .now) 0) _ (sym (journal-heap (start .args .holders .now) (start .args .words .now)) ∙ sym (at-journal-ok .journal-ok .ensures) ∙ not-true _ (at-if1 .if1 .taken)) ∙ journals-two (start .args .holders .now) (start .args .words .now)
-
-mul-journal-ok : tie.Need-mul-journal-ok
-mul-journal-ok c = search needs
-
-add-journal-ok : tie.Need-add-journal-ok
-add-journal-ok c = search needs
-
-shared-slice-read-journal-ok-2 : tie.Need-shared-slice-read-journal-ok-2
-shared-slice-read-journal-ok-2 c = search needs
-
-journal-ok-requires-2 : tie.Need-journal-ok-requires-2
-journal-ok-requires-2 c κs = search needs
 
 returns-2 : tie.Need-returns-2
 returns-2 c =
@@ -47,12 +26,12 @@ pub journals-ok-spec : {M : Type 1} → statement M
 journals-ok-spec =
     tie.close
     (tie.spec
-    shared-slice-read-room
-    shared-slice-read-journal-ok
-    journal-ok-requires
+    (λ c. search needs)
+    (λ c. search needs)
+    (λ c κs. search needs)
     returns
-    mul-journal-ok
-    add-journal-ok
-    shared-slice-read-journal-ok-2
-    journal-ok-requires-2
+    (λ c. search needs)
+    (λ c. search needs)
+    (λ c. search needs)
+    (λ c κs. search needs)
     returns-2)

@@ -12,12 +12,6 @@ returns c =
     let start = at-if1 .before .before in
     and-stop (leb (start .args .a) 4294967295) _ (lt-leb (start .args .a) 4294967295 (at-if1 .if1 .taken))
 
-add-holds : tie.Need-add-holds
-add-holds c = search needs
-
-holds-requires : tie.Need-holds-requires
-holds-requires c κs = search needs
-
 returns-2 : tie.Need-returns-2
 returns-2 c =
     let at-if2 = c in
@@ -25,15 +19,6 @@ returns-2 c =
     let at-if1 = at-holds .before in
     let start = at-if1 .before .before in
     and-stop _ _ (sym (at-holds .holds .ensures) ∙ not-true _ (at-if2 .if2 .taken)) ∙ and-pass (leb (start .args .a) 4294967295) _ (le-leb (start .args .a) 4294967295 (at-if1 .if1 .left))
-
-add-holds-2 : tie.Need-add-holds-2
-add-holds-2 c = search needs
-
-add-holds-3 : tie.Need-add-holds-3
-add-holds-3 c = search needs
-
-holds-requires-2 : tie.Need-holds-requires-2
-holds-requires-2 c κs = search needs
 
 returns-3 : tie.Need-returns-3
 returns-3 c =
@@ -49,10 +34,10 @@ note-ok-spec =
     tie.close
     (tie.spec
     returns
-    add-holds
-    holds-requires
+    (λ c. search needs)
+    (λ c κs. search needs)
     returns-2
-    add-holds-2
-    add-holds-3
-    holds-requires-2
+    (λ c. search needs)
+    (λ c. search needs)
+    (λ c κs. search needs)
     returns-3)

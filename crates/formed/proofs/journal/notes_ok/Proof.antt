@@ -19,42 +19,6 @@ abbrev μ-loop : tie.MeasureT-loop
 loop-holds : tie.Need-loop-holds Inv-loop μ-loop
 loop-holds c = (search needs, all-none _)
 
-mul-note-ok : tie.Need-mul-note-ok Inv-loop μ-loop
-mul-note-ok c = search needs
-
-mul-note-ok-2 : tie.Need-mul-note-ok-2 Inv-loop μ-loop
-mul-note-ok-2 c = search needs
-
-shared-slice-read-note-ok : tie.Need-shared-slice-read-note-ok Inv-loop μ-loop
-shared-slice-read-note-ok c = search needs
-
-mul-note-ok-3 : tie.Need-mul-note-ok-3 Inv-loop μ-loop
-mul-note-ok-3 c = search needs
-
-add-note-ok : tie.Need-add-note-ok Inv-loop μ-loop
-add-note-ok c = search needs
-
-mul-note-ok-4 : tie.Need-mul-note-ok-4 Inv-loop μ-loop
-mul-note-ok-4 c = search needs
-
-shared-slice-read-note-ok-2 : tie.Need-shared-slice-read-note-ok-2 Inv-loop μ-loop
-shared-slice-read-note-ok-2 c = search needs
-
-mul-note-ok-5 : tie.Need-mul-note-ok-5 Inv-loop μ-loop
-mul-note-ok-5 c = search needs
-
-add-note-ok-2 : tie.Need-add-note-ok-2 Inv-loop μ-loop
-add-note-ok-2 c = search needs
-
-mul-note-ok-6 : tie.Need-mul-note-ok-6 Inv-loop μ-loop
-mul-note-ok-6 c = search needs
-
-shared-slice-read-note-ok-3 : tie.Need-shared-slice-read-note-ok-3 Inv-loop μ-loop
-shared-slice-read-note-ok-3 c = search needs
-
-note-ok-requires : tie.Need-note-ok-requires Inv-loop μ-loop
-note-ok-requires c κs = search needs
-
 returns : tie.Need-returns Inv-loop μ-loop
 returns c =
     let at-if1 = c in
@@ -63,12 +27,6 @@ returns c =
     let at-loop = at-loop-test .before in
     let start = at-loop .before .before .before in
     sym (all-fails (noted (start .args .holders .now) (start .args .notes .now) (start .args .k)) (start .args .n) (at-loop .loop .i) (at-loop-test .loop-test .taken) (sym (at-note-ok .note-ok .ensures) ∙ not-true _ (at-if1 .if1 .taken)))
-
-add-i : tie.Need-add-i Inv-loop μ-loop
-add-i c = search needs
-
-loop-less : tie.Need-loop-less Inv-loop μ-loop
-loop-less c = search needs
 
 loop-again : tie.Need-loop-again Inv-loop μ-loop
 loop-again c =
@@ -91,20 +49,20 @@ notes-ok-spec =
     Inv-loop
     μ-loop
     loop-holds
-    mul-note-ok
-    mul-note-ok-2
-    shared-slice-read-note-ok
-    mul-note-ok-3
-    add-note-ok
-    mul-note-ok-4
-    shared-slice-read-note-ok-2
-    mul-note-ok-5
-    add-note-ok-2
-    mul-note-ok-6
-    shared-slice-read-note-ok-3
-    note-ok-requires
+    (λ c. search needs)
+    (λ c. search needs)
+    (λ c. search needs)
+    (λ c. search needs)
+    (λ c. search needs)
+    (λ c. search needs)
+    (λ c. search needs)
+    (λ c. search needs)
+    (λ c. search needs)
+    (λ c. search needs)
+    (λ c. search needs)
+    (λ c κs. search needs)
     returns
-    add-i
-    loop-less
+    (λ c. search needs)
+    (λ c. search needs)
     loop-again
     returns-2)

@@ -10,20 +10,11 @@ use Rattle.formed.proofs.Slots.{held-means, held-test, held-last}
 use Rattle.formed.proofs.slot.held_ok.Statement.{statement}
 use Rattle.formed.proofs.slot.held_ok.Tie as tie
 
-sub-e : tie.Need-sub-e
-sub-e c = search needs
-
 returns : tie.Need-returns
 returns c =
     let at-if1 = c in
     let start = at-if1 .before .before .before in
     refute _ (λ h. let z = List·getD-eq-default (start .args .entries .now) 0 (at-if1 .if1 .taken) in let p = held-means (start .args .entries .now) (start .args .k) (start .args .chunk .now) h .0 in omega arith)
-
-mul-if2 : tie.Need-mul-if2
-mul-if2 c = search needs
-
-shared-slice-read-if2 : tie.Need-shared-slice-read-if2
-shared-slice-read-if2 c = search needs
 
 returns-2 : tie.Need-returns-2
 returns-2 c =
@@ -31,26 +22,11 @@ returns-2 c =
     let start = at-if2 .before .before .before .before .before in
     refute _ (λ h. let z = at-if2 .if2 .taken in let p = held-means (start .args .entries .now) (start .args .k) (start .args .chunk .now) h .0 in omega arith)
 
-sub-c : tie.Need-sub-c
-sub-c c = search needs
-
 returns-3 : tie.Need-returns-3
 returns-3 c =
     let at-if3 = c in
     let start = at-if3 .before .before .before .before .before .before in
     refute _ (λ h. let z = at-if3 .if3 .taken in let p = held-means (start .args .entries .now) (start .args .k) (start .args .chunk .now) h .1 in omega arith)
-
-sub-all-zero : tie.Need-sub-all-zero
-sub-all-zero c = search needs
-
-part-all-zero-start : tie.Need-part-all-zero-start
-part-all-zero-start c = search needs
-
-part-all-zero-end : tie.Need-part-all-zero-end
-part-all-zero-end c = search needs
-
-all-zero-requires : tie.Need-all-zero-requires
-all-zero-requires c κs = search needs
 
 returns-4 : tie.Need-returns-4
 returns-4 c =
@@ -72,16 +48,16 @@ pub held-ok-spec : {M : Type 1} → statement M
 held-ok-spec =
     tie.close
     (tie.spec
-    sub-e
+    (λ c. search needs)
     returns
-    mul-if2
-    shared-slice-read-if2
+    (λ c. search needs)
+    (λ c. search needs)
     returns-2
-    sub-c
+    (λ c. search needs)
     returns-3
-    sub-all-zero
-    part-all-zero-start
-    part-all-zero-end
-    all-zero-requires
+    (λ c. search needs)
+    (λ c. search needs)
+    (λ c. search needs)
+    (λ c κs. search needs)
     returns-4
     returns-5)

@@ -4,18 +4,12 @@ use Rattle.formed.proofs.Slots.{slot-pooled, slot-held}
 use Rattle.formed.proofs.slot.slot_ok.Statement.{statement}
 use Rattle.formed.proofs.slot.slot_ok.Tie as tie
 
-all-zero-requires : tie.Need-all-zero-requires
-all-zero-requires c κs = search needs
-
 returns : tie.Need-returns
 returns c =
     let at-all-zero = c in
     let at-if1 = at-all-zero .before in
     let start = at-if1 .before .before .before in
     at-all-zero .all-zero .ensures ∙ slot-pooled (start .args .entries .now) (start .args .k) (start .args .chunk .now) (at-if1 .if1 .taken)
-
-held-ok-requires : tie.Need-held-ok-requires
-held-ok-requires c κs = search needs
 
 returns-2 : tie.Need-returns-2
 returns-2 c =
@@ -25,4 +19,4 @@ returns-2 c =
     at-held-ok .held-ok .ensures ∙ slot-held (start .args .entries .now) (start .args .k) (start .args .chunk .now) (at-if1 .if1 .left)
 
 pub slot-ok-spec : {M : Type 1} → statement M
-slot-ok-spec = tie.close (tie.spec all-zero-requires returns held-ok-requires returns-2)
+slot-ok-spec = tie.close (tie.spec (λ c κs. search needs) returns (λ c κs. search needs) returns-2)

@@ -21,30 +21,6 @@ abbrev μ-loop : tie.MeasureT-loop
 loop-holds : tie.Need-loop-holds Inv-loop μ-loop
 loop-holds c = (search needs, all-none _)
 
-mul-at : tie.Need-mul-at Inv-loop μ-loop
-mul-at c = search needs
-
-add-end : tie.Need-add-end Inv-loop μ-loop
-add-end c = search needs
-
-mul-slot-ok : tie.Need-mul-slot-ok Inv-loop μ-loop
-mul-slot-ok c = search needs
-
-shared-slice-read-slot-ok : tie.Need-shared-slice-read-slot-ok Inv-loop μ-loop
-shared-slice-read-slot-ok c = search needs
-
-sub-slot-ok : tie.Need-sub-slot-ok Inv-loop μ-loop
-sub-slot-ok c = search needs
-
-part-slot-ok-start : tie.Need-part-slot-ok-start Inv-loop μ-loop
-part-slot-ok-start c = search needs
-
-part-slot-ok-end : tie.Need-part-slot-ok-end Inv-loop μ-loop
-part-slot-ok-end c = search needs
-
-slot-ok-requires : tie.Need-slot-ok-requires Inv-loop μ-loop
-slot-ok-requires c κs = search needs
-
 returns : tie.Need-returns Inv-loop μ-loop
 returns c =
     let at-if1 = c in
@@ -53,12 +29,6 @@ returns c =
     let at-loop = at-loop-test .before in
     let start = at-loop .before .before .before .before in
     sym (all-fails (slotAt (start .args .entries .now) (start .args .holders .now) (start .args .bytes .now)) (length (start .args .holders .now)) (at-loop .loop .s) (at-loop-test .loop-test .taken) (ap (slotRight (start .args .entries .now) (getD (start .args .holders .now) (at-loop .loop .s) 0)) (sym (mid-part (start .args .bytes .now) (256 * at-loop .loop .s) 256)) ∙ sym (at-slot-ok .slot-ok .ensures) ∙ not-true _ (at-if1 .if1 .taken)))
-
-add-s : tie.Need-add-s Inv-loop μ-loop
-add-s c = search needs
-
-loop-less : tie.Need-loop-less Inv-loop μ-loop
-loop-less c = search needs
 
 loop-again : tie.Need-loop-again Inv-loop μ-loop
 loop-again c =
@@ -81,16 +51,16 @@ slots-ok-spec =
     Inv-loop
     μ-loop
     loop-holds
-    mul-at
-    add-end
-    mul-slot-ok
-    shared-slice-read-slot-ok
-    sub-slot-ok
-    part-slot-ok-start
-    part-slot-ok-end
-    slot-ok-requires
+    (λ c. search needs)
+    (λ c. search needs)
+    (λ c. search needs)
+    (λ c. search needs)
+    (λ c. search needs)
+    (λ c. search needs)
+    (λ c. search needs)
+    (λ c κs. search needs)
     returns
-    add-s
-    loop-less
+    (λ c. search needs)
+    (λ c. search needs)
     loop-again
     returns-2)

@@ -52,18 +52,6 @@ free-page-requires c κs =
     let start = at-is-from .before .before .before .before .before .before .before .before in
     asked-by (mem (start .args .bytes .now) (start .args .keys .now) (start .args .order .now) (start .args .words .now)) (start .args .e) (start .pre) (start .args .len) (at-told (mem (start .args .bytes .now) (start .args .keys .now) (start .args .order .now) (start .args .words .now)) (start .args .e) (start .pre) (start .args .len) _ (at-is-from .is-from .ensures) (at-if1 .if1 .taken))
 
-same-length : tie.Need-same-length
-same-length c = search needs
-
-same-length-2 : tie.Need-same-length-2
-same-length-2 c = search needs
-
-same-length-3 : tie.Need-same-length-3
-same-length-3 c = search needs
-
-same-length-4 : tie.Need-same-length-4
-same-length-4 c = search needs
-
 returns : tie.Need-returns
 returns c =
     let at-free-page = c .before .before .before .before .before .before .before .before in
@@ -71,9 +59,6 @@ returns c =
     let at-is-from = at-if1 .before in
     let start = at-is-from .before .before .before .before .before .before .before .before in
     freed-visit (mem (start .args .bytes .now) (start .args .keys .now) (start .args .order .now) (start .args .words .now)) (start .args .e) (start .pre) (start .args .len) (at-told (mem (start .args .bytes .now) (start .args .keys .now) (start .args .order .now) (start .args .words .now)) (start .args .e) (start .pre) (start .args .len) _ (at-is-from .is-from .ensures) (at-if1 .if1 .taken)) _ (at-free-page .free-page .ensures)
-
-same-length-5 : tie.Need-same-length-5
-same-length-5 c = search needs
 
 returns-2 : tie.Need-returns-2
 returns-2 c =
@@ -94,10 +79,10 @@ free-entry-spec =
     sub-free-page
     cast-free-page
     free-page-requires
-    same-length
-    same-length-2
-    same-length-3
-    same-length-4
+    (λ c. search needs)
+    (λ c. search needs)
+    (λ c. search needs)
+    (λ c. search needs)
     returns
-    same-length-5
+    (λ c. search needs)
     returns-2)

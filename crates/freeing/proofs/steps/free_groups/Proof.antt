@@ -36,12 +36,6 @@ free-entry-requires c κs =
     let start = at-loop .before .before .before .before .before .before in
     let t = at-loop-test .loop-test .taken in let q = at-loop .loop .inv .2 in visit-asked _ (start .pre) _ _ _ (at-loop .loop .inv .3) (at-loop .loop .inv .0) (omega arith)
 
-add-e : tie.Need-add-e Inv-loop μ-loop
-add-e c = search needs
-
-loop-less : tie.Need-loop-less Inv-loop μ-loop
-loop-less c = search needs
-
 loop-again : tie.Need-loop-again Inv-loop μ-loop
 loop-again c =
     let at-free-entry = c .before .before .before .before .before .before .before .before in
@@ -91,8 +85,8 @@ free-groups-spec =
     add-end
     loop-holds
     free-entry-requires
-    add-e
-    loop-less
+    (λ c. search needs)
+    (λ c. search needs)
     loop-again
     same-length
     same-length-2

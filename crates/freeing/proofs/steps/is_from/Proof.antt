@@ -12,23 +12,11 @@ returns c =
     let start = at-if1 .before in
     not-told (layoutOf (start .args .words .now)) _ _ (at-if1 .if1 .taken)
 
-sub-result : tie.Need-sub-result
-sub-result c = search needs
-
-shared-slice-read-result : tie.Need-shared-slice-read-result
-shared-slice-read-result c = search needs
-
 sub-result-2 : tie.Need-sub-result-2
 sub-result-2 c =
     let at-if1 = c .before in
     let start = at-if1 .before in
     let h = start .pre .2 (omega (arith, at-if1 .if1 .left)) in search needs
-
-shared-slice-read-result-2 : tie.Need-shared-slice-read-result-2
-shared-slice-read-result-2 c = search needs
-
-div-result : tie.Need-div-result
-div-result c = search needs
 
 returns-2 : tie.Need-returns-2
 returns-2 c =
@@ -41,9 +29,9 @@ is-from-spec =
     tie.close
     (tie.spec
     returns
-    sub-result
-    shared-slice-read-result
+    (λ c. search needs)
+    (λ c. search needs)
     sub-result-2
-    shared-slice-read-result-2
-    div-result
+    (λ c. search needs)
+    (λ c. search needs)
     returns-2)

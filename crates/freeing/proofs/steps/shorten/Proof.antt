@@ -9,13 +9,10 @@ slice-write-words c =
     let start = c in
     let l = start .pre .formed .lengths .in-words in search needs
 
-same-length : tie.Need-same-length
-same-length c = search needs
-
 returns : tie.Need-returns
 returns c =
     let start = c in
     shortened-shows _ _ _ _ _ (start .pre)
 
 pub shorten-spec : {M : Type 1} → statement M
-shorten-spec = tie.close (tie.spec slice-write-words same-length returns)
+shorten-spec = tie.close (tie.spec slice-write-words (λ c. search needs) returns)

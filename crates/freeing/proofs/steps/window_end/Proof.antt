@@ -8,12 +8,6 @@ use borrow.Author.Needs.{needs}
 use Rattle.freeing.proofs.steps.window_end.Statement.{statement}
 use Rattle.freeing.proofs.steps.window_end.Tie as tie
 
-cast-end : tie.Need-cast-end
-cast-end c = search needs
-
-touched-requires : tie.Need-touched-requires
-touched-requires c κs = search needs
-
 add-end : tie.Need-add-end
 add-end c =
     let at-touched = c in
@@ -41,4 +35,4 @@ returns-2 c =
 
 pub window-end-spec : {M : Type 1} → statement M
 window-end-spec =
-    tie.close (tie.spec cast-end touched-requires add-end returns cast-result returns-2)
+    tie.close (tie.spec (λ c. search needs) (λ c κs. search needs) add-end returns cast-result returns-2)

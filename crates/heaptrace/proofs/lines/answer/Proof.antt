@@ -12,15 +12,6 @@ use borrow.Author.Needs.{needs}
 use Rattle.heaptrace.proofs.lines.answer.Statement.{statement}
 use Rattle.heaptrace.proofs.lines.answer.Tie as tie
 
-roomy-requires : tie.Need-roomy-requires
-roomy-requires c κs = search needs
-
-sub-take : tie.Need-sub-take
-sub-take c = search needs
-
-part-take-start : tie.Need-part-take-start
-part-take-start c = search needs
-
 part-take-end : tie.Need-part-take-end
 part-take-end c =
     let at-roomy = c .before .before .before .before in
@@ -29,30 +20,12 @@ part-take-end c =
     let b = roomy-bounded (start .args .state) (at-roomy .roomy .result) (p .0) (at-roomy .roomy .ensures .0) in
     omega (arith, b .0, p .2)
 
-take-requires : tie.Need-take-requires
-take-requires c κs = search needs
-
 put-reply-requires : tie.Need-put-reply-requires
 put-reply-requires c κs =
     let at-roomy = c .before .before .before .before .before .before .before .before .before .before .before .before .before .before .before .before in
     let start = at-roomy .before .before .before .before .before .before .before .before in
     let p : (Bounded (start .args .state)) × (Space (start .args .bytes .now) (start .args .keys .now) (start .args .order .now) (start .args .words .now)) × (length (start .args .line .now) ≡ 104) × (length (start .args .output .now) ≡ 65536) = start .pre in
     omega (arith, at-roomy .roomy .ensures .1, p .3)
-
-same-length : tie.Need-same-length
-same-length c = search needs
-
-same-length-2 : tie.Need-same-length-2
-same-length-2 c = search needs
-
-same-length-3 : tie.Need-same-length-3
-same-length-3 c = search needs
-
-same-length-4 : tie.Need-same-length-4
-same-length-4 c = search needs
-
-same-length-5 : tie.Need-same-length-5
-same-length-5 c = search needs
 
 returns : tie.Need-returns
 returns c =
@@ -77,15 +50,15 @@ pub answer-spec : {M : Type 1} → statement M
 answer-spec =
     tie.close
     (tie.spec
-    roomy-requires
-    sub-take
-    part-take-start
+    (λ c κs. search needs)
+    (λ c. search needs)
+    (λ c. search needs)
     part-take-end
-    take-requires
+    (λ c κs. search needs)
     put-reply-requires
-    same-length
-    same-length-2
-    same-length-3
-    same-length-4
-    same-length-5
+    (λ c. search needs)
+    (λ c. search needs)
+    (λ c. search needs)
+    (λ c. search needs)
+    (λ c. search needs)
     returns)

@@ -31,24 +31,12 @@ returns c =
     let start = at-loop .before in
     let p : (start .args .held ≤ 104) × (length (start .args .line .now) ≡ 104) = start .pre in gather-full (start .args .line .now) (at-loop .loop .line) (start .args .piece .now) (start .args .held) (at-loop .loop .n) (at-loop .loop .i) (omega arith) (at-loop .loop .inv .3) (at-loop .loop .inv .0) (at-if1 .if1 .taken) (at-loop .loop .inv .4)
 
-shared-slice-read-line : tie.Need-shared-slice-read-line Inv-loop μ-loop
-shared-slice-read-line c = search needs
-
 slice-write-line : tie.Need-slice-write-line Inv-loop μ-loop
 slice-write-line c =
     let at-if1 = c .before in
     let at-loop = at-if1 .before .before in
     let start = at-loop .before in
     let p : (start .args .held ≤ 104) × (length (start .args .line .now) ≡ 104) = start .pre in let e = at-loop .loop .inv .1 in let u = at-if1 .if1 .left in omega arith
-
-add-n : tie.Need-add-n Inv-loop μ-loop
-add-n c = search needs
-
-add-i : tie.Need-add-i Inv-loop μ-loop
-add-i c = search needs
-
-loop-less : tie.Need-loop-less Inv-loop μ-loop
-loop-less c = search needs
 
 loop-again : tie.Need-loop-again Inv-loop μ-loop
 loop-again c =
@@ -83,11 +71,11 @@ gather-spec =
     loop-holds
     same-length
     returns
-    shared-slice-read-line
+    (λ c. search needs)
     slice-write-line
-    add-n
-    add-i
-    loop-less
+    (λ c. search needs)
+    (λ c. search needs)
+    (λ c. search needs)
     loop-again
     same-length-2
     returns-2)

@@ -6,9 +6,6 @@ use borrow.Author.Needs.{needs}
 use Rattle.heaptrace.proofs.lines.roomy.Statement.{statement}
 use Rattle.heaptrace.proofs.lines.roomy.Tie as tie
 
-flush-requires : tie.Need-flush-requires
-flush-requires c κs = search needs
-
 returns : tie.Need-returns
 returns c =
     let at-flush = c in
@@ -20,4 +17,4 @@ returns-2 c =
     (inl refl, at-if1 .if1 .left)
 
 pub roomy-spec : {M : Type 1} → statement M
-roomy-spec = tie.close (tie.spec flush-requires returns returns-2)
+roomy-spec = tie.close (tie.spec (λ c κs. search needs) returns returns-2)

@@ -11,34 +11,16 @@ Inv-loop bytes₀ keys₀ order₀ words₀ line₀ input₀ output₀ state₀ 
 abbrev μ-loop : tie.MeasureT-loop
 μ-loop bytes₀ keys₀ order₀ words₀ line₀ input₀ output₀ state₀ reads₀ bytes keys order words line input output state reads = reads
 
-start-requires : tie.Need-start-requires Inv-loop μ-loop
-start-requires c κs = search needs
-
 loop-holds : tie.Need-loop-holds Inv-loop μ-loop
 loop-holds c =
     let at-start = c in
     let start = at-start .before .before .before .before .before .before .before .before in
     let p : (Space (start .args .bytes .now) (start .args .keys .now) (start .args .order .now) (start .args .words .now)) × (length (start .args .line .now) ≡ 104) × (length (start .args .output .now) ≡ 65536) = start .pre in (at-start .start .ensures, p .0, p .1, p .2, refl)
 
-read-block-requires : tie.Need-read-block-requires Inv-loop μ-loop
-read-block-requires c κs = search needs
-
-sub-block : tie.Need-sub-block Inv-loop μ-loop
-sub-block c = search needs
-
-part-block-start : tie.Need-part-block-start Inv-loop μ-loop
-part-block-start c = search needs
-
-part-block-end : tie.Need-part-block-end Inv-loop μ-loop
-part-block-end c = search needs
-
 block-requires : tie.Need-block-requires Inv-loop μ-loop
 block-requires c κs =
     let at-loop = c .before .before .before .before .before .before .before .before .before .before .before .before .before in
     (at-loop .loop .inv .0, at-loop .loop .inv .1, at-loop .loop .inv .2, at-loop .loop .inv .3)
-
-reads-after-requires : tie.Need-reads-after-requires Inv-loop μ-loop
-reads-after-requires c κs = search needs
 
 loop-less : tie.Need-loop-less Inv-loop μ-loop
 loop-less c =
@@ -103,23 +85,20 @@ same-length-7 c =
     let start = at-loop .before .before .before .before .before .before .before .before .before in
     let p : (Space (start .args .bytes .now) (start .args .keys .now) (start .args .order .now) (start .args .words .now)) × (length (start .args .line .now) ≡ 104) × (length (start .args .output .now) ≡ 65536) = start .pre in at-finish .finish .kept .1 .1 .1 .1 .1 .0 ∙ at-loop .loop .inv .3 ∙ sym (p .2)
 
-returns : tie.Need-returns Inv-loop μ-loop
-returns c = search needs
-
 pub run-spec : {M : Type 1} → statement M
 run-spec =
     tie.close
     (tie.spec
     Inv-loop
     μ-loop
-    start-requires
+    (λ c κs. search needs)
     loop-holds
-    read-block-requires
-    sub-block
-    part-block-start
-    part-block-end
+    (λ c κs. search needs)
+    (λ c. search needs)
+    (λ c. search needs)
+    (λ c. search needs)
     block-requires
-    reads-after-requires
+    (λ c κs. search needs)
     loop-less
     loop-again
     finish-requires
@@ -130,4 +109,4 @@ run-spec =
     same-length-5
     same-length-6
     same-length-7
-    returns)
+    (λ c. search needs))

@@ -2,8 +2,5 @@ use borrow.Author.Needs.{needs}
 use Rattle.heaptrace.proofs.lines.start.Statement.{statement}
 use Rattle.heaptrace.proofs.lines.start.Tie as tie
 
-returns : tie.Need-returns
-returns c = search needs
-
 pub start-spec : {M : Type 1} → statement M
-start-spec = tie.close (tie.spec returns)
+start-spec = tie.close (tie.spec (λ c. search needs))

@@ -9,18 +9,6 @@ use borrow.Author.Needs.{needs}
 use Rattle.heaptrace.proofs.step.after.Statement.{statement}
 use Rattle.heaptrace.proofs.step.after.Tie as tie
 
-enum-told : tie.Need-enum-told
-enum-told c = search needs
-
-array-read-t8 : tie.Need-array-read-t8
-array-read-t8 c = search needs
-
-array-read-t11 : tie.Need-array-read-t11
-array-read-t11 c = search needs
-
-array-read-t14 : tie.Need-array-read-t14
-array-read-t14 c = search needs
-
 returns : tie.Need-returns
 returns c =
     let at-enum-told = c in
@@ -35,4 +23,4 @@ returns-2 c =
 
 pub after-spec : {M : Type 1} → statement M
 after-spec =
-    tie.close (tie.spec enum-told array-read-t8 array-read-t11 array-read-t14 returns returns-2)
+    tie.close (tie.spec (λ c. search needs) (λ c. search needs) (λ c. search needs) (λ c. search needs) returns returns-2)

@@ -9,96 +9,6 @@ use borrow.Author.Needs.{needs}
 use Rattle.heaptrace.proofs.step.lent.Statement.{statement}
 use Rattle.heaptrace.proofs.step.lent.Tie as tie
 
-least-requires : tie.Need-least-requires
-least-requires c κs = search needs
-
-least-requires-2 : tie.Need-least-requires-2
-least-requires-2 c κs = search needs
-
-least-requires-3 : tie.Need-least-requires-3
-least-requires-3 c κs = search needs
-
-mul-b : tie.Need-mul-b
-mul-b c = search needs
-
-mul-b-2 : tie.Need-mul-b-2
-mul-b-2 c = search needs
-
-add-b : tie.Need-add-b
-add-b c = search needs
-
-add-k : tie.Need-add-k
-add-k c = search needs
-
-add-k-2 : tie.Need-add-k-2
-add-k-2 c = search needs
-
-mul-o : tie.Need-mul-o
-mul-o c = search needs
-
-add-o : tie.Need-add-o
-add-o c = search needs
-
-add-o-2 : tie.Need-add-o-2
-add-o-2 c = search needs
-
-mul-w : tie.Need-mul-w
-mul-w c = search needs
-
-add-w : tie.Need-add-w
-add-w c = search needs
-
-sub-called : tie.Need-sub-called
-sub-called c = search needs
-
-part-called-start : tie.Need-part-called-start
-part-called-start c = search needs
-
-part-called-end : tie.Need-part-called-end
-part-called-end c = search needs
-
-sub-called-2 : tie.Need-sub-called-2
-sub-called-2 c = search needs
-
-part-called-start-2 : tie.Need-part-called-start-2
-part-called-start-2 c = search needs
-
-part-called-end-2 : tie.Need-part-called-end-2
-part-called-end-2 c = search needs
-
-sub-called-3 : tie.Need-sub-called-3
-sub-called-3 c = search needs
-
-part-called-start-3 : tie.Need-part-called-start-3
-part-called-start-3 c = search needs
-
-part-called-end-3 : tie.Need-part-called-end-3
-part-called-end-3 c = search needs
-
-sub-called-4 : tie.Need-sub-called-4
-sub-called-4 c = search needs
-
-part-called-start-4 : tie.Need-part-called-start-4
-part-called-start-4 c = search needs
-
-part-called-end-4 : tie.Need-part-called-end-4
-part-called-end-4 c = search needs
-
-called-requires : tie.Need-called-requires
-called-requires c κs = search needs
-
-same-length : tie.Need-same-length
-same-length c = search needs
-
-same-length-2 : tie.Need-same-length-2
-same-length-2 c = search needs
-
-same-length-3 : tie.Need-same-length-3
-same-length-3 c = search needs
-
-same-length-4 : tie.Need-same-length-4
-same-length-4 c = search needs
-
 returns : tie.Need-returns
 returns c =
     let at-called = c .before .before .before .before .before .before .before .before in
@@ -124,34 +34,34 @@ pub lent-spec : {M : Type 1} → statement M
 lent-spec =
     tie.close
     (tie.spec
-    least-requires
-    least-requires-2
-    least-requires-3
-    mul-b
-    mul-b-2
-    add-b
-    add-k
-    add-k-2
-    mul-o
-    add-o
-    add-o-2
-    mul-w
-    add-w
-    sub-called
-    part-called-start
-    part-called-end
-    sub-called-2
-    part-called-start-2
-    part-called-end-2
-    sub-called-3
-    part-called-start-3
-    part-called-end-3
-    sub-called-4
-    part-called-start-4
-    part-called-end-4
-    called-requires
-    same-length
-    same-length-2
-    same-length-3
-    same-length-4
+    (λ c κs. search needs)
+    (λ c κs. search needs)
+    (λ c κs. search needs)
+    (λ c. search needs)
+    (λ c. search needs)
+    (λ c. search needs)
+    (λ c. search needs)
+    (λ c. search needs)
+    (λ c. search needs)
+    (λ c. search needs)
+    (λ c. search needs)
+    (λ c. search needs)
+    (λ c. search needs)
+    (λ c. search needs)
+    (λ c. search needs)
+    (λ c. search needs)
+    (λ c. search needs)
+    (λ c. search needs)
+    (λ c. search needs)
+    (λ c. search needs)
+    (λ c. search needs)
+    (λ c. search needs)
+    (λ c. search needs)
+    (λ c. search needs)
+    (λ c. search needs)
+    (λ c κs. search needs)
+    (λ c. search needs)
+    (λ c. search needs)
+    (λ c. search needs)
+    (λ c. search needs)
     returns)

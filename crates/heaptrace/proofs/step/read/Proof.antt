@@ -7,12 +7,6 @@ use borrow.Author.Needs.{needs}
 use Rattle.heaptrace.proofs.step.read.Statement.{statement}
 use Rattle.heaptrace.proofs.step.read.Tie as tie
 
-read-u256-requires : tie.Need-read-u256-requires
-read-u256-requires c κs = search needs
-
-refused-requires : tie.Need-refused-requires
-refused-requires c κs = search needs
-
 returns : tie.Need-returns
 returns c =
     let at-refused = c in
@@ -20,9 +14,6 @@ returns c =
     let at-read-u256 = at-if1 .before .before in
     let start = at-read-u256 .before .before .before .before .before in
     tells (word-call (mem (start .args .bytes .now) (start .args .keys .now) (start .args .order .now) (start .args .words .now)) (start .args .page) (start .args .address) _ (at-read-u256 .read-u256 .ensures .answer)) _ (at-refused .refused .ensures ∙ word-refused (at-read-u256 .read-u256 .result .refusal) (value (at-read-u256 .read-u256 .result .word .limbs)) (at-if1 .if1 .taken))
-
-word-requires : tie.Need-word-requires
-word-requires c κs = search needs
 
 returns-2 : tie.Need-returns-2
 returns-2 c =
@@ -34,4 +25,4 @@ returns-2 c =
 
 pub read-spec : {M : Type 1} → statement M
 read-spec =
-    tie.close (tie.spec read-u256-requires refused-requires returns word-requires returns-2)
+    tie.close (tie.spec (λ c κs. search needs) (λ c κs. search needs) returns (λ c κs. search needs) returns-2)

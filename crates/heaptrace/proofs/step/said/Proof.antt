@@ -6,18 +6,6 @@ use borrow.Author.Needs.{needs}
 use Rattle.heaptrace.proofs.step.said.Statement.{statement}
 use Rattle.heaptrace.proofs.step.said.Tie as tie
 
-enum-told : tie.Need-enum-told
-enum-told c = search needs
-
-done-requires : tie.Need-done-requires
-done-requires c κs = search needs
-
-enum-known-answer : tie.Need-enum-known-answer
-enum-known-answer c = search needs
-
-refused-requires : tie.Need-refused-requires
-refused-requires c κs = search needs
-
 returns : tie.Need-returns
 returns c =
     let at-done = c in
@@ -33,4 +21,4 @@ returns-2 c =
 pub said-spec : {M : Type 1} → statement M
 said-spec =
     tie.close
-    (tie.spec enum-told done-requires enum-known-answer refused-requires returns returns-2)
+    (tie.spec (λ c. search needs) (λ c κs. search needs) (λ c. search needs) (λ c κs. search needs) returns returns-2)

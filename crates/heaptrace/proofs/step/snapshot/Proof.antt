@@ -6,12 +6,6 @@ use borrow.Author.Needs.{needs}
 use Rattle.heaptrace.proofs.step.snapshot.Statement.{statement}
 use Rattle.heaptrace.proofs.step.snapshot.Tie as tie
 
-snapshot-requires : tie.Need-snapshot-requires
-snapshot-requires c κs = search needs
-
-refused-requires : tie.Need-refused-requires
-refused-requires c κs = search needs
-
 returns : tie.Need-returns
 returns c =
     let at-refused = c in
@@ -19,9 +13,6 @@ returns c =
     let at-snapshot = at-if1 .before .before in
     let start = at-snapshot .before .before .before .before .before in
     tells (marks-call (mem (start .args .bytes .now) (start .args .keys .now) (start .args .order .now) (start .args .words .now)) _ (at-snapshot .snapshot .ensures .answer)) _ (at-refused .refused .ensures ∙ marks-refused (at-snapshot .snapshot .result .refusal) (at-snapshot .snapshot .result .heap, at-snapshot .snapshot .result .aux) (at-if1 .if1 .taken))
-
-marks-requires : tie.Need-marks-requires
-marks-requires c κs = search needs
 
 returns-2 : tie.Need-returns-2
 returns-2 c =
@@ -33,4 +24,4 @@ returns-2 c =
 
 pub snapshot-spec : {M : Type 1} → statement M
 snapshot-spec =
-    tie.close (tie.spec snapshot-requires refused-requires returns marks-requires returns-2)
+    tie.close (tie.spec (λ c κs. search needs) (λ c κs. search needs) returns (λ c κs. search needs) returns-2)

@@ -10,39 +10,6 @@ use borrow.Author.Needs.{needs}
 use Rattle.heaptrace.proofs.step.take.Statement.{statement}
 use Rattle.heaptrace.proofs.step.take.Tie as tie
 
-parse-requires : tie.Need-parse-requires
-parse-requires c κs = search needs
-
-enum-told : tie.Need-enum-told
-enum-told c = search needs
-
-array-read-lent : tie.Need-array-read-lent
-array-read-lent c = search needs
-
-array-read-lent-2 : tie.Need-array-read-lent-2
-array-read-lent-2 c = search needs
-
-array-read-lent-3 : tie.Need-array-read-lent-3
-array-read-lent-3 c = search needs
-
-lent-requires : tie.Need-lent-requires
-lent-requires c κs = search needs
-
-after-requires : tie.Need-after-requires
-after-requires c κs = search needs
-
-same-length : tie.Need-same-length
-same-length c = search needs
-
-same-length-2 : tie.Need-same-length-2
-same-length-2 c = search needs
-
-same-length-3 : tie.Need-same-length-3
-same-length-3 c = search needs
-
-same-length-4 : tie.Need-same-length-4
-same-length-4 c = search needs
-
 returns : tie.Need-returns
 returns c =
     let at-after = c in
@@ -52,9 +19,6 @@ returns c =
     let start = at-parse .before .before .before .before .before .before in
     trace-line (start .args .run) (at-after .after .result) (mem (start .args .bytes .now) (start .args .keys .now) (start .args .order .now) (start .args .words .now)) (mem (at-lent .lent .last .0) (at-lent .lent .last .1 .0) (at-lent .lent .last .1 .1 .0) (at-lent .lent .last .1 .1 .1 .0)) (replyOf (at-lent .lent .result)) (commandOf (at-parse .parse .result)) (meaning (start .args .line .now)) (at-parse .parse .ensures)
     (trace-open (start .args .run) (at-after .after .result) (mem (start .args .bytes .now) (start .args .keys .now) (start .args .order .now) (start .args .words .now)) (mem (at-lent .lent .last .0) (at-lent .lent .last .1 .0) (at-lent .lent .last .1 .1 .0) (at-lent .lent .last .1 .1 .1 .0)) (replyOf (at-lent .lent .result)) (at-parse .parse .result .numbers) (value (at-parse .parse .result .word .limbs)) (at-parse .parse .result .kind) (at-enum-told .enum-told .given .1) (at-after .after .ensures) (at-lent .lent .ensures))
-
-unread-requires : tie.Need-unread-requires
-unread-requires c κs = search needs
 
 returns-2 : tie.Need-returns-2
 returns-2 c =
@@ -66,21 +30,6 @@ returns-2 c =
     trace-line (start .args .run) (start .args .run) (mem (start .args .bytes .now) (start .args .keys .now) (start .args .order .now) (start .args .words .now)) (mem (start .args .bytes .now) (start .args .keys .now) (start .args .order .now) (start .args .words .now)) (replyOf (at-unread .unread .result)) (commandOf (at-parse .parse .result)) (meaning (start .args .line .now)) (at-parse .parse .ensures)
     (trace-other (start .args .run) (start .args .run) (mem (start .args .bytes .now) (start .args .keys .now) (start .args .order .now) (start .args .words .now)) (mem (start .args .bytes .now) (start .args .keys .now) (start .args .order .now) (start .args .words .now)) (replyOf (at-unread .unread .result)) (at-parse .parse .result .numbers) (value (at-parse .parse .result .word .limbs)) (at-parse .parse .result .kind) (at-match .match .keys2)
     (record { run = refl; before = λ e. (at-unread .unread .ensures, refl); call = λ e. absurd (false≢true (sym (not-true _ (at-if1 .if1 .taken)) ∙ e)) }))
-
-lent-requires-2 : tie.Need-lent-requires-2
-lent-requires-2 c κs = search needs
-
-same-length-5 : tie.Need-same-length-5
-same-length-5 c = search needs
-
-same-length-6 : tie.Need-same-length-6
-same-length-6 c = search needs
-
-same-length-7 : tie.Need-same-length-7
-same-length-7 c = search needs
-
-same-length-8 : tie.Need-same-length-8
-same-length-8 c = search needs
 
 returns-3 : tie.Need-returns-3
 returns-3 c =
@@ -97,23 +46,23 @@ pub take-spec : {M : Type 1} → statement M
 take-spec =
     tie.close
     (tie.spec
-    parse-requires
-    enum-told
-    array-read-lent
-    array-read-lent-2
-    array-read-lent-3
-    lent-requires
-    after-requires
-    same-length
-    same-length-2
-    same-length-3
-    same-length-4
+    (λ c κs. search needs)
+    (λ c. search needs)
+    (λ c. search needs)
+    (λ c. search needs)
+    (λ c. search needs)
+    (λ c κs. search needs)
+    (λ c κs. search needs)
+    (λ c. search needs)
+    (λ c. search needs)
+    (λ c. search needs)
+    (λ c. search needs)
     returns
-    unread-requires
+    (λ c κs. search needs)
     returns-2
-    lent-requires-2
-    same-length-5
-    same-length-6
-    same-length-7
-    same-length-8
+    (λ c κs. search needs)
+    (λ c. search needs)
+    (λ c. search needs)
+    (λ c. search needs)
+    (λ c. search needs)
     returns-3)

@@ -4,12 +4,6 @@ use borrow.Author.Needs.{needs}
 use Rattle.instructions.proofs.parts.alone.Statement.{statement}
 use Rattle.instructions.proofs.parts.alone.Tie as tie
 
-no-word-requires : tie.Need-no-word-requires
-no-word-requires c κs = search needs
-
-no-word-requires-2 : tie.Need-no-word-requires-2
-no-word-requires-2 c κs = search needs
-
 returns : tie.Need-returns
 returns c =
     let at-no-word2 = c in
@@ -18,4 +12,4 @@ returns c =
     (refl, carried-alone (start .args .status) (start .args .frame) _ _ (at-no-word2 .no-word2 .ensures) (at-no-word .no-word .ensures))
 
 pub alone-spec : {M : Type 1} → statement M
-alone-spec = tie.close (tie.spec no-word-requires no-word-requires-2 returns)
+alone-spec = tie.close (tie.spec (λ c κs. search needs) (λ c κs. search needs) returns)

@@ -5,9 +5,6 @@ use borrow.Author.Needs.{needs}
 use Rattle.instructions.proofs.parts.carried_out.Statement.{statement}
 use Rattle.instructions.proofs.parts.carried_out.Tie as tie
 
-plus-32-requires : tie.Need-plus-32-requires
-plus-32-requires c κs = search needs
-
 returns : tie.Need-returns
 returns c =
     let at-plus-32 = c in
@@ -15,4 +12,4 @@ returns c =
     (refl, carried-next (start .args .status) (start .args .frame) (value (start .args .word .limbs)) _ _ (start .args .tagged) (at-plus-32 .plus-32 .ensures))
 
 pub carried-out-spec : {M : Type 1} → statement M
-carried-out-spec = tie.close (tie.spec plus-32-requires returns)
+carried-out-spec = tie.close (tie.spec (λ c κs. search needs) returns)

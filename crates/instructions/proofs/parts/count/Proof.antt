@@ -5,12 +5,6 @@ use borrow.Author.Needs.{needs}
 use Rattle.instructions.proofs.parts.count.Statement.{statement}
 use Rattle.instructions.proofs.parts.count.Tie as tie
 
-sub-left : tie.Need-sub-left
-sub-left c = search needs
-
-cast-result : tie.Need-cast-result
-cast-result c = search needs
-
 returns : tie.Need-returns
 returns c =
     let at-if1 = c in
@@ -24,4 +18,4 @@ returns-2 c =
     min-left 32 (start .args .end - start .args .start) (omega (arith, at-if1 .if1 .left))
 
 pub count-spec : {M : Type 1} → statement M
-count-spec = tie.close (tie.spec sub-left cast-result returns returns-2)
+count-spec = tie.close (tie.spec (λ c. search needs) (λ c. search needs) returns returns-2)

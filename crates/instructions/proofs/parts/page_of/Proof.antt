@@ -5,12 +5,6 @@ use borrow.Author.Needs.{needs}
 use Rattle.instructions.proofs.parts.page_of.Statement.{statement}
 use Rattle.instructions.proofs.parts.page_of.Tie as tie
 
-enum-told : tie.Need-enum-told
-enum-told c = search needs
-
-enum-told-2 : tie.Need-enum-told-2
-enum-told-2 c = search needs
-
 returns : tie.Need-returns
 returns c =
     let at-enum-told = c in
@@ -24,4 +18,4 @@ returns-2 c =
     sym (ap (λ (area : Area). heapOf (start .args .frame) area) (at-enum-told2 .enum-told2 .given .1))
 
 pub page-of-spec : {M : Type 1} → statement M
-page-of-spec = tie.close (tie.spec enum-told enum-told-2 returns returns-2)
+page-of-spec = tie.close (tie.spec (λ c. search needs) (λ c. search needs) returns returns-2)

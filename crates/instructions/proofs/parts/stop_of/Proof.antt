@@ -7,12 +7,6 @@ use borrow.Author.Needs.{needs}
 use Rattle.instructions.proofs.parts.stop_of.Statement.{statement}
 use Rattle.instructions.proofs.parts.stop_of.Tie as tie
 
-hits-requires : tie.Need-hits-requires
-hits-requires c κs = search needs
-
-low-u32-requires : tie.Need-low-u32-requires
-low-u32-requires c κs = search needs
-
 returns : tie.Need-returns
 returns c =
     let at-low-u32 = c in
@@ -29,4 +23,4 @@ returns-2 c =
     stop-missed (hooked (hookOf (start .args .hook)) (start .args .address)) (value (start .args .word .limbs)) (sym (at-hits .hits .ensures) ∙ at-if1 .if1 .left)
 
 pub stop-of-spec : {M : Type 1} → statement M
-stop-of-spec = tie.close (tie.spec hits-requires low-u32-requires returns returns-2)
+stop-of-spec = tie.close (tie.spec (λ c κs. search needs) (λ c κs. search needs) returns returns-2)

@@ -26,9 +26,6 @@ returns c =
     let n = value (start .args .word .limbs) in
     more-number (fifteen hit n) (write-refusals (settingOf m) (viewOf m) (start .args .page) (start .args .address)) (at-word-room .word-room .result) (at-word-room .word-room .ensures) (at-if1 .if1 .taken)
 
-hits-requires : tie.Need-hits-requires
-hits-requires c κs = search needs
-
 returns-2 : tie.Need-returns-2
 returns-2 c =
     let at-if2 = c in
@@ -40,9 +37,6 @@ returns-2 c =
     let hit = hooked (hookOf (start .args .hook)) (start .args .address) in
     let n = value (start .args .word .limbs) in
     missed hit n (failed (at-hits .hits .ensures) (at-if2 .if2 .taken)) ∙ more-none (fifteen hit n) (write-refusals (settingOf m) (viewOf m) (start .args .page) (start .args .address)) (sym (at-word-room .word-room .ensures) ∙ at-if1 .if1 .left)
-
-fits-u32-requires : tie.Need-fits-u32-requires
-fits-u32-requires c κs = search needs
 
 returns-3 : tie.Need-returns-3
 returns-3 c =
@@ -71,4 +65,4 @@ returns-4 c =
     too-wide hit n (passed (at-hits .hits .ensures) (at-if2 .if2 .left)) (sym (at-fits-u32 .fits-u32 .ensures) ∙ at-if3 .if3 .left) ∙ more-none (fifteen hit n) (write-refusals (settingOf m) (viewOf m) (start .args .page) (start .args .address)) (sym (at-word-room .word-room .ensures) ∙ at-if1 .if1 .left)
 
 pub store-refusal-spec : {M : Type 1} → statement M
-store-refusal-spec = tie.close (tie.spec word-room-requires returns hits-requires returns-2 fits-u32-requires returns-3 returns-4)
+store-refusal-spec = tie.close (tie.spec word-room-requires returns (λ c κs. search needs) returns-2 (λ c κs. search needs) returns-3 returns-4)

@@ -7,17 +7,11 @@ use Rattle.reads.proofs.Bytes.{byte-held, byte-none}
 use Rattle.reads.proofs.steps.byte_at.Statement.{statement}
 use Rattle.reads.proofs.steps.byte_at.Tie as tie
 
-cast-slot-at : tie.Need-cast-slot-at
-cast-slot-at c = search needs
-
 slot-at-requires : tie.Need-slot-at-requires
 slot-at-requires c κs =
     let start = c .before .before .before .before in
     let m = mem (start .args .bytes .now) (start .args .keys .now) (start .args .order .now) (start .args .words .now) in
     find-asked m (start .pre)
-
-shared-slice-read-if1 : tie.Need-shared-slice-read-if1
-shared-slice-read-if1 c = search needs
 
 returns : tie.Need-returns
 returns c =
@@ -26,18 +20,6 @@ returns c =
     let start = at-slot-at .before .before .before .before .before in
     let m = mem (start .args .bytes .now) (start .args .keys .now) (start .args .order .now) (start .args .words .now) in
     byte-none m (start .pre) (start .args .page) (start .args .address / 256) (at-slot-at .slot-at .result) (at-slot-at .slot-at .ensures (start .args .bytes .now)) (at-if1 .if1 .taken) (start .args .address) refl
-
-mul-result : tie.Need-mul-result
-mul-result c = search needs
-
-cast-result : tie.Need-cast-result
-cast-result c = search needs
-
-add-result : tie.Need-add-result
-add-result c = search needs
-
-shared-slice-read-result : tie.Need-shared-slice-read-result
-shared-slice-read-result c = search needs
 
 returns-2 : tie.Need-returns-2
 returns-2 c =
@@ -51,12 +33,12 @@ pub byte-at-spec : {M : Type 1} → statement M
 byte-at-spec =
     tie.close
     (tie.spec
-    cast-slot-at
+    (λ c. search needs)
     slot-at-requires
-    shared-slice-read-if1
+    (λ c. search needs)
     returns
-    mul-result
-    cast-result
-    add-result
-    shared-slice-read-result
+    (λ c. search needs)
+    (λ c. search needs)
+    (λ c. search needs)
+    (λ c. search needs)
     returns-2)

@@ -20,18 +20,6 @@ abbrev μ-loop : tie.MeasureT-loop
 loop-holds : tie.Need-loop-holds Inv-loop μ-loop
 loop-holds c = (search needs, refl, λ i l. absurd (not-suc-le-zero l))
 
-add-a : tie.Need-add-a Inv-loop μ-loop
-add-a c = search needs
-
-sub-least : tie.Need-sub-least Inv-loop μ-loop
-sub-least c = search needs
-
-sub-least-2 : tie.Need-sub-least-2 Inv-loop μ-loop
-sub-least-2 c = search needs
-
-least-requires : tie.Need-least-requires Inv-loop μ-loop
-least-requires c κs = search needs
-
 read-part-requires : tie.Need-read-part-requires Inv-loop μ-loop
 read-part-requires c κs =
     let at-least = c .before in
@@ -39,12 +27,6 @@ read-part-requires c κs =
     let at-loop = at-loop-test .before in
     let start = at-loop .before .before .before .before .before .before in
     (start .pre .0, (omega (arith, at-least .least .ensures), omega (arith, at-least .least .ensures, at-loop .loop .inv .1, at-loop-test .loop-test .taken)))
-
-add-pos : tie.Need-add-pos Inv-loop μ-loop
-add-pos c = search needs
-
-loop-less : tie.Need-loop-less Inv-loop μ-loop
-loop-less c = search needs
 
 loop-again : tie.Need-loop-again Inv-loop μ-loop
 loop-again c =
@@ -58,9 +40,6 @@ loop-again c =
       at-read-part .read-part .ensures .long ∙ at-loop .loop .inv .1,
       part-on m (start .pre .0) (start .args .page) (start .args .start) (at-loop .loop .pos) (at-least .least .result) (at-loop .loop .out) _ (at-loop .loop .inv .2) (at-read-part .read-part .ensures),
     )
-
-same-length : tie.Need-same-length Inv-loop μ-loop
-same-length c = search needs
 
 returns : tie.Need-returns Inv-loop μ-loop
 returns c =
@@ -77,13 +56,13 @@ read-into-spec =
     Inv-loop
     μ-loop
     loop-holds
-    add-a
-    sub-least
-    sub-least-2
-    least-requires
+    (λ c. search needs)
+    (λ c. search needs)
+    (λ c. search needs)
+    (λ c κs. search needs)
     read-part-requires
-    add-pos
-    loop-less
+    (λ c. search needs)
+    (λ c. search needs)
     loop-again
-    same-length
+    (λ c. search needs)
     returns)

@@ -5,18 +5,6 @@ use Rattle.reads.proofs.Answers.{padded-is}
 use Rattle.reads.proofs.steps.read_padded.Statement.{statement}
 use Rattle.reads.proofs.steps.read_padded.Tie as tie
 
-sub-read-into : tie.Need-sub-read-into
-sub-read-into c = search needs
-
-part-out-start : tie.Need-part-out-start
-part-out-start c = search needs
-
-part-out-end : tie.Need-part-out-end
-part-out-end c = search needs
-
-read-into-requires : tie.Need-read-into-requires
-read-into-requires c κs = search needs
-
 returns : tie.Need-returns
 returns c =
     let at-read-into = c .before in
@@ -26,4 +14,4 @@ returns c =
 
 pub read-padded-spec : {M : Type 1} → statement M
 read-padded-spec =
-    tie.close (tie.spec sub-read-into part-out-start part-out-end read-into-requires returns)
+    tie.close (tie.spec (λ c. search needs) (λ c. search needs) (λ c. search needs) (λ c κs. search needs) returns)

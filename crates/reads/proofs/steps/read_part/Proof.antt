@@ -12,15 +12,6 @@ slot-at-requires c κs =
     let m = mem (start .args .bytes .now) (start .args .keys .now) (start .args .order .now) (start .args .words .now) in
     find-asked m (start .pre .0)
 
-shared-slice-read-if1 : tie.Need-shared-slice-read-if1
-shared-slice-read-if1 c = search needs
-
-fill-requires : tie.Need-fill-requires
-fill-requires c κs = search needs
-
-same-length : tie.Need-same-length
-same-length c = search needs
-
 returns : tie.Need-returns
 returns c =
     let at-fill = c .before .before in
@@ -29,18 +20,6 @@ returns c =
     let start = at-slot-at .before .before .before .before .before .before in
     let m = mem (start .args .bytes .now) (start .args .keys .now) (start .args .order .now) (start .args .words .now) in
     part-none m (start .pre .0) (start .args .page) (start .args .a) (start .args .n) (at-slot-at .slot-at .result) (start .pre .1 .0) (at-slot-at .slot-at .ensures (start .args .bytes .now)) (start .args .to) _ _ (at-if1 .if1 .taken) (at-fill .fill .ensures)
-
-mul-copy : tie.Need-mul-copy
-mul-copy c = search needs
-
-add-copy : tie.Need-add-copy
-add-copy c = search needs
-
-copy-requires : tie.Need-copy-requires
-copy-requires c κs = search needs
-
-same-length-2 : tie.Need-same-length-2
-same-length-2 c = search needs
 
 returns-2 : tie.Need-returns-2
 returns-2 c =
@@ -56,12 +35,12 @@ read-part-spec =
     tie.close
     (tie.spec
     slot-at-requires
-    shared-slice-read-if1
-    fill-requires
-    same-length
+    (λ c. search needs)
+    (λ c κs. search needs)
+    (λ c. search needs)
     returns
-    mul-copy
-    add-copy
-    copy-requires
-    same-length-2
+    (λ c. search needs)
+    (λ c. search needs)
+    (λ c κs. search needs)
+    (λ c. search needs)
     returns-2)

@@ -8,9 +8,6 @@ use Rattle.bodies.proofs.WordBytes.{word-in-slots}
 use Rattle.reads.proofs.steps.read_word.Statement.{statement}
 use Rattle.reads.proofs.steps.read_word.Tie as tie
 
-shared-slice-read-c : tie.Need-shared-slice-read-c
-shared-slice-read-c c = search needs
-
 hinted-requires : tie.Need-hinted-requires
 hinted-requires c κs =
     let start = c .before .before .before .before .before in
@@ -22,9 +19,6 @@ hinted-last-requires c κs =
     let at-hinted = at-if1 .before in
     let start = at-hinted .before .before .before .before .before .before in
     (find-asked (mem (start .args .bytes .now) (start .args .keys .now) (start .args .order .now) (start .args .words .now)) (start .pre), at-hinted .hinted .ensures (at-if1 .if1 .taken))
-
-cast-word-in : tie.Need-cast-word-in
-cast-word-in c = search needs
 
 word-in-requires : tie.Need-word-in-requires
 word-in-requires c κs =
@@ -45,11 +39,5 @@ returns c =
     let start = at-hinted .before .before .before .before .before .before in
     at-word-in .word-in .ensures ∙ word-held (mem (start .args .bytes .now) (start .args .keys .now) (start .args .order .now) (start .args .words .now)) (start .pre) (start .args .page) (start .args .address) (at-hinted .hinted .result) (at-hinted-last .hinted-last .result) (omega (arith, start .fits .address)) (at-hinted .hinted .ensures (at-if1 .if1 .taken)) (at-hinted-last .hinted-last .ensures (at-if2 .if2 .taken)) (at-if1 .if1 .taken) (at-if2 .if2 .taken)
 
-search-word-requires : tie.Need-search-word-requires
-search-word-requires c κs = search needs
-
-returns-2 : tie.Need-returns-2
-returns-2 c = search needs
-
 pub read-word-spec : {M : Type 1} → statement M
-read-word-spec = tie.close (tie.spec shared-slice-read-c hinted-requires hinted-last-requires cast-word-in word-in-requires returns search-word-requires returns-2)
+read-word-spec = tie.close (tie.spec (λ c. search needs) hinted-requires hinted-last-requires (λ c. search needs) word-in-requires returns (λ c κs. search needs) (λ c. search needs))

@@ -9,38 +9,11 @@ use borrow.Author.Needs.{needs}
 use Rattle.reads.proofs.steps.search_word.Statement.{statement}
 use Rattle.reads.proofs.steps.search_word.Tie as tie
 
-slice-aggregate-read-part : tie.Need-slice-aggregate-read-part
-slice-aggregate-read-part c = search needs
-
-read-part-requires : tie.Need-read-part-requires
-read-part-requires c κs = search needs
-
 returns : tie.Need-returns
 returns c =
     let at-read-part = c .before in
     let start = at-read-part .before .before .before .before .before .before .before in
     put-whole (λ i. byteAt (mem (start .args .bytes .now) (start .args .keys .now) (start .args .order .now) (start .args .words .now)) (start .args .page) (start .args .address + i)) 32 _ (at-read-part .read-part .last .1 .1 .1 .1 .1 .1 .1 .0) (at-read-part .read-part .kept .1 .1 .1 .1 .1 .1 .1 .0) (at-read-part .read-part .ensures)
-
-sub-n : tie.Need-sub-n
-sub-n c = search needs
-
-slice-aggregate-read-part-2 : tie.Need-slice-aggregate-read-part-2
-slice-aggregate-read-part-2 c = search needs
-
-read-part-requires-2 : tie.Need-read-part-requires-2
-read-part-requires-2 c κs = search needs
-
-add-read-part : tie.Need-add-read-part
-add-read-part c = search needs
-
-sub-read-part : tie.Need-sub-read-part
-sub-read-part c = search needs
-
-slice-aggregate-read-part-3 : tie.Need-slice-aggregate-read-part-3
-slice-aggregate-read-part-3 c = search needs
-
-read-part-requires-3 : tie.Need-read-part-requires-3
-read-part-requires-3 c κs = search needs
 
 returns-2 : tie.Need-returns-2
 returns-2 c =
@@ -54,14 +27,14 @@ pub search-word-spec : {M : Type 1} → statement M
 search-word-spec =
     tie.close
     (tie.spec
-    slice-aggregate-read-part
-    read-part-requires
+    (λ c. search needs)
+    (λ c κs. search needs)
     returns
-    sub-n
-    slice-aggregate-read-part-2
-    read-part-requires-2
-    add-read-part
-    sub-read-part
-    slice-aggregate-read-part-3
-    read-part-requires-3
+    (λ c. search needs)
+    (λ c. search needs)
+    (λ c κs. search needs)
+    (λ c. search needs)
+    (λ c. search needs)
+    (λ c. search needs)
+    (λ c κs. search needs)
     returns-2)

@@ -5,20 +5,11 @@ use Rattle.reads.proofs.Bytes.{slot-near, slot-far}
 use Rattle.reads.proofs.steps.slot_at.Statement.{statement}
 use Rattle.reads.proofs.steps.slot_at.Tie as tie
 
-shared-slice-read-result : tie.Need-shared-slice-read-result
-shared-slice-read-result c = search needs
-
 returns : tie.Need-returns
 returns c =
     let at-if1 = c .before in
     let start = at-if1 .before .before .before .before in
     λ b. slot-far (mem b (start .args .keys .now) (start .args .order .now) (start .args .words .now)) (start .args .page) (start .args .k) (at-if1 .if1 .taken)
-
-cast-place-of : tie.Need-cast-place-of
-cast-place-of c = search needs
-
-place-of-requires : tie.Need-place-of-requires
-place-of-requires c κs = search needs
 
 returns-2 : tie.Need-returns-2
 returns-2 c =
@@ -29,4 +20,4 @@ returns-2 c =
 
 pub slot-at-spec : {M : Type 1} → statement M
 slot-at-spec =
-    tie.close (tie.spec shared-slice-read-result returns cast-place-of place-of-requires returns-2)
+    tie.close (tie.spec (λ c. search needs) returns (λ c. search needs) (λ c κs. search needs) returns-2)

@@ -20,15 +20,6 @@ loop-holds c =
     let start = c in
     (omega arith, refl, numeral-start 10 (start .args .number) (replicate 64 0) refl)
 
-sub-i : tie.Need-sub-i Inv-loop μ-loop
-sub-i c = search needs
-
-glyph-requires : tie.Need-glyph-requires Inv-loop μ-loop
-glyph-requires c κs = search needs
-
-array-write-text : tie.Need-array-write-text Inv-loop μ-loop
-array-write-text c = search needs
-
 returns : tie.Need-returns Inv-loop μ-loop
 returns c =
     let at-if1 = c in
@@ -40,9 +31,6 @@ returns c =
     let b = at-loop .loop .inv .1 in
     let z = at-if1 .if1 .taken in
     (numeral-ends 10 (at-loop .loop .n) (at-loop .loop .text) (at-loop .loop .i) (at-glyph .glyph .result) (omega arith) (omega arith) (at-glyph .glyph .ensures) (omega arith) (omega arith) ∙ sym (at-loop .loop .inv .2), omega arith, simp length-set b)
-
-loop-less : tie.Need-loop-less Inv-loop μ-loop
-loop-less c = search needs
 
 loop-again : tie.Need-loop-again Inv-loop μ-loop
 loop-again c =
@@ -69,10 +57,10 @@ decimal-numeral-spec =
     Inv-loop
     μ-loop
     loop-holds
-    sub-i
-    glyph-requires
-    array-write-text
+    (λ c. search needs)
+    (λ c κs. search needs)
+    (λ c. search needs)
     returns
-    loop-less
+    (λ c. search needs)
     loop-again
     returns-2)

@@ -22,24 +22,6 @@ loop-holds c =
     let start = c in
     (omega arith, refl, numeral-start 16 (value (start .args .word .limbs)) (replicate 64 0) refl)
 
-sub-i : tie.Need-sub-i Inv-loop μ-loop
-sub-i c = search needs
-
-low-digit-requires : tie.Need-low-digit-requires Inv-loop μ-loop
-low-digit-requires c κs = search needs
-
-glyph-requires : tie.Need-glyph-requires Inv-loop μ-loop
-glyph-requires c κs = search needs
-
-array-write-text : tie.Need-array-write-text Inv-loop μ-loop
-array-write-text c = search needs
-
-shortened-requires : tie.Need-shortened-requires Inv-loop μ-loop
-shortened-requires c κs = search needs
-
-is-zero-requires : tie.Need-is-zero-requires Inv-loop μ-loop
-is-zero-requires c κs = search needs
-
 returns : tie.Need-returns Inv-loop μ-loop
 returns c =
     let at-if1 = c in
@@ -57,9 +39,6 @@ returns c =
     let l : value (at-loop .loop .w .limbs) < 16 = omega arith in
     let r : value (at-loop .loop .w .limbs) % 16 ≡ value (at-loop .loop .w .limbs) = omega arith in
     (numeral-ends 16 (value (at-loop .loop .w .limbs)) (at-loop .loop .text) (at-loop .loop .i) (at-glyph .glyph .result) (omega arith) (omega arith) (at-glyph .glyph .ensures ∙ ap glyph (at-low-digit .low-digit .ensures .0)) l r ∙ sym (at-loop .loop .inv .2), omega arith, simp length-set b)
-
-loop-less : tie.Need-loop-less Inv-loop μ-loop
-loop-less c = search needs
 
 loop-again : tie.Need-loop-again Inv-loop μ-loop
 loop-again c =
@@ -91,13 +70,13 @@ hexadecimal-numeral-spec =
     Inv-loop
     μ-loop
     loop-holds
-    sub-i
-    low-digit-requires
-    glyph-requires
-    array-write-text
-    shortened-requires
-    is-zero-requires
+    (λ c. search needs)
+    (λ c κs. search needs)
+    (λ c κs. search needs)
+    (λ c. search needs)
+    (λ c κs. search needs)
+    (λ c κs. search needs)
     returns
-    loop-less
+    (λ c. search needs)
     loop-again
     returns-2)

@@ -10,18 +10,12 @@ use borrow.Author.Needs.{needs}
 use Rattle.trace.proofs.text.is_zero.Statement.{statement}
 use Rattle.trace.proofs.text.is_zero.Tie as tie
 
-array-read-if1 : tie.Need-array-read-if1
-array-read-if1 c = search needs
-
 returns : tie.Need-returns
 unfolding value
 returns c =
     let at-if1 = c in
     let start = at-if1 .before .before in
     let n = at-if1 .if1 .taken in not-zero _ (above-a 0 (omega arith) (getD (start .args .w .limbs) 0 0) (getD (start .args .w .limbs) 1 0) (getD (start .args .w .limbs) 2 0) (getD (start .args .w .limbs) 3 0) (omega arith))
-
-array-read-if2 : tie.Need-array-read-if2
-array-read-if2 c = search needs
 
 returns-2 : tie.Need-returns-2
 unfolding value
@@ -30,18 +24,12 @@ returns-2 c =
     let start = at-if2 .before .before .before in
     not-zero _ (above-b 0 (omega arith) (getD (start .args .w .limbs) 0 0) (getD (start .args .w .limbs) 1 0) (getD (start .args .w .limbs) 2 0) (getD (start .args .w .limbs) 3 0) (at-if2 .if2 .taken))
 
-array-read-if3 : tie.Need-array-read-if3
-array-read-if3 c = search needs
-
 returns-3 : tie.Need-returns-3
 unfolding value
 returns-3 c =
     let at-if3 = c in
     let start = at-if3 .before .before .before .before in
     not-zero _ (above-c 0 (omega arith) (getD (start .args .w .limbs) 0 0) (getD (start .args .w .limbs) 1 0) (getD (start .args .w .limbs) 2 0) (getD (start .args .w .limbs) 3 0) (at-if3 .if3 .taken))
-
-array-read-if4 : tie.Need-array-read-if4
-array-read-if4 c = search needs
 
 returns-4 : tie.Need-returns-4
 unfolding value
@@ -64,12 +52,12 @@ pub is-zero-spec : {M : Type 1} → statement M
 is-zero-spec =
     tie.close
     (tie.spec
-    array-read-if1
+    (λ c. search needs)
     returns
-    array-read-if2
+    (λ c. search needs)
     returns-2
-    array-read-if3
+    (λ c. search needs)
     returns-3
-    array-read-if4
+    (λ c. search needs)
     returns-4
     returns-5)

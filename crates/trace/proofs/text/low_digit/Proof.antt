@@ -6,12 +6,9 @@ use borrow.Author.Needs.{needs}
 use Rattle.trace.proofs.text.low_digit.Statement.{statement}
 use Rattle.trace.proofs.text.low_digit.Tie as tie
 
-array-read-result : tie.Need-array-read-result
-array-read-result c = search needs
-
 returns : tie.Need-returns
 unfolding value
 returns c = (low-of _ _, omega arith)
 
 pub low-digit-spec : {M : Type 1} → statement M
-low-digit-spec = tie.close (tie.spec array-read-result returns)
+low-digit-spec = tie.close (tie.spec (λ c. search needs) returns)

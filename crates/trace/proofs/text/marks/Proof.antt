@@ -3,13 +3,10 @@ use borrow.Author.Needs.{needs}
 use Rattle.trace.proofs.text.marks.Statement.{statement}
 use Rattle.trace.proofs.text.marks.Tie as tie
 
-plain-requires : tie.Need-plain-requires
-plain-requires c κs = search needs
-
 returns : tie.Need-returns
 returns c =
     let at-plain = c in
     rw (at-plain .plain .ensures .0, at-plain .plain .ensures .1, at-plain .plain .ensures .2)
 
 pub marks-spec : {M : Type 1} → statement M
-marks-spec = tie.close (tie.spec plain-requires returns)
+marks-spec = tie.close (tie.spec (λ c κs. search needs) returns)

@@ -2,8 +2,5 @@ use borrow.Author.Needs.{needs}
 use Rattle.trace.proofs.text.plain.Statement.{statement}
 use Rattle.trace.proofs.text.plain.Tie as tie
 
-returns : tie.Need-returns
-returns c = search needs
-
 pub plain-spec : {M : Type 1} → statement M
-plain-spec = tie.close (tie.spec returns)
+plain-spec = tie.close (tie.spec (λ c. search needs))

@@ -7,15 +7,6 @@ use borrow.Author.Needs.{needs}
 use Rattle.trace.proofs.text.put_decimal.Statement.{statement}
 use Rattle.trace.proofs.text.put_decimal.Tie as tie
 
-decimal-numeral-requires : tie.Need-decimal-numeral-requires
-decimal-numeral-requires c κs = search needs
-
-sub-put : tie.Need-sub-put
-sub-put c = search needs
-
-part-put-start : tie.Need-part-put-start
-part-put-start c = search needs
-
 part-put-end : tie.Need-part-put-end
 part-put-end c =
     let at-decimal-numeral = c .before .before .before in
@@ -26,9 +17,6 @@ put-requires c κs =
     let at-decimal-numeral = c .before .before .before .before in
     let start = at-decimal-numeral .before .before in
     omega (arith, start .pre, length-take (64 - at-decimal-numeral .decimal-numeral .result .from) (drop (at-decimal-numeral .decimal-numeral .result .from) (at-decimal-numeral .decimal-numeral .result .text)))
-
-same-length : tie.Need-same-length
-same-length c = search needs
 
 returns : tie.Need-returns
 returns c =
@@ -41,10 +29,10 @@ pub put-decimal-spec : {M : Type 1} → statement M
 put-decimal-spec =
     tie.close
     (tie.spec
-    decimal-numeral-requires
-    sub-put
-    part-put-start
+    (λ c κs. search needs)
+    (λ c. search needs)
+    (λ c. search needs)
     part-put-end
     put-requires
-    same-length
+    (λ c. search needs)
     returns)

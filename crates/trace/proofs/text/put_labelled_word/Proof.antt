@@ -4,18 +4,6 @@ use borrow.Author.Needs.{needs}
 use Rattle.trace.proofs.text.put_labelled_word.Statement.{statement}
 use Rattle.trace.proofs.text.put_labelled_word.Tie as tie
 
-slice-aggregate-put : tie.Need-slice-aggregate-put
-slice-aggregate-put c = search needs
-
-put-requires : tie.Need-put-requires
-put-requires c κs = search needs
-
-put-word-requires : tie.Need-put-word-requires
-put-word-requires c κs = search needs
-
-same-length : tie.Need-same-length
-same-length c = search needs
-
 returns : tie.Need-returns
 returns c =
     let at-put-word = c .before .before in
@@ -24,4 +12,4 @@ returns c =
 
 pub put-labelled-word-spec : {M : Type 1} → statement M
 put-labelled-word-spec =
-    tie.close (tie.spec slice-aggregate-put put-requires put-word-requires same-length returns)
+    tie.close (tie.spec (λ c. search needs) (λ c κs. search needs) (λ c κs. search needs) (λ c. search needs) returns)

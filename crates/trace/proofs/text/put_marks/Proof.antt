@@ -5,18 +5,6 @@ use borrow.Author.Needs.{needs}
 use Rattle.trace.proofs.text.put_marks.Statement.{statement}
 use Rattle.trace.proofs.text.put_marks.Tie as tie
 
-slice-aggregate-put : tie.Need-slice-aggregate-put
-slice-aggregate-put c = search needs
-
-put-requires : tie.Need-put-requires
-put-requires c κs = search needs
-
-put-decimal-requires : tie.Need-put-decimal-requires
-put-decimal-requires c κs = search needs
-
-slice-aggregate-put-2 : tie.Need-slice-aggregate-put-2
-slice-aggregate-put-2 c = search needs
-
 put-requires-2 : tie.Need-put-requires-2
 put-requires-2 c κs =
     let at-put-decimal = c .before .before .before .before in
@@ -32,9 +20,6 @@ put-decimal-requires-2 c κs =
     let start = at-put .before .before .before .before in
     let p = at-put .put .ensures .place in let q = at-put-decimal .put-decimal .ensures .place in let l = at-put .put .ensures .long in let m = at-put-decimal .put-decimal .ensures .long in let r = at-put2 .put2 .ensures .place in let n = at-put2 .put2 .ensures .long in omega (arith, numeral-length 10 64 (start .args .heap), start .pre)
 
-same-length : tie.Need-same-length
-same-length c = search needs
-
 returns : tie.Need-returns
 returns c =
     let at-put-decimal2 = c .before .before in
@@ -47,11 +32,11 @@ pub put-marks-spec : {M : Type 1} → statement M
 put-marks-spec =
     tie.close
     (tie.spec
-    slice-aggregate-put
-    put-requires
-    put-decimal-requires
-    slice-aggregate-put-2
+    (λ c. search needs)
+    (λ c κs. search needs)
+    (λ c κs. search needs)
+    (λ c. search needs)
     put-requires-2
     put-decimal-requires-2
-    same-length
+    (λ c. search needs)
     returns)

@@ -6,20 +6,11 @@ use borrow.Author.Needs.{needs}
 use Rattle.trace.proofs.text.put_reply.Statement.{statement}
 use Rattle.trace.proofs.text.put_reply.Tie as tie
 
-put-text-requires : tie.Need-put-text-requires
-put-text-requires c κs = search needs
-
-slice-aggregate-put : tie.Need-slice-aggregate-put
-slice-aggregate-put c = search needs
-
 put-requires : tie.Need-put-requires
 put-requires c κs =
     let at-put-text = c .before .before .before .before in
     let start = at-put-text .before .before .before in
     let p = at-put-text .put-text .ensures .place in let l = at-put-text .put-text .ensures .long in omega (arith, reply-length (replyOf (start .args .r)), start .pre)
-
-same-length : tie.Need-same-length
-same-length c = search needs
 
 returns : tie.Need-returns
 returns c =
@@ -29,4 +20,4 @@ returns c =
 
 pub put-reply-spec : {M : Type 1} → statement M
 put-reply-spec =
-    tie.close (tie.spec put-text-requires slice-aggregate-put put-requires same-length returns)
+    tie.close (tie.spec (λ c κs. search needs) (λ c. search needs) put-requires (λ c. search needs) returns)

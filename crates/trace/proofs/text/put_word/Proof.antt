@@ -8,15 +8,6 @@ use borrow.Author.Needs.{needs}
 use Rattle.trace.proofs.text.put_word.Statement.{statement}
 use Rattle.trace.proofs.text.put_word.Tie as tie
 
-hexadecimal-numeral-requires : tie.Need-hexadecimal-numeral-requires
-hexadecimal-numeral-requires c κs = search needs
-
-sub-put : tie.Need-sub-put
-sub-put c = search needs
-
-part-put-start : tie.Need-part-put-start
-part-put-start c = search needs
-
 part-put-end : tie.Need-part-put-end
 part-put-end c =
     let at-hexadecimal-numeral = c .before .before .before in
@@ -27,9 +18,6 @@ put-requires c κs =
     let at-hexadecimal-numeral = c .before .before .before .before in
     let start = at-hexadecimal-numeral .before .before in
     omega (arith, start .pre, length-take (64 - at-hexadecimal-numeral .hexadecimal-numeral .result .from) (drop (at-hexadecimal-numeral .hexadecimal-numeral .result .from) (at-hexadecimal-numeral .hexadecimal-numeral .result .text)))
-
-same-length : tie.Need-same-length
-same-length c = search needs
 
 returns : tie.Need-returns
 returns c =
@@ -42,10 +30,10 @@ pub put-word-spec : {M : Type 1} → statement M
 put-word-spec =
     tie.close
     (tie.spec
-    hexadecimal-numeral-requires
-    sub-put
-    part-put-start
+    (λ c κs. search needs)
+    (λ c. search needs)
+    (λ c. search needs)
     part-put-end
     put-requires
-    same-length
+    (λ c. search needs)
     returns)

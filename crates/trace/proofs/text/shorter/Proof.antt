@@ -6,20 +6,11 @@ use borrow.Author.Needs.{needs}
 use Rattle.trace.proofs.text.shorter.Statement.{statement}
 use Rattle.trace.proofs.text.shorter.Tie as tie
 
-mul-t8 : tie.Need-mul-t8
-mul-t8 c = search needs
-
 add-t9 : tie.Need-add-t9
 add-t9 c = omega (arith, c .fits .a)
 
-mul-t12 : tie.Need-mul-t12
-mul-t12 c = search needs
-
 add-t13 : tie.Need-add-t13
 add-t13 c = omega (arith, c .fits .b)
-
-mul-t16 : tie.Need-mul-t16
-mul-t16 c = search needs
 
 add-t17 : tie.Need-add-t17
 add-t17 c = omega (arith, c .fits .c)
@@ -31,4 +22,4 @@ returns c =
     numerals.shorter (start .args .a) (start .args .b) (start .args .c) (start .args .d)
 
 pub shorter-spec : {M : Type 1} → statement M
-shorter-spec = tie.close (tie.spec mul-t8 add-t9 mul-t12 add-t13 mul-t16 add-t17 returns)
+shorter-spec = tie.close (tie.spec (λ c. search needs) add-t9 (λ c. search needs) add-t13 (λ c. search needs) add-t17 returns)

@@ -2,8 +2,5 @@ use borrow.Author.Needs.{needs}
 use Rattle.trace.proofs.text.word.Statement.{statement}
 use Rattle.trace.proofs.text.word.Tie as tie
 
-returns : tie.Need-returns
-returns c = search needs
-
 pub word-spec : {M : Type 1} → statement M
-word-spec = tie.close (tie.spec returns)
+word-spec = tie.close (tie.spec (λ c. search needs))

@@ -7,9 +7,6 @@ use Rattle.writes.proofs.Chains.{contents-cleared, contents-unjournalle
 use Rattle.writes.proofs.steps.fill.Statement.{statement}
 use Rattle.writes.proofs.steps.fill.Tie as tie
 
-touched-requires : tie.Need-touched-requires
-touched-requires c κs = search needs
-
 cast-count : tie.Need-cast-count
 cast-count c =
     let at-touched = c in
@@ -29,18 +26,6 @@ write-from-requires c κs =
     let start = at-touched .before .before .before .before .before .before in
     plain-asks (mem (start .args .bytes .now) (start .args .keys .now) (start .args .order .now) (start .args .words .now)) (start .args .page) 0 (start .args .contents .now) 0 (at-touched .touched .result) (contents-cleared (mem (start .args .bytes .now) (start .args .keys .now) (start .args .order .now) (start .args .words .now)) (start .args .page) (length (start .args .contents .now)) (at-touched .touched .result) (omega (arith, start .fits .page)) (start .pre) (at-touched .touched .ensures)) (mem (start .args .bytes .now) (at-prepare .prepare .last .1 .0) (at-prepare .prepare .last .1 .1 .0) (at-prepare .prepare .last .1 .1 .1 .0)) (at-prepare .prepare .ensures)
 
-same-length : tie.Need-same-length
-same-length c = search needs
-
-same-length-2 : tie.Need-same-length-2
-same-length-2 c = search needs
-
-same-length-3 : tie.Need-same-length-3
-same-length-3 c = search needs
-
-same-length-4 : tie.Need-same-length-4
-same-length-4 c = search needs
-
 returns : tie.Need-returns
 returns c =
     let at-write-from = c .before .before in
@@ -50,4 +35,4 @@ returns c =
     plain-done (mem (start .args .bytes .now) (start .args .keys .now) (start .args .order .now) (start .args .words .now)) (start .args .page) 0 (start .args .contents .now) 0 (at-touched .touched .result) (contents-cleared (mem (start .args .bytes .now) (start .args .keys .now) (start .args .order .now) (start .args .words .now)) (start .args .page) (length (start .args .contents .now)) (at-touched .touched .result) (omega (arith, start .fits .page)) (start .pre) (at-touched .touched .ensures)) (mem (start .args .bytes .now) (at-prepare .prepare .last .1 .0) (at-prepare .prepare .last .1 .1 .0) (at-prepare .prepare .last .1 .1 .1 .0)) (at-prepare .prepare .ensures) [] (contents-unjournalled (mem (start .args .bytes .now) (start .args .keys .now) (start .args .order .now) (start .args .words .now)) (start .args .page) (length (start .args .contents .now)) (start .pre)) _ (at-write-from .write-from .ensures)
 
 pub fill-spec : {M : Type 1} → statement M
-fill-spec = tie.close (tie.spec touched-requires cast-count prepare-requires write-from-requires same-length same-length-2 same-length-3 same-length-4 returns)
+fill-spec = tie.close (tie.spec (λ c κs. search needs) cast-count prepare-requires write-from-requires (λ c. search needs) (λ c. search needs) (λ c. search needs) (λ c. search needs) returns)

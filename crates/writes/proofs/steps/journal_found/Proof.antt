@@ -20,12 +20,6 @@ note-found-requires c κs =
     let start = at-if1 .before .before .before .before .before .before in
     (note-asks (mem (start .args .bytes .now) (start .args .keys .now) (start .args .order .now) (start .args .words .now)) (start .args .page) (start .args .address) (omega (arith, start .fits .address)) (word-journal (mem (start .args .bytes .now) (start .args .keys .now) (start .args .order .now) (start .args .words .now)) (start .args .page) (start .args .address) (start .args .s) (start .args .t) (start .pre) (omega (arith, start .fits .address))) 0 (omega arith) (at-if1 .if1 .taken), word-slots (mem (start .args .bytes .now) (start .args .keys .now) (start .args .order .now) (start .args .words .now)) (start .args .page) (start .args .address) (start .args .s) (start .args .t) (start .pre) (omega (arith, start .fits .address)) 0 (at-if1 .if1 .taken))
 
-same-length : tie.Need-same-length
-same-length c = search needs
-
-same-length-2 : tie.Need-same-length-2
-same-length-2 c = search needs
-
 returns : tie.Need-returns
 returns c =
     let at-note-found = c .before .before .before .before in
@@ -44,12 +38,6 @@ note-found-requires-2 c κs =
     let start = at-if2 .before .before .before .before .before .before .before .before in
     (note-asks (mem (start .args .bytes .now) (start .args .keys .now) (start .args .order .now) (start .args .words .now)) (start .args .page) (start .args .address) (omega (arith, start .fits .address)) (word-journal (mem (start .args .bytes .now) (start .args .keys .now) (start .args .order .now) (start .args .words .now)) (start .args .page) (start .args .address) (start .args .s) (start .args .t) (start .pre) (omega (arith, start .fits .address))) 1 (omega arith) (at-if2 .if2 .taken), word-slots (mem (start .args .bytes .now) (start .args .keys .now) (start .args .order .now) (start .args .words .now)) (start .args .page) (start .args .address) (start .args .s) (start .args .t) (start .pre) (omega (arith, start .fits .address)) 1 (at-if2 .if2 .taken))
 
-same-length-3 : tie.Need-same-length-3
-same-length-3 c = search needs
-
-same-length-4 : tie.Need-same-length-4
-same-length-4 c = search needs
-
 returns-2 : tie.Need-returns-2
 returns-2 c =
     let at-note-found2 = c .before .before .before .before in
@@ -65,4 +53,4 @@ returns-3 c =
     journal-none (mem (start .args .bytes .now) (start .args .keys .now) (start .args .order .now) (start .args .words .now)) (start .args .page) (start .args .address) 32 1 (word-journal (mem (start .args .bytes .now) (start .args .keys .now) (start .args .order .now) (start .args .words .now)) (start .args .page) (start .args .address) (start .args .s) (start .args .t) (start .pre) (omega (arith, start .fits .address))) (λ q. wordNotes (viewOf (mem (start .args .bytes .now) (start .args .keys .now) (start .args .order .now) (start .args .words .now))) q (start .args .address)) (at-if1 .if1 .left) (at-if2 .if2 .left)
 
 pub journal-found-spec : {M : Type 1} → statement M
-journal-found-spec = tie.close (tie.spec slice-read-if1 note-found-requires same-length same-length-2 returns slice-read-if2 note-found-requires-2 same-length-3 same-length-4 returns-2 returns-3)
+journal-found-spec = tie.close (tie.spec slice-read-if1 note-found-requires (λ c. search needs) (λ c. search needs) returns slice-read-if2 note-found-requires-2 (λ c. search needs) (λ c. search needs) returns-2 returns-3)

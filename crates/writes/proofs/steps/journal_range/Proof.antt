@@ -31,12 +31,6 @@ note-aligned-requires c κs =
     let start = at-aligned .before .before .before .before .before in
     aligned-asks (mem (start .args .bytes .now) (start .args .keys .now) (start .args .order .now) (start .args .words .now)) (start .args .page) (start .args .start) (start .args .n) (start .pre .1) (start .pre .0) 0 (omega arith) (at-if1 .if1 .taken) (at-aligned .aligned .result) (at-aligned .aligned .ensures)
 
-same-length : tie.Need-same-length
-same-length c = search needs
-
-same-length-2 : tie.Need-same-length-2
-same-length-2 c = search needs
-
 returns : tie.Need-returns
 returns c =
     let at-note-aligned = c .before .before .before .before in
@@ -57,12 +51,6 @@ note-aligned-requires-2 c κs =
     let start = at-aligned .before .before .before .before .before in
     aligned-asks (mem (start .args .bytes .now) (start .args .keys .now) (start .args .order .now) (start .args .words .now)) (start .args .page) (start .args .start) (start .args .n) (start .pre .1) (start .pre .0) 1 (omega arith) (at-if2 .if2 .taken) (at-aligned .aligned .result) (at-aligned .aligned .ensures)
 
-same-length-3 : tie.Need-same-length-3
-same-length-3 c = search needs
-
-same-length-4 : tie.Need-same-length-4
-same-length-4 c = search needs
-
 returns-2 : tie.Need-returns-2
 returns-2 c =
     let at-note-aligned2 = c .before .before .before .before in
@@ -79,4 +67,4 @@ returns-3 c =
     journal-none (mem (start .args .bytes .now) (start .args .keys .now) (start .args .order .now) (start .args .words .now)) (start .args .page) (start .args .start) (start .args .n) (alignedCount (start .args .start) (start .args .n)) (start .pre .0) (λ q. alignedNotes (viewOf (mem (start .args .bytes .now) (start .args .keys .now) (start .args .order .now) (start .args .words .now))) q (start .args .start) (start .args .n)) (at-if1 .if1 .left) (at-if2 .if2 .left)
 
 pub journal-range-spec : {M : Type 1} → statement M
-journal-range-spec = tie.close (tie.spec aligned-requires cast-count slice-read-if1 note-aligned-requires same-length same-length-2 returns slice-read-if2 note-aligned-requires-2 same-length-3 same-length-4 returns-2 returns-3)
+journal-range-spec = tie.close (tie.spec aligned-requires cast-count slice-read-if1 note-aligned-requires (λ c. search needs) (λ c. search needs) returns slice-read-if2 note-aligned-requires-2 (λ c. search needs) (λ c. search needs) returns-2 returns-3)

@@ -15,15 +15,6 @@ hold-chunks-requires c κs =
     let start = at-list-page .before .before .before .before .before .before .before .before in
     hold-asks (mem (start .args .bytes .now) (start .args .keys .now) (start .args .order .now) (start .args .words .now)) (start .args .page) (start .args .first) (start .args .count) (start .pre) (mem (start .args .bytes .now) (at-list-page .list-page .last .1 .0) (at-list-page .list-page .last .1 .1 .0) (at-list-page .list-page .last .1 .1 .1 .0)) (at-list-page .list-page .ensures)
 
-same-length : tie.Need-same-length
-same-length c = search needs
-
-same-length-2 : tie.Need-same-length-2
-same-length-2 c = search needs
-
-same-length-3 : tie.Need-same-length-3
-same-length-3 c = search needs
-
 returns : tie.Need-returns
 returns c =
     let at-hold-chunks = c .before .before .before .before .before .before in
@@ -32,4 +23,4 @@ returns c =
     prepared (mem (start .args .bytes .now) (start .args .keys .now) (start .args .order .now) (start .args .words .now)) (start .args .page) (start .args .first) (start .args .count) (start .pre) (mem (start .args .bytes .now) (at-list-page .list-page .last .1 .0) (at-list-page .list-page .last .1 .1 .0) (at-list-page .list-page .last .1 .1 .1 .0)) (at-list-page .list-page .ensures) _ (at-hold-chunks .hold-chunks .ensures)
 
 pub prepare-spec : {M : Type 1} → statement M
-prepare-spec = tie.close (tie.spec list-page-requires hold-chunks-requires same-length same-length-2 same-length-3 returns)
+prepare-spec = tie.close (tie.spec list-page-requires hold-chunks-requires (λ c. search needs) (λ c. search needs) (λ c. search needs) returns)

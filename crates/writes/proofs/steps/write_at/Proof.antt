@@ -5,23 +5,11 @@ use Rattle.writes.proofs.Words.{word-places, word-done}
 use Rattle.writes.proofs.steps.write_at.Statement.{statement}
 use Rattle.writes.proofs.steps.write_at.Tie as tie
 
-journal-found-requires : tie.Need-journal-found-requires
-journal-found-requires c κs = search needs
-
-cast-put-word : tie.Need-cast-put-word
-cast-put-word c = search needs
-
 put-word-requires : tie.Need-put-word-requires
 put-word-requires c κs =
     let at-journal-found = c .before .before .before .before .before in
     let start = at-journal-found .before .before .before .before .before .before .before in
     word-places (mem (start .args .bytes .now) (start .args .keys .now) (start .args .order .now) (start .args .words .now)) (start .args .page) (start .args .address) (start .args .s) (start .args .t) (start .pre) (omega (arith, start .fits .address)) (at-journal-found .journal-found .last .0) (at-journal-found .journal-found .last .1 .1 .1 .0) (at-journal-found .journal-found .ensures)
-
-same-length : tie.Need-same-length
-same-length c = search needs
-
-same-length-2 : tie.Need-same-length-2
-same-length-2 c = search needs
 
 returns : tie.Need-returns
 returns c =
@@ -31,4 +19,4 @@ returns c =
     word-done (mem (start .args .bytes .now) (start .args .keys .now) (start .args .order .now) (start .args .words .now)) (start .args .page) (start .args .address) (start .args .s) (start .args .t) (start .pre) (omega (arith, start .fits .address)) (at-journal-found .journal-found .last .0) (at-journal-found .journal-found .last .1 .1 .1 .0) (at-journal-found .journal-found .ensures) (start .args .value) (start .good .1 .1 .1 .1 .1 .1 .1 .1 .0 .1 .0 .1) _ (at-put-word .put-word .kept .0) (at-put-word .put-word .ensures)
 
 pub write-at-spec : {M : Type 1} → statement M
-write-at-spec = tie.close (tie.spec journal-found-requires cast-put-word put-word-requires same-length same-length-2 returns)
+write-at-spec = tie.close (tie.spec (λ c κs. search needs) (λ c. search needs) put-word-requires (λ c. search needs) (λ c. search needs) returns)

@@ -6,16 +6,10 @@ use Rattle.writes.proofs.Found.{found-asks, found-written, found-left}
 use Rattle.writes.proofs.steps.write_found.Statement.{statement}
 use Rattle.writes.proofs.steps.write_found.Tie as tie
 
-slice-read-c : tie.Need-slice-read-c
-slice-read-c c = search needs
-
 hinted-requires : tie.Need-hinted-requires
 hinted-requires c κs =
     let start = c .before .before .before .before .before .before in
     find-asked (mem (start .args .bytes .now) (start .args .keys .now) (start .args .order .now) (start .args .words .now)) (start .pre .0)
-
-same-length : tie.Need-same-length
-same-length c = search needs
 
 returns : tie.Need-returns
 returns c =
@@ -28,9 +22,6 @@ hinted-last-requires c κs =
     let at-hinted = at-if1 .before in
     let start = at-hinted .before .before .before .before .before .before .before in
     (find-asked (mem (start .args .bytes .now) (start .args .keys .now) (start .args .order .now) (start .args .words .now)) (start .pre .0), at-hinted .hinted .ensures (at-if1 .if1 .left))
-
-same-length-2 : tie.Need-same-length-2
-same-length-2 c = search needs
 
 returns-2 : tie.Need-returns-2
 returns-2 c =
@@ -46,12 +37,6 @@ write-at-requires c κs =
     let start = at-hinted .before .before .before .before .before .before .before in
     found-asks (mem (start .args .bytes .now) (start .args .keys .now) (start .args .order .now) (start .args .words .now)) (start .args .page) (start .args .address) (omega (arith, start .fits .page)) (omega (arith, start .fits .address)) (start .pre) (at-hinted .hinted .result) (at-hinted-last .hinted-last .result) (at-if1 .if1 .left) (at-if2 .if2 .left) (at-hinted .hinted .ensures (at-if1 .if1 .left)) (at-hinted-last .hinted-last .ensures (at-if2 .if2 .left))
 
-same-length-3 : tie.Need-same-length-3
-same-length-3 c = search needs
-
-same-length-4 : tie.Need-same-length-4
-same-length-4 c = search needs
-
 returns-3 : tie.Need-returns-3
 returns-3 c =
     let at-write-at = c .before .before .before .before in
@@ -63,4 +48,4 @@ returns-3 c =
     found-written (mem (start .args .bytes .now) (start .args .keys .now) (start .args .order .now) (start .args .words .now)) (start .args .page) (start .args .address) (omega (arith, start .fits .page)) (omega (arith, start .fits .address)) (start .pre) (at-hinted .hinted .result) (at-hinted-last .hinted-last .result) (at-if1 .if1 .left) (at-if2 .if2 .left) (at-hinted .hinted .ensures (at-if1 .if1 .left)) (at-hinted-last .hinted-last .ensures (at-if2 .if2 .left)) (start .args .value) (start .good .1 .1 .1 .1 .1 .1 .0 .1 .0 .1) _ (at-write-at .write-at .ensures)
 
 pub write-found-spec : {M : Type 1} → statement M
-write-found-spec = tie.close (tie.spec slice-read-c hinted-requires same-length returns hinted-last-requires same-length-2 returns-2 write-at-requires same-length-3 same-length-4 returns-3)
+write-found-spec = tie.close (tie.spec (λ c. search needs) hinted-requires (λ c. search needs) returns hinted-last-requires (λ c. search needs) returns-2 write-at-requires (λ c. search needs) (λ c. search needs) returns-3)

@@ -24,15 +24,9 @@ write-at-requires c κs =
     let start = at-place-of .before .before .before .before .before .before in
     held-word (mem (start .args .bytes .now) (start .args .keys .now) (start .args .order .now) (start .args .words .now)) (start .args .page) (start .args .address) (at-place-of .place-of .result) (at-place-of-last .place-of-last .result) (omega (arith, start .fits .address)) (start .pre) (at-place-of .place-of .ensures) (at-place-of-last .place-of-last .ensures)
 
-same-length : tie.Need-same-length
-same-length c = search needs
-
-same-length-2 : tie.Need-same-length-2
-same-length-2 c = search needs
-
 returns : tie.Need-returns
 returns c =
     let at-write-at = c .before .before .before .before in at-write-at .write-at .ensures
 
 pub write-held-spec : {M : Type 1} → statement M
-write-held-spec = tie.close (tie.spec place-of-requires place-of-last-requires write-at-requires same-length same-length-2 returns)
+write-held-spec = tie.close (tie.spec place-of-requires place-of-last-requires write-at-requires (λ c. search needs) (λ c. search needs) returns)

@@ -33,18 +33,6 @@ write-held-requires c κs =
     let start = at-touched .before .before .before .before .before in
     journal-asks (mem (start .args .bytes .now) (start .args .keys .now) (start .args .order .now) (start .args .words .now)) (start .args .page) (start .args .address) 32 1 (at-touched .touched .result) (word-cleared (mem (start .args .bytes .now) (start .args .keys .now) (start .args .order .now) (start .args .words .now)) (start .args .page) (start .args .address) (at-touched .touched .result) (omega (arith, start .fits .page)) (omega (arith, start .fits .address)) (start .pre) (at-touched .touched .ensures) 32 refl) (mem (start .args .bytes .now) (at-prepare .prepare .last .1 .0) (at-prepare .prepare .last .1 .1 .0) (at-prepare .prepare .last .1 .1 .1 .0)) (at-prepare .prepare .ensures)
 
-same-length : tie.Need-same-length
-same-length c = search needs
-
-same-length-2 : tie.Need-same-length-2
-same-length-2 c = search needs
-
-same-length-3 : tie.Need-same-length-3
-same-length-3 c = search needs
-
-same-length-4 : tie.Need-same-length-4
-same-length-4 c = search needs
-
 returns : tie.Need-returns
 returns c =
     let at-write-held = c .before .before .before .before in
@@ -54,4 +42,4 @@ returns c =
     write-done (mem (start .args .bytes .now) (start .args .keys .now) (start .args .order .now) (start .args .words .now)) (start .args .page) (start .args .address) (start .args .value) 1 (at-touched .touched .result) (word-cleared (mem (start .args .bytes .now) (start .args .keys .now) (start .args .order .now) (start .args .words .now)) (start .args .page) (start .args .address) (at-touched .touched .result) (omega (arith, start .fits .page)) (omega (arith, start .fits .address)) (start .pre) (at-touched .touched .ensures) (length (start .args .value)) (start .good .1 .1 .1 .1 .1 .1 .0 .1 .0 .1)) (mem (start .args .bytes .now) (at-prepare .prepare .last .1 .0) (at-prepare .prepare .last .1 .1 .0) (at-prepare .prepare .last .1 .1 .1 .0)) (at-prepare .prepare .ensures) (λ (v : View). wordNotes v (start .args .page) (start .args .address)) (λ v w. word-notes-same v w (start .args .page) (start .args .address)) _ (at-write-held .write-held .ensures)
 
 pub write-new-spec : {M : Type 1} → statement M
-write-new-spec = tie.close (tie.spec touched-requires cast-count prepare-requires write-held-requires same-length same-length-2 same-length-3 same-length-4 returns)
+write-new-spec = tie.close (tie.spec touched-requires cast-count prepare-requires write-held-requires (λ c. search needs) (λ c. search needs) (λ c. search needs) (λ c. search needs) returns)

@@ -43,18 +43,6 @@ write-from-requires c κs =
     let start = at-touched .before .before .before .before .before .before in
     put-asks (mem (start .args .bytes .now) (start .args .keys .now) (start .args .order .now) (start .args .words .now)) (start .args .page) (start .args .start) (start .args .src .now) (alignedCount (start .args .start) (length (start .args .src .now))) (at-touched .touched .result) (bytes-cleared (mem (start .args .bytes .now) (start .args .keys .now) (start .args .order .now) (start .args .words .now)) (start .args .page) (start .args .start) (at-touched .touched .result) (omega (arith, start .fits .page)) (length (start .args .src .now)) (start .pre) (at-touched .touched .ensures)) (mem (start .args .bytes .now) (at-prepare .prepare .last .1 .0) (at-prepare .prepare .last .1 .1 .0) (at-prepare .prepare .last .1 .1 .1 .0)) (at-prepare .prepare .ensures) (λ (v : View). alignedNotes v (start .args .page) (start .args .start) (length (start .args .src .now))) (λ v w. aligned-notes-same v w (start .args .page) (start .args .start) (length (start .args .src .now))) (mem (at-journal-range .journal-range .last .0) (at-prepare .prepare .last .1 .0) (at-prepare .prepare .last .1 .1 .0) (at-journal-range .journal-range .last .1 .1 .1 .0)) (at-journal-range .journal-range .ensures)
 
-same-length : tie.Need-same-length
-same-length c = search needs
-
-same-length-2 : tie.Need-same-length-2
-same-length-2 c = search needs
-
-same-length-3 : tie.Need-same-length-3
-same-length-3 c = search needs
-
-same-length-4 : tie.Need-same-length-4
-same-length-4 c = search needs
-
 returns : tie.Need-returns
 returns c =
     let at-write-from = c .before .before in
@@ -65,4 +53,4 @@ returns c =
     write-done (mem (start .args .bytes .now) (start .args .keys .now) (start .args .order .now) (start .args .words .now)) (start .args .page) (start .args .start) (start .args .src .now) (alignedCount (start .args .start) (length (start .args .src .now))) (at-touched .touched .result) (bytes-cleared (mem (start .args .bytes .now) (start .args .keys .now) (start .args .order .now) (start .args .words .now)) (start .args .page) (start .args .start) (at-touched .touched .result) (omega (arith, start .fits .page)) (length (start .args .src .now)) (start .pre) (at-touched .touched .ensures)) (mem (start .args .bytes .now) (at-prepare .prepare .last .1 .0) (at-prepare .prepare .last .1 .1 .0) (at-prepare .prepare .last .1 .1 .1 .0)) (at-prepare .prepare .ensures) (λ (v : View). alignedNotes v (start .args .page) (start .args .start) (length (start .args .src .now))) (λ v w. aligned-notes-same v w (start .args .page) (start .args .start) (length (start .args .src .now))) _ (shows-then (putting (start .args .page) (start .args .start) (start .args .src .now)) (at-journal-range .journal-range .ensures) (at-write-from .write-from .ensures))
 
 pub write-range-spec : {M : Type 1} → statement M
-write-range-spec = tie.close (tie.spec touched-requires cast-count prepare-requires journal-range-requires write-from-requires same-length same-length-2 same-length-3 same-length-4 returns)
+write-range-spec = tie.close (tie.spec touched-requires cast-count prepare-requires journal-range-requires write-from-requires (λ c. search needs) (λ c. search needs) (λ c. search needs) (λ c. search needs) returns)

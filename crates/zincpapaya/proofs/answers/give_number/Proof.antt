@@ -17,12 +17,6 @@ returns-2 c =
     let start = at-if1 .before in
     gives-refused 1 (λ o. getD o 0 0) (start .args .out .now) _ (start .args .refusal) (at-if1 .if1 .left) (at-if2 .if2 .taken)
 
-slice-write-out : tie.Need-slice-write-out
-slice-write-out c = search needs
-
-same-length : tie.Need-same-length
-same-length c = search needs
-
 returns-3 : tie.Need-returns-3
 returns-3 c =
     let at-if2 = c in
@@ -31,4 +25,4 @@ returns-3 c =
     gives-value 1 (λ o. getD o 0 0) (start .args .out .now) (start .args .number) (start .args .refusal) _ (at-if1 .if1 .left) (at-if2 .if2 .left) (number-put (start .args .number) (start .args .out .now) (at-if1 .if1 .left))
 
 pub give-number-spec : {M : Type 1} → statement M
-give-number-spec = tie.close (tie.spec returns returns-2 slice-write-out same-length returns-3)
+give-number-spec = tie.close (tie.spec returns returns-2 (λ c. search needs) (λ c. search needs) returns-3)

@@ -17,15 +17,6 @@ returns-2 c =
     let start = at-if1 .before in
     gives-refused 2 pairIn (start .args .out .now) _ (start .args .refusal) (at-if1 .if1 .left) (at-if2 .if2 .taken)
 
-slice-write-out : tie.Need-slice-write-out
-slice-write-out c = search needs
-
-slice-write-out-2 : tie.Need-slice-write-out-2
-slice-write-out-2 c = search needs
-
-same-length : tie.Need-same-length
-same-length c = search needs
-
 returns-3 : tie.Need-returns-3
 returns-3 c =
     let at-if2 = c in
@@ -35,4 +26,4 @@ returns-3 c =
 
 pub give-pair-spec : {M : Type 1} → statement M
 give-pair-spec =
-    tie.close (tie.spec returns returns-2 slice-write-out slice-write-out-2 same-length returns-3)
+    tie.close (tie.spec returns returns-2 (λ c. search needs) (λ c. search needs) (λ c. search needs) returns-3)

@@ -19,28 +19,16 @@ returns-2 c =
     let start = at-if1 .before in
     gives-refused 4 value (start .args .out .now) _ (start .args .refusal) (at-if1 .if1 .left) (at-if2 .if2 .taken)
 
-array-read-out : tie.Need-array-read-out
-array-read-out c = search needs
-
 slice-write-out : tie.Need-slice-write-out
 slice-write-out c =
     let at-if1 = c .before .before in
     omega (arith, at-if1 .if1 .left)
 
-array-read-out-2 : tie.Need-array-read-out-2
-array-read-out-2 c = search needs
-
 slice-write-out-2 : tie.Need-slice-write-out-2
 slice-write-out-2 c = simp length-set (omega arith)
 
-array-read-out-3 : tie.Need-array-read-out-3
-array-read-out-3 c = search needs
-
 slice-write-out-3 : tie.Need-slice-write-out-3
 slice-write-out-3 c = simp length-set (omega arith)
-
-array-read-out-4 : tie.Need-array-read-out-4
-array-read-out-4 c = search needs
 
 slice-write-out-4 : tie.Need-slice-write-out-4
 slice-write-out-4 c = simp length-set (omega arith)
@@ -61,13 +49,13 @@ give-word-spec =
     (tie.spec
     returns
     returns-2
-    array-read-out
+    (λ c. search needs)
     slice-write-out
-    array-read-out-2
+    (λ c. search needs)
     slice-write-out-2
-    array-read-out-3
+    (λ c. search needs)
     slice-write-out-3
-    array-read-out-4
+    (λ c. search needs)
     slice-write-out-4
     same-length
     returns-3)

@@ -7,57 +7,24 @@ use borrow.Author.Needs.{needs}
 use Rattle.zincpapaya.proofs.arithmetic.group_of.Statement.{statement}
 use Rattle.zincpapaya.proofs.arithmetic.group_of.Tie as tie
 
-enum-known-page : tie.Need-enum-known-page
-enum-known-page c = search needs
-
-enum-told : tie.Need-enum-told
-enum-told c = search needs
-
-enum-told-2 : tie.Need-enum-told-2
-enum-told-2 c = search needs
-
-enum-told-3 : tie.Need-enum-told-3
-enum-told-3 c = search needs
-
-enum-told-4 : tie.Need-enum-told-4
-enum-told-4 c = search needs
-
-enum-told-5 : tie.Need-enum-told-5
-enum-told-5 c = search needs
-
 returns : tie.Need-returns
 returns c =
     let at-page = c .before in
     sym (ap (λ (p : DecodedPage). groupOf (pageOf p)) (at-page .page .given .1) ∙ group-is (at-page .page .given .0 .0) (at-page .page .given .0 .1 .0))
 
-returns-2 : tie.Need-returns-2
-returns-2 c = search needs
-
-returns-3 : tie.Need-returns-3
-returns-3 c = search needs
-
-returns-4 : tie.Need-returns-4
-returns-4 c = search needs
-
-returns-5 : tie.Need-returns-5
-returns-5 c = search needs
-
-returns-6 : tie.Need-returns-6
-returns-6 c = search needs
-
 pub group-of-spec : {M : Type 1} → statement M
 group-of-spec =
     tie.close
     (tie.spec
-    enum-known-page
-    enum-told
-    enum-told-2
-    enum-told-3
-    enum-told-4
-    enum-told-5
+    (λ c. search needs)
+    (λ c. search needs)
+    (λ c. search needs)
+    (λ c. search needs)
+    (λ c. search needs)
+    (λ c. search needs)
     returns
-    returns-2
-    returns-3
-    returns-4
-    returns-5
-    returns-6)
+    (λ c. search needs)
+    (λ c. search needs)
+    (λ c. search needs)
+    (λ c. search needs)
+    (λ c. search needs))

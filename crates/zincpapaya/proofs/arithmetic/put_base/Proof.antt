@@ -5,21 +5,6 @@ use borrow.Author.Needs.{needs}
 use Rattle.zincpapaya.proofs.arithmetic.put_base.Statement.{statement}
 use Rattle.zincpapaya.proofs.arithmetic.put_base.Tie as tie
 
-enum-known-answer : tie.Need-enum-known-answer
-enum-known-answer c = search needs
-
-enum-known-answer-2 : tie.Need-enum-known-answer-2
-enum-known-answer-2 c = search needs
-
-put-one-requires : tie.Need-put-one-requires
-put-one-requires c κs = search needs
-
-returns : tie.Need-returns
-returns c = search needs
-
-same-length : tie.Need-same-length
-same-length c = search needs
-
 returns-2 : tie.Need-returns-2
 returns-2 c =
     let at-put-one = c .before .before in
@@ -29,4 +14,4 @@ returns-2 c =
 pub put-base-spec : {M : Type 1} → statement M
 put-base-spec =
     tie.close
-    (tie.spec enum-known-answer enum-known-answer-2 put-one-requires returns same-length returns-2)
+    (tie.spec (λ c. search needs) (λ c. search needs) (λ c κs. search needs) (λ c. search needs) (λ c. search needs) returns-2)

@@ -9,26 +9,11 @@ use borrow.Author.Needs.{needs}
 use Rattle.zincpapaya.proofs.arithmetic.put_decoding.Statement.{statement}
 use Rattle.zincpapaya.proofs.arithmetic.put_decoding.Tie as tie
 
-enum-known-decoding : tie.Need-enum-known-decoding
-enum-known-decoding c = search needs
-
-enum-known-decoding-2 : tie.Need-enum-known-decoding-2
-enum-known-decoding-2 c = search needs
-
 kind-of-requires : tie.Need-kind-of-requires
 kind-of-requires c κs = tt
 
 group-of-requires : tie.Need-group-of-requires
 group-of-requires c κs = tt
-
-put-two-requires : tie.Need-put-two-requires
-put-two-requires c κs = search needs
-
-returns : tie.Need-returns
-returns c = search needs
-
-same-length : tie.Need-same-length
-same-length c = search needs
 
 returns-2 : tie.Need-returns-2
 returns-2 c =
@@ -42,11 +27,11 @@ pub put-decoding-spec : {M : Type 1} → statement M
 put-decoding-spec =
     tie.close
     (tie.spec
-    enum-known-decoding
-    enum-known-decoding-2
+    (λ c. search needs)
+    (λ c. search needs)
     kind-of-requires
     group-of-requires
-    put-two-requires
-    returns
-    same-length
+    (λ c κs. search needs)
+    (λ c. search needs)
+    (λ c. search needs)
     returns-2)

@@ -7,12 +7,6 @@ use Rattle.zincpapaya.proofs.arithmetic.put_one.Tie as tie
 wide-requires : tie.Need-wide-requires
 wide-requires c κs = tt
 
-slice-write-out : tie.Need-slice-write-out
-slice-write-out c = search needs
-
-same-length : tie.Need-same-length
-same-length c = search needs
-
 returns : tie.Need-returns
 returns c =
     let at-wide = c in
@@ -20,4 +14,4 @@ returns c =
     (refl, one-put (start .args .out .now) (start .pre) (at-wide .wide .ensures))
 
 pub put-one-spec : {M : Type 1} → statement M
-put-one-spec = tie.close (tie.spec wide-requires slice-write-out same-length returns)
+put-one-spec = tie.close (tie.spec wide-requires (λ c. search needs) (λ c. search needs) returns)

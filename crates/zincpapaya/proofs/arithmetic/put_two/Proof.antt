@@ -7,17 +7,8 @@ use Rattle.zincpapaya.proofs.arithmetic.put_two.Tie as tie
 wide-requires : tie.Need-wide-requires
 wide-requires c κs = tt
 
-slice-write-out : tie.Need-slice-write-out
-slice-write-out c = search needs
-
 wide-requires-2 : tie.Need-wide-requires-2
 wide-requires-2 c κs = tt
-
-slice-write-out-2 : tie.Need-slice-write-out-2
-slice-write-out-2 c = search needs
-
-same-length : tie.Need-same-length
-same-length c = search needs
 
 returns : tie.Need-returns
 returns c =
@@ -29,4 +20,4 @@ returns c =
 pub put-two-spec : {M : Type 1} → statement M
 put-two-spec =
     tie.close
-    (tie.spec wide-requires slice-write-out wide-requires-2 slice-write-out-2 same-length returns)
+    (tie.spec wide-requires (λ c. search needs) wide-requires-2 (λ c. search needs) (λ c. search needs) returns)

@@ -15,12 +15,6 @@ returns c =
 aux-heap-page-from-base-requires : tie.Need-aux-heap-page-from-base-requires
 aux-heap-page-from-base-requires c κs = tt
 
-put-page-requires : tie.Need-put-page-requires
-put-page-requires c κs = search needs
-
-same-length : tie.Need-same-length
-same-length c = search needs
-
 returns-2 : tie.Need-returns-2
 returns-2 c =
     let at-put-page = c .before .before in
@@ -32,4 +26,4 @@ returns-2 c =
 pub zp-aux-heap-page-from-base-spec : {M : Type 1} → statement M
 zp-aux-heap-page-from-base-spec =
     tie.close
-    (tie.spec returns aux-heap-page-from-base-requires put-page-requires same-length returns-2)
+    (tie.spec returns aux-heap-page-from-base-requires (λ c κs. search needs) (λ c. search needs) returns-2)

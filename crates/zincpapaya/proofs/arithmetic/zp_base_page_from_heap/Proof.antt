@@ -15,12 +15,6 @@ returns c =
 base-page-from-heap-requires : tie.Need-base-page-from-heap-requires
 base-page-from-heap-requires c κs = tt
 
-put-base-requires : tie.Need-put-base-requires
-put-base-requires c κs = search needs
-
-same-length : tie.Need-same-length
-same-length c = search needs
-
 returns-2 : tie.Need-returns-2
 returns-2 c =
     let at-put-base = c .before .before in
@@ -32,4 +26,4 @@ returns-2 c =
 pub zp-base-page-from-heap-spec : {M : Type 1} → statement M
 zp-base-page-from-heap-spec =
     tie.close
-    (tie.spec returns base-page-from-heap-requires put-base-requires same-length returns-2)
+    (tie.spec returns base-page-from-heap-requires (λ c κs. search needs) (λ c. search needs) returns-2)

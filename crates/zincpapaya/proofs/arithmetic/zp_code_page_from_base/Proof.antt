@@ -15,12 +15,6 @@ returns c =
 code-page-from-base-requires : tie.Need-code-page-from-base-requires
 code-page-from-base-requires c κs = tt
 
-put-one-requires : tie.Need-put-one-requires
-put-one-requires c κs = search needs
-
-same-length : tie.Need-same-length
-same-length c = search needs
-
 returns-2 : tie.Need-returns-2
 returns-2 c =
     let at-put-one = c .before .before in
@@ -32,4 +26,4 @@ returns-2 c =
 pub zp-code-page-from-base-spec : {M : Type 1} → statement M
 zp-code-page-from-base-spec =
     tie.close
-    (tie.spec returns code-page-from-base-requires put-one-requires same-length returns-2)
+    (tie.spec returns code-page-from-base-requires (λ c κs. search needs) (λ c. search needs) returns-2)

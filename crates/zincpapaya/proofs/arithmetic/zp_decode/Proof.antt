@@ -21,12 +21,6 @@ layout-of-requires c κs = tt
 decode-requires : tie.Need-decode-requires
 decode-requires c κs = tt
 
-put-decoding-requires : tie.Need-put-decoding-requires
-put-decoding-requires c κs = search needs
-
-same-length : tie.Need-same-length
-same-length c = search needs
-
 returns-2 : tie.Need-returns-2
 returns-2 c =
     let at-put-decoding = c .before .before in
@@ -43,6 +37,6 @@ zp-decode-spec =
     returns
     layout-of-requires
     decode-requires
-    put-decoding-requires
-    same-length
+    (λ c κs. search needs)
+    (λ c. search needs)
     returns-2)

@@ -26,20 +26,11 @@ from-u256-requires c κs = tt
 wide-requires : tie.Need-wide-requires
 wide-requires c κs = tt
 
-slice-write-out : tie.Need-slice-write-out
-slice-write-out c = search needs
-
 wide-requires-2 : tie.Need-wide-requires-2
 wide-requires-2 c κs = tt
 
-slice-write-out-2 : tie.Need-slice-write-out-2
-slice-write-out-2 c = search needs
-
 wide-requires-3 : tie.Need-wide-requires-3
 wide-requires-3 c κs = tt
-
-slice-write-out-3 : tie.Need-slice-write-out-3
-slice-write-out-3 c = search needs
 
 wide-requires-4 : tie.Need-wide-requires-4
 wide-requires-4 c κs = tt
@@ -48,9 +39,6 @@ slice-write-out-4 : tie.Need-slice-write-out-4
 slice-write-out-4 c =
     let at-if1 = c .before .before .before .before .before .before in
     simp length-set (omega (arith, at-if1 .if1 .left))
-
-same-length : tie.Need-same-length
-same-length c = search needs
 
 returns-2 : tie.Need-returns-2
 returns-2 c =
@@ -72,12 +60,12 @@ zp-fat-pointer-from-u256-spec =
     word-of-requires
     from-u256-requires
     wide-requires
-    slice-write-out
+    (λ c. search needs)
     wide-requires-2
-    slice-write-out-2
+    (λ c. search needs)
     wide-requires-3
-    slice-write-out-3
+    (λ c. search needs)
     wide-requires-4
     slice-write-out-4
-    same-length
+    (λ c. search needs)
     returns-2)

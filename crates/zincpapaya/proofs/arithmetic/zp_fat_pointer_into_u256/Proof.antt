@@ -18,12 +18,6 @@ returns c =
 into-u256-requires : tie.Need-into-u256-requires
 into-u256-requires c κs = tt
 
-put-word-requires : tie.Need-put-word-requires
-put-word-requires c κs = search needs
-
-same-length : tie.Need-same-length
-same-length c = search needs
-
 returns-2 : tie.Need-returns-2
 returns-2 c =
     let at-put-word = c .before .before in
@@ -34,4 +28,4 @@ returns-2 c =
 
 pub zp-fat-pointer-into-u256-spec : {M : Type 1} → statement M
 zp-fat-pointer-into-u256-spec =
-    tie.close (tie.spec returns into-u256-requires put-word-requires same-length returns-2)
+    tie.close (tie.spec returns into-u256-requires (λ c κs. search needs) (λ c. search needs) returns-2)

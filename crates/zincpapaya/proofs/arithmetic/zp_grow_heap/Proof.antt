@@ -18,29 +18,14 @@ returns-2 c =
     let start = at-if2 .before .before .before .before in
     grow-unfit (start .args .frame .now) (start .args .out .now) (frameGrown (frameOf (start .args .frame .now)) (areaOf (start .args .aux)) (start .args .new-bound)) (λ h. at-if2 .if2 .taken (h .1))
 
-frame-of-requires : tie.Need-frame-of-requires
-frame-of-requires c κs = search needs
-
 area-of-requires : tie.Need-area-of-requires
 area-of-requires c κs = tt
 
 grow-frame-requires : tie.Need-grow-frame-requires
 grow-frame-requires c κs = tt
 
-put-growth-requires : tie.Need-put-growth-requires
-put-growth-requires c κs = search needs
-
 bit-requires : tie.Need-bit-requires
 bit-requires c κs = tt
-
-put-one-requires : tie.Need-put-one-requires
-put-one-requires c κs = search needs
-
-same-length : tie.Need-same-length
-same-length c = search needs
-
-same-length-2 : tie.Need-same-length-2
-same-length-2 c = search needs
 
 returns-3 : tie.Need-returns-3
 returns-3 c =
@@ -61,12 +46,12 @@ zp-grow-heap-spec =
     (tie.spec
     returns
     returns-2
-    frame-of-requires
+    (λ c κs. search needs)
     area-of-requires
     grow-frame-requires
-    put-growth-requires
+    (λ c κs. search needs)
     bit-requires
-    put-one-requires
-    same-length
-    same-length-2
+    (λ c κs. search needs)
+    (λ c. search needs)
+    (λ c. search needs)
     returns-3)

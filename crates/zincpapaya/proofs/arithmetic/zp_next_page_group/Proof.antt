@@ -15,12 +15,6 @@ returns c =
 next-page-group-requires : tie.Need-next-page-group-requires
 next-page-group-requires c κs = tt
 
-put-base-requires : tie.Need-put-base-requires
-put-base-requires c κs = search needs
-
-same-length : tie.Need-same-length
-same-length c = search needs
-
 returns-2 : tie.Need-returns-2
 returns-2 c =
     let at-put-base = c .before .before in
@@ -31,4 +25,4 @@ returns-2 c =
 
 pub zp-next-page-group-spec : {M : Type 1} → statement M
 zp-next-page-group-spec =
-    tie.close (tie.spec returns next-page-group-requires put-base-requires same-length returns-2)
+    tie.close (tie.spec returns next-page-group-requires (λ c κs. search needs) (λ c. search needs) returns-2)

@@ -16,12 +16,6 @@ returns c =
 quote-requires : tie.Need-quote-requires
 quote-requires c κs = tt
 
-put-quoted-requires : tie.Need-put-quoted-requires
-put-quoted-requires c κs = search needs
-
-same-length : tie.Need-same-length
-same-length c = search needs
-
 returns-2 : tie.Need-returns-2
 returns-2 c =
     let at-put-quoted = c .before .before in
@@ -32,4 +26,4 @@ returns-2 c =
 
 pub zp-quote-spec : {M : Type 1} → statement M
 zp-quote-spec =
-    tie.close (tie.spec returns quote-requires put-quoted-requires same-length returns-2)
+    tie.close (tie.spec returns quote-requires (λ c κs. search needs) (λ c. search needs) returns-2)

@@ -20,12 +20,6 @@ use-gas-requires c κs = tt
 bit-requires : tie.Need-bit-requires
 bit-requires c κs = tt
 
-put-two-requires : tie.Need-put-two-requires
-put-two-requires c κs = search needs
-
-same-length : tie.Need-same-length
-same-length c = search needs
-
 returns-2 : tie.Need-returns-2
 returns-2 c =
     let at-put-two = c .before .before in
@@ -38,4 +32,4 @@ returns-2 c =
 pub zp-use-gas-spec : {M : Type 1} → statement M
 zp-use-gas-spec =
     tie.close
-    (tie.spec returns use-gas-requires bit-requires put-two-requires same-length returns-2)
+    (tie.spec returns use-gas-requires bit-requires (λ c κs. search needs) (λ c. search needs) returns-2)

@@ -5,20 +5,11 @@ use borrow.Author.Needs.{needs}
 use Rattle.zincpapaya.proofs.execute.put_given.Statement.{statement}
 use Rattle.zincpapaya.proofs.execute.put_given.Tie as tie
 
-put-word-requires : tie.Need-put-word-requires
-put-word-requires c κs = search needs
-
-put-word-requires-2 : tie.Need-put-word-requires-2
-put-word-requires-2 c κs = search needs
-
 bit-requires : tie.Need-bit-requires
 bit-requires c κs = tt
 
 wide-requires : tie.Need-wide-requires
 wide-requires c κs = tt
-
-slice-write-out : tie.Need-slice-write-out
-slice-write-out c = search needs
 
 wide-requires-2 : tie.Need-wide-requires-2
 wide-requires-2 c κs = tt
@@ -43,11 +34,11 @@ pub put-given-spec : {M : Type 1} → statement M
 put-given-spec =
     tie.close
     (tie.spec
-    put-word-requires
-    put-word-requires-2
+    (λ c κs. search needs)
+    (λ c κs. search needs)
     bit-requires
     wide-requires
-    slice-write-out
+    (λ c. search needs)
     wide-requires-2
     slice-write-out-2
     same-length

@@ -18,9 +18,6 @@ returns-2 c =
     let start = at-if2 .before .before .before .before .before .before .before .before in
     unfit (mem (start .args .bytes .now) (start .args .keys .now) (start .args .order .now) (start .args .words .now)) (Load (areaOf (start .args .aux)) (frameOf (start .args .frame .now)) (operandOf (start .args .x0) (start .args .x1) (start .args .x2) (start .args .x3) (start .args .tagged))) (start .args .frame .now) (start .args .out .now) (λ h. at-if2 .if2 .taken (h .1))
 
-frame-of-requires : tie.Need-frame-of-requires
-frame-of-requires c κs = search needs
-
 operand-of-requires : tie.Need-operand-of-requires
 operand-of-requires c κs = tt
 
@@ -29,15 +26,6 @@ area-of-requires c κs = tt
 
 load-requires : tie.Need-load-requires
 load-requires c κs = tt
-
-tell-requires : tie.Need-tell-requires
-tell-requires c κs = search needs
-
-same-length : tie.Need-same-length
-same-length c = search needs
-
-same-length-2 : tie.Need-same-length-2
-same-length-2 c = search needs
 
 returns-3 : tie.Need-returns-3
 returns-3 c =
@@ -57,11 +45,11 @@ zp-load-spec =
     (tie.spec
     returns
     returns-2
-    frame-of-requires
+    (λ c κs. search needs)
     operand-of-requires
     area-of-requires
     load-requires
-    tell-requires
-    same-length
-    same-length-2
+    (λ c κs. search needs)
+    (λ c. search needs)
+    (λ c. search needs)
     returns-3)

@@ -18,23 +18,11 @@ returns-2 c =
     let start = at-if2 .before .before .before .before .before .before .before .before in
     unfit (mem (start .args .bytes .now) (start .args .keys .now) (start .args .order .now) (start .args .words .now)) (LoadStatic (frameOf (start .args .frame .now)) (operandOf (start .args .x0) (start .args .x1) (start .args .x2) (start .args .x3) (start .args .tagged))) (start .args .frame .now) (start .args .out .now) (λ h. at-if2 .if2 .taken (h .1))
 
-frame-of-requires : tie.Need-frame-of-requires
-frame-of-requires c κs = search needs
-
 operand-of-requires : tie.Need-operand-of-requires
 operand-of-requires c κs = tt
 
 load-static-requires : tie.Need-load-static-requires
 load-static-requires c κs = tt
-
-tell-requires : tie.Need-tell-requires
-tell-requires c κs = search needs
-
-same-length : tie.Need-same-length
-same-length c = search needs
-
-same-length-2 : tie.Need-same-length-2
-same-length-2 c = search needs
 
 returns-3 : tie.Need-returns-3
 returns-3 c =
@@ -53,10 +41,10 @@ zp-load-static-spec =
     (tie.spec
     returns
     returns-2
-    frame-of-requires
+    (λ c κs. search needs)
     operand-of-requires
     load-static-requires
-    tell-requires
-    same-length
-    same-length-2
+    (λ c κs. search needs)
+    (λ c. search needs)
+    (λ c. search needs)
     returns-3)

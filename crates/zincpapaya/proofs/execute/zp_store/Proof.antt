@@ -19,9 +19,6 @@ returns-2 c =
     let start = at-if2 .before .before .before .before .before .before .before .before in
     unfit (mem (start .args .bytes .now) (start .args .keys .now) (start .args .order .now) (start .args .words .now)) (Store (areaOf (start .args .aux)) (frameOf (start .args .frame .now)) (operandOf (start .args .x0) (start .args .x1) (start .args .x2) (start .args .x3) (start .args .tagged)) (limbsValue (start .args .limb0) (start .args .limb1) (start .args .limb2) (start .args .limb3)) (hookOf (start .args .hook) (start .args .hook-address))) (start .args .frame .now) (start .args .out .now) (λ h. at-if2 .if2 .taken (h .1))
 
-frame-of-requires : tie.Need-frame-of-requires
-frame-of-requires c κs = search needs
-
 operand-of-requires : tie.Need-operand-of-requires
 operand-of-requires c κs = tt
 
@@ -43,24 +40,6 @@ tell-requires c κs =
     let at-if1 = at-if2 .before in
     (at-if1 .if1 .left, at-if2 .if2 .left)
 
-same-length : tie.Need-same-length
-same-length c = search needs
-
-same-length-2 : tie.Need-same-length-2
-same-length-2 c = search needs
-
-same-length-3 : tie.Need-same-length-3
-same-length-3 c = search needs
-
-same-length-4 : tie.Need-same-length-4
-same-length-4 c = search needs
-
-same-length-5 : tie.Need-same-length-5
-same-length-5 c = search needs
-
-same-length-6 : tie.Need-same-length-6
-same-length-6 c = search needs
-
 returns-3 : tie.Need-returns-3
 returns-3 c =
     let at-tell = c .before .before .before .before in
@@ -81,17 +60,17 @@ zp-store-spec =
     (tie.spec
     returns
     returns-2
-    frame-of-requires
+    (λ c κs. search needs)
     operand-of-requires
     area-of-requires
     word-of-requires
     hook-of-requires
     store-requires
     tell-requires
-    same-length
-    same-length-2
-    same-length-3
-    same-length-4
-    same-length-5
-    same-length-6
+    (λ c. search needs)
+    (λ c. search needs)
+    (λ c. search needs)
+    (λ c. search needs)
+    (λ c. search needs)
+    (λ c. search needs)
     returns-3)

@@ -5,18 +5,6 @@ use borrow.Author.Needs.{needs}
 use Rattle.zincpapaya.proofs.frames.put_frame.Statement.{statement}
 use Rattle.zincpapaya.proofs.frames.put_frame.Tie as tie
 
-slice-write-frame : tie.Need-slice-write-frame
-slice-write-frame c = search needs
-
-slice-write-frame-2 : tie.Need-slice-write-frame-2
-slice-write-frame-2 c = search needs
-
-slice-write-frame-3 : tie.Need-slice-write-frame-3
-slice-write-frame-3 c = search needs
-
-slice-write-frame-4 : tie.Need-slice-write-frame-4
-slice-write-frame-4 c = search needs
-
 slice-write-frame-5 : tie.Need-slice-write-frame-5
 slice-write-frame-5 c =
     let start = c .before in
@@ -30,9 +18,6 @@ slice-write-frame-6 c =
     let start = c .before .before in
     simp length-set (omega (arith, start .pre))
 
-same-length : tie.Need-same-length
-same-length c = search needs
-
 returns : tie.Need-returns
 returns c =
     let at-bit = c in
@@ -43,12 +28,12 @@ pub put-frame-spec : {M : Type 1} → statement M
 put-frame-spec =
     tie.close
     (tie.spec
-    slice-write-frame
-    slice-write-frame-2
-    slice-write-frame-3
-    slice-write-frame-4
+    (λ c. search needs)
+    (λ c. search needs)
+    (λ c. search needs)
+    (λ c. search needs)
     slice-write-frame-5
     bit-requires
     slice-write-frame-6
-    same-length
+    (λ c. search needs)
     returns)

@@ -12,12 +12,6 @@ returns c =
     let start = at-if1 .before .before .before .before .before .before .before in
     gives-unfit 256 bytes (start .args .output .now) _ (at-if1 .if1 .taken)
 
-chunk-check-requires : tie.Need-chunk-check-requires
-chunk-check-requires c κs = search needs
-
-status-requires : tie.Need-status-requires
-status-requires c κs = search needs
-
 returns-2 : tie.Need-returns-2
 returns-2 c =
     let at-if2 = c in
@@ -45,9 +39,6 @@ copy-requires c κs =
     let start = at-if1 .before .before .before .before .before .before .before in
     chunk-fits (mem (start .args .bytes .now) (start .args .keys .now) (start .args .order .now) (start .args .words .now)) (start .args .page) (start .args .number) (start .args .block .now) (start .args .output .now) (at-chunk-check .chunk-check .result) (at-status .status .result) (at-if1 .if1 .left) (at-status .status .ensures) (at-chunk-check .chunk-check .ensures) (at-chunk-of .chunk-of .ensures)
 
-same-length : tie.Need-same-length
-same-length c = search needs
-
 returns-3 : tie.Need-returns-3
 returns-3 c =
     let at-copy = c .before .before in
@@ -64,10 +55,10 @@ zp-chunk-spec =
     tie.close
     (tie.spec
     returns
-    chunk-check-requires
-    status-requires
+    (λ c κs. search needs)
+    (λ c κs. search needs)
     returns-2
     chunk-of-requires
     copy-requires
-    same-length
+    (λ c. search needs)
     returns-3)

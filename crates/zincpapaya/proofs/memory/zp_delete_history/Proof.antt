@@ -5,15 +5,6 @@ use borrow.Author.Needs.{needs}
 use Rattle.zincpapaya.proofs.memory.zp_delete_history.Statement.{statement}
 use Rattle.zincpapaya.proofs.memory.zp_delete_history.Tie as tie
 
-delete-history-requires : tie.Need-delete-history-requires
-delete-history-requires c κs = search needs
-
-status-requires : tie.Need-status-requires
-status-requires c κs = search needs
-
-same-length : tie.Need-same-length
-same-length c = search needs
-
 returns : tie.Need-returns
 returns c =
     let at-status = c in
@@ -23,4 +14,4 @@ returns c =
 
 pub zp-delete-history-spec : {M : Type 1} → statement M
 zp-delete-history-spec =
-    tie.close (tie.spec delete-history-requires status-requires same-length returns)
+    tie.close (tie.spec (λ c κs. search needs) (λ c κs. search needs) (λ c. search needs) returns)

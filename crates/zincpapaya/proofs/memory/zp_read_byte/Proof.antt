@@ -6,18 +6,6 @@ use borrow.Author.Needs.{needs}
 use Rattle.zincpapaya.proofs.memory.zp_read_byte.Statement.{statement}
 use Rattle.zincpapaya.proofs.memory.zp_read_byte.Tie as tie
 
-read-byte-requires : tie.Need-read-byte-requires
-read-byte-requires c κs = search needs
-
-cast-give-number : tie.Need-cast-give-number
-cast-give-number c = search needs
-
-give-number-requires : tie.Need-give-number-requires
-give-number-requires c κs = search needs
-
-same-length : tie.Need-same-length
-same-length c = search needs
-
 returns : tie.Need-returns
 returns c =
     let at-give-number = c .before .before in
@@ -28,4 +16,4 @@ returns c =
 pub zp-read-byte-spec : {M : Type 1} → statement M
 zp-read-byte-spec =
     tie.close
-    (tie.spec read-byte-requires cast-give-number give-number-requires same-length returns)
+    (tie.spec (λ c κs. search needs) (λ c. search needs) (λ c κs. search needs) (λ c. search needs) returns)

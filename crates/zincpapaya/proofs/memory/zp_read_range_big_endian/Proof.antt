@@ -4,15 +4,6 @@ use borrow.Author.Needs.{needs}
 use Rattle.zincpapaya.proofs.memory.zp_read_range_big_endian.Statement.{statement}
 use Rattle.zincpapaya.proofs.memory.zp_read_range_big_endian.Tie as tie
 
-read-range-big-endian-requires : tie.Need-read-range-big-endian-requires
-read-range-big-endian-requires c κs = search needs
-
-status-requires : tie.Need-status-requires
-status-requires c κs = search needs
-
-same-length : tie.Need-same-length
-same-length c = search needs
-
 returns : tie.Need-returns
 returns c =
     let at-status = c in
@@ -22,4 +13,4 @@ returns c =
 
 pub zp-read-range-big-endian-spec : {M : Type 1} → statement M
 zp-read-range-big-endian-spec =
-    tie.close (tie.spec read-range-big-endian-requires status-requires same-length returns)
+    tie.close (tie.spec (λ c κs. search needs) (λ c κs. search needs) (λ c. search needs) returns)

@@ -6,15 +6,6 @@ use borrow.Author.Needs.{needs}
 use Rattle.zincpapaya.proofs.memory.zp_read_u256.Statement.{statement}
 use Rattle.zincpapaya.proofs.memory.zp_read_u256.Tie as tie
 
-read-u256-requires : tie.Need-read-u256-requires
-read-u256-requires c κs = search needs
-
-give-word-requires : tie.Need-give-word-requires
-give-word-requires c κs = search needs
-
-same-length : tie.Need-same-length
-same-length c = search needs
-
 returns : tie.Need-returns
 returns c =
     let at-give-word = c .before .before in
@@ -23,4 +14,4 @@ returns c =
     gives-as number (at-give-word .give-word .ensures) (word-call (mem (start .args .bytes .now) (start .args .keys .now) (start .args .order .now) (start .args .words .now)) (start .args .page) (start .args .address) _ (at-read-u256 .read-u256 .ensures .answer) .answer)
 
 pub zp-read-u256-spec : {M : Type 1} → statement M
-zp-read-u256-spec = tie.close (tie.spec read-u256-requires give-word-requires same-length returns)
+zp-read-u256-spec = tie.close (tie.spec (λ c κs. search needs) (λ c κs. search needs) (λ c. search needs) returns)

@@ -6,15 +6,6 @@ use borrow.Author.Needs.{needs}
 use Rattle.zincpapaya.proofs.memory.zp_read_u256_partially.Statement.{statement}
 use Rattle.zincpapaya.proofs.memory.zp_read_u256_partially.Tie as tie
 
-read-u256-partially-requires : tie.Need-read-u256-partially-requires
-read-u256-partially-requires c κs = search needs
-
-give-word-requires : tie.Need-give-word-requires
-give-word-requires c κs = search needs
-
-same-length : tie.Need-same-length
-same-length c = search needs
-
 returns : tie.Need-returns
 returns c =
     let at-give-word = c .before .before in
@@ -24,4 +15,4 @@ returns c =
 
 pub zp-read-u256-partially-spec : {M : Type 1} → statement M
 zp-read-u256-partially-spec =
-    tie.close (tie.spec read-u256-partially-requires give-word-requires same-length returns)
+    tie.close (tie.spec (λ c κs. search needs) (λ c κs. search needs) (λ c. search needs) returns)

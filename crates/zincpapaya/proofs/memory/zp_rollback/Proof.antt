@@ -5,18 +5,6 @@ use borrow.Author.Needs.{needs}
 use Rattle.zincpapaya.proofs.memory.zp_rollback.Statement.{statement}
 use Rattle.zincpapaya.proofs.memory.zp_rollback.Tie as tie
 
-rollback-requires : tie.Need-rollback-requires
-rollback-requires c κs = search needs
-
-status-requires : tie.Need-status-requires
-status-requires c κs = search needs
-
-same-length : tie.Need-same-length
-same-length c = search needs
-
-same-length-2 : tie.Need-same-length-2
-same-length-2 c = search needs
-
 returns : tie.Need-returns
 returns c =
     let at-status = c in
@@ -26,4 +14,4 @@ returns c =
 
 pub zp-rollback-spec : {M : Type 1} → statement M
 zp-rollback-spec =
-    tie.close (tie.spec rollback-requires status-requires same-length same-length-2 returns)
+    tie.close (tie.spec (λ c κs. search needs) (λ c κs. search needs) (λ c. search needs) (λ c. search needs) returns)

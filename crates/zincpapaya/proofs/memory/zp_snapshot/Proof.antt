@@ -6,21 +6,6 @@ use borrow.Author.Needs.{needs}
 use Rattle.zincpapaya.proofs.memory.zp_snapshot.Statement.{statement}
 use Rattle.zincpapaya.proofs.memory.zp_snapshot.Tie as tie
 
-snapshot-requires : tie.Need-snapshot-requires
-snapshot-requires c κs = search needs
-
-cast-give-pair : tie.Need-cast-give-pair
-cast-give-pair c = search needs
-
-cast-give-pair-2 : tie.Need-cast-give-pair-2
-cast-give-pair-2 c = search needs
-
-give-pair-requires : tie.Need-give-pair-requires
-give-pair-requires c κs = search needs
-
-same-length : tie.Need-same-length
-same-length c = search needs
-
 returns : tie.Need-returns
 returns c =
     let at-give-pair = c .before .before in
@@ -32,9 +17,9 @@ pub zp-snapshot-spec : {M : Type 1} → statement M
 zp-snapshot-spec =
     tie.close
     (tie.spec
-    snapshot-requires
-    cast-give-pair
-    cast-give-pair-2
-    give-pair-requires
-    same-length
+    (λ c κs. search needs)
+    (λ c. search needs)
+    (λ c. search needs)
+    (λ c κs. search needs)
+    (λ c. search needs)
     returns)

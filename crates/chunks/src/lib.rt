@@ -5,6 +5,7 @@ ghost use Rattle.formed.specs.Parts.{keyOf, entryOf};
 ghost use Rattle.view.specs.View.{settingOf, viewOf};
 ghost use Rattle.view.specs.Does.{Shows};
 ghost use Rattle.view.specs.Inner.{holding, HoldAsks};
+use store::head;
 
 // The page, which is allocated, holds the chunk, whose key is k. Where a hint knows its slot, nothing is left to do. The pages keep their entries.
 fn hold_chunk(
@@ -22,7 +23,7 @@ fn hold_chunk(
     ensures { λ _. ⌜ entries (mem (now (bytes .entry)) (now (keys .exit)) (now (order .exit)) (now (words .exit))) ≡ entries (mem (now (bytes .entry)) (now (keys .entry)) (now (order .entry)) (now (words .entry))) ⌝ }
 {
     let known = store::hinted(keys, order, words, page, chunk);
-    if known < words[6] as usize {
+    if known < words[head::CHUNKS] as usize {
         return;
     }
     let s = store::hold(keys, order, words, k);

@@ -13,6 +13,7 @@ ghost use Rattle.view.specs.Checks.{sameLayout};
 ghost use Rattle.view.specs.Calls.{comparisonOf};
 ghost use Rattle.compare.specs.Verdict.{told};
 ghost use Rattle.compare.specs.Covers.{covers};
+use store::head;
 
 pub enum Comparison {
     Equal,
@@ -76,11 +77,11 @@ fn covered(
     requires { ⌜ WellFormed (mem (now «right_bytes») (now «right_keys») (now «right_order») (now «right_words»)) ⌝ }
     ensures { λ r. ⌜ r ≡ covers (viewOf (mem (now («left_bytes» .entry)) (now («left_keys» .entry)) (now («left_order» .entry)) (now («left_words» .entry)))) (viewOf (mem (now («right_bytes» .entry)) (now («right_keys» .entry)) (now («right_order» .entry)) (now («right_words» .entry)))) ⌝ }
 {
-    let slots = left_words[6] as usize;
-    let pages = left_words[7] as usize + 4;
-    let held = left_words[9] as usize;
-    let right_slots = right_words[6] as usize;
-    let right_pages = right_words[7] as usize + 4;
+    let slots = left_words[head::CHUNKS] as usize;
+    let pages = left_words[head::PAGES] as usize + 4;
+    let held = left_words[head::HELD] as usize;
+    let right_slots = right_words[head::CHUNKS] as usize;
+    let right_pages = right_words[head::PAGES] as usize + 4;
     let mut equal = true;
     let mut i = 0;
     let mut e = 0;

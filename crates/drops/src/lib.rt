@@ -5,6 +5,7 @@ ghost use Rattle.view.specs.View.{settingOf, viewOf};
 ghost use Rattle.view.specs.Steps.{freed};
 ghost use Rattle.view.specs.Does.{Shows};
 ghost use Rattle.drops.specs.Drops.{dropping, unlisting, EntriesBut, PageAsks, DropAsks, UnlistAsks};
+use store::head;
 
 // Drops the chunks from lo up to, but without, hi of a dynamic page. Their keys follow each other.
 pub fn drop_chunks(
@@ -29,11 +30,11 @@ fn unlist_page(bytes: &[u8], keys: &mut [u64], order: &mut [u32], words: &mut [u
     requires { ⌜ UnlistAsks (mem (now bytes) (now keys) (now order) (now words)) page ⌝ }
     ensures { λ _. let m = mem (now (bytes .entry)) (now (keys .entry)) (now (order .entry)) (now (words .entry)) in let m' = mem (now (bytes .entry)) (now (keys .exit)) (now (order .exit)) (now (words .exit)) in ⌜ (Shows (settingOf m) (unlisting (settingOf m) page (viewOf m)) m') × EntriesBut page m m' ⌝ }
 {
-    let c = words[6] as usize;
-    let n = words[10] as usize;
+    let c = words[head::CHUNKS] as usize;
+    let n = words[head::ENTRIES] as usize;
     let r = index::rank_below(&keys[c..], &order[c..], n, page as u64 + 1);
     index::remove(&mut keys[c..], &mut order[c..], n, r, r + 1);
-    words[10] = (n - 1) as u64;
+    words[head::ENTRIES] = (n - 1) as u64;
 }
 
 // Frees a dynamic page: every chunk that it holds, and its entry.

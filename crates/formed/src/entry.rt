@@ -11,6 +11,7 @@ ghost use Rattle.formed.specs.Formed.{narrow, entryRight};
 use page_ids::DecodedPage;
 use page_ids::Layout;
 use page_ids::PageId;
+use store::head;
 
 // Whether a page is dynamic, of a group below n.
 fn page_ok(layout: Layout, n: u64, page: PageId) -> bool
@@ -40,7 +41,7 @@ fn entry_ok(entries: &[u64], words: &[u64], layout: Layout, e: usize) -> bool
     if 4294967296 < x {
         return false;
     }
-    page_ok(layout, words[11], PageId((x - 1) as u32))
+    page_ok(layout, words[head::DYNAMIC_LENGTH], PageId((x - 1) as u32))
 }
 
 // Whether every entry is right.

@@ -8,17 +8,18 @@ ghost use Rattle.formed.specs.Formed.{sized, narrow, headRight};
 use page_ids::BasePage;
 use page_ids::Layout;
 use page_ids::PageId;
+use store::head;
 
 // Whether the counts are within their bounds, and the buffers as long as the counts ask.
 pub fn sized_ok(bytes: &[u8], keys: &[u64], order: &[u32], words: &[u64]) -> bool
     ensures { λ r. ⌜ r ≡ sized (length (now (bytes .entry))) (length (now (keys .entry))) (length (now (order .entry))) (now (words .entry)) ⌝ }
 {
-    if words.len() < 16 {
+    if words.len() < head::LENGTH {
         return false;
     }
-    let c = words[6];
-    let p = words[7];
-    let j = words[8];
+    let c = words[head::CHUNKS];
+    let p = words[head::PAGES];
+    let j = words[head::JOURNAL_WORDS];
     if c < 1 {
         return false;
     }
@@ -54,25 +55,25 @@ pub fn narrow_ok(words: &[u64]) -> bool
     requires { ⌜ headLength ≤ length (now words) ⌝ }
     ensures { λ r. ⌜ r ≡ narrow (now (words .entry)) ⌝ }
 {
-    if 4294967295 < words[0] {
+    if 4294967295 < words[head::STATIC_MEMORY] {
         return false;
     }
-    if 4294967295 < words[1] {
+    if 4294967295 < words[head::CALLDATA] {
         return false;
     }
-    if 4294967295 < words[2] {
+    if 4294967295 < words[head::BOOTLOADER_HEAP] {
         return false;
     }
-    if 4294967295 < words[3] {
+    if 4294967295 < words[head::BOOTLOADER_AUX] {
         return false;
     }
-    if 4294967295 < words[4] {
+    if 4294967295 < words[head::BASE] {
         return false;
     }
-    if 4294967295 < words[5] {
+    if 4294967295 < words[head::STRIDE] {
         return false;
     }
-    if 4294967295 < words[11] {
+    if 4294967295 < words[head::DYNAMIC_LENGTH] {
         return false;
     }
     true
@@ -84,12 +85,12 @@ pub fn layout_of(words: &[u64]) -> Layout
     ensures { λ r. ⌜ r ≡ layoutOf (now (words .entry)) ⌝ }
 {
     Layout {
-        static_memory: PageId(words[0] as u32),
-        calldata: PageId(words[1] as u32),
-        bootloader_heap: PageId(words[2] as u32),
-        bootloader_aux: PageId(words[3] as u32),
-        base: BasePage(words[4] as u32),
-        stride: words[5] as u32,
+        static_memory: PageId(words[head::STATIC_MEMORY] as u32),
+        calldata: PageId(words[head::CALLDATA] as u32),
+        bootloader_heap: PageId(words[head::BOOTLOADER_HEAP] as u32),
+        bootloader_aux: PageId(words[head::BOOTLOADER_AUX] as u32),
+        base: BasePage(words[head::BASE] as u32),
+        stride: words[head::STRIDE] as u32,
     }
 }
 

@@ -8,6 +8,7 @@ ghost use Rattle.index.specs.Index.{all};
 ghost use Rattle.store.specs.Mem.{journalRoom};
 ghost use Rattle.formed.specs.Pages.{journalCount};
 ghost use Rattle.formed.specs.Formed.{noted, journalOf};
+use store::head;
 
 // Whether slot s holds the key k.
 fn holds(holders: &[u64], s: u64, k: u64) -> bool
@@ -67,8 +68,15 @@ pub fn journals_ok(holders: &[u64], words: &[u64]) -> bool
     requires { ⌜ (journalRoom (now words) ≤ 65536) × (length (now words) ≡ 16 + 6 * journalRoom (now words)) ⌝ }
     ensures { λ r. ⌜ r ≡ all (journalOf (now (holders .entry)) (now (words .entry))) journalCount ⌝ }
 {
-    let room = words[8] as usize;
-    if !journal_ok(holders, words, 16, room, words[12] as usize, 67108865) {
+    let room = words[head::JOURNAL_WORDS] as usize;
+    if !journal_ok(
+        holders,
+        words,
+        16,
+        room,
+        words[head::HEAP_JOURNAL] as usize,
+        67108865,
+    ) {
         return false;
     }
     journal_ok(
@@ -76,7 +84,7 @@ pub fn journals_ok(holders: &[u64], words: &[u64]) -> bool
         words,
         16 + 3 * room,
         room,
-        words[13] as usize,
+        words[head::AUX_JOURNAL] as usize,
         100663297,
     )
 }

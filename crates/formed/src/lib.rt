@@ -30,8 +30,14 @@ fn parts_ok(bytes: &[u8], keys: &[u64], order: &[u32], words: &[u64]) -> bool
     requires { ⌜ narrow (now words) ≡ true ⌝ }
     ensures { λ r. let m = mem (now (bytes .entry)) (now (keys .entry)) (now (order .entry)) (now (words .entry)) in ⌜ r ≡ ((indexed (holders m) (slotOrder m) (heldNow (now (words .entry))) && indexed (entries m) (pageOrder m) (inUse (now (words .entry)))) && contents m) ⌝ }
 {
-    let c = words[6] as usize;
-    if !tables_ok(keys, order, c, words[9] as usize, words[10] as usize) {
+    let c = words[store::head::CHUNKS] as usize;
+    if !tables_ok(
+        keys,
+        order,
+        c,
+        words[store::head::HELD] as usize,
+        words[store::head::ENTRIES] as usize,
+    ) {
         return false;
     }
     if !entry::pages_ok(&keys[c..], words) {

@@ -11,6 +11,7 @@ ghost use Rattle.view.specs.Calls.{Call, nothing, CallDoes, told};
 use outcome::Answer;
 use page_ids::Address;
 use page_ids::PageId;
+use store::head;
 
 pub mod steps;
 
@@ -96,7 +97,7 @@ fn truncate_refusal(bytes: &[u8], keys: &[u64], order: &[u32], words: &[u64], le
     if !formed::well_formed(bytes, keys, order, words) {
         return 3;
     }
-    if words[11] < len {
+    if words[head::DYNAMIC_LENGTH] < len {
         return 13;
     }
     0

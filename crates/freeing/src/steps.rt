@@ -9,6 +9,7 @@ ghost use Rattle.view.specs.Steps.{windowed, shortened};
 ghost use Rattle.view.specs.Does.{Shows};
 ghost use Rattle.drops.specs.Drops.{PageAsks};
 ghost use Rattle.freeing.specs.Freeing.{windowEnd, emptied, isFrom, VisitAsks, Visited, ShortenAsks};
+use store::head;
 
 // The first chunk past a window, or past the page.
 fn window_end(start: u32, length: u32) -> u32
@@ -47,7 +48,7 @@ fn is_from(words: &[u64], x: u64, len: u64) -> bool
     if x == 0 {
         return false;
     }
-    len <= (x - 1 - words[4]) / words[5]
+    len <= (x - 1 - words[head::BASE]) / words[head::STRIDE]
 }
 
 // Frees the page of entry e, if it has one and that is of a group from `len` up.
@@ -62,7 +63,7 @@ fn free_entry(
     requires { ⌜ VisitAsks (mem (now bytes) (now keys) (now order) (now words)) e ⌝ }
     ensures { λ _. ⌜ Visited (mem (now (bytes .entry)) (now (keys .entry)) (now (order .entry)) (now (words .entry))) len e (mem (now (bytes .exit)) (now (keys .exit)) (now (order .exit)) (now (words .exit))) ⌝ }
 {
-    let x = keys[words[6] as usize + e];
+    let x = keys[words[head::CHUNKS] as usize + e];
     if is_from(words, x, len) {
         drops::free_page(bytes, keys, order, words, (x - 1) as u32);
     }
@@ -79,7 +80,7 @@ pub fn free_groups(
     requires { ⌜ WellFormed (mem (now bytes) (now keys) (now order) (now words)) ⌝ }
     ensures { λ _. let m = mem (now (bytes .entry)) (now (keys .entry)) (now (order .entry)) (now (words .entry)) in ⌜ Shows (settingOf m) (emptied (settingOf m) len (viewOf m)) (mem (now (bytes .exit)) (now (keys .exit)) (now (order .exit)) (now (words .exit))) ⌝ }
 {
-    let end = words[7] as usize + 4;
+    let end = words[head::PAGES] as usize + 4;
     let mut e: usize = 4;
     while e < end {
         free_entry(bytes, keys, order, words, e, len);
@@ -92,5 +93,5 @@ pub fn shorten(bytes: &[u8], keys: &[u64], order: &[u32], words: &mut [u64], len
     requires { ⌜ ShortenAsks (mem (now bytes) (now keys) (now order) (now words)) len ⌝ }
     ensures { λ _. let m = mem (now (bytes .entry)) (now (keys .entry)) (now (order .entry)) (now (words .entry)) in ⌜ Shows (settingOf m) (shortened len (viewOf m)) (mem (now (bytes .entry)) (now (keys .entry)) (now (order .entry)) (now (words .exit))) ⌝ }
 {
-    words[11] = len;
+    words[head::DYNAMIC_LENGTH] = len;
 }

@@ -4,6 +4,7 @@ ghost use Rattle.outcome.specs.Outcome.{numberOf};
 ghost use Rattle.store.specs.Mem.{mem};
 ghost use Rattle.view.specs.Calls.{Rollback, DeleteHistory, answerOf, CallDoes, told};
 use outcome::Answer;
+use store::head;
 
 // The number with which a rollback is refused, or 0.
 fn rollback_refusal(
@@ -19,10 +20,10 @@ fn rollback_refusal(
     if !formed::well_formed(bytes, keys, order, words) {
         return 3;
     }
-    if words[12] < heap {
+    if words[head::HEAP_JOURNAL] < heap {
         return 12;
     }
-    if words[13] < aux {
+    if words[head::AUX_JOURNAL] < aux {
         return 12;
     }
     0

@@ -10,6 +10,7 @@ ghost use Rattle.view.specs.Does.{Shows};
 ghost use Rattle.view.specs.Inner.{noting, NoteAsks};
 ghost use Rattle.journal.specs.Words.{numberOf, Numbered, NoteRoom, NotedAt, BackAsks, PutBack};
 ghost use Rattle.journal.specs.Steps.{NoteSlots, alignedFrom, AlignedAsks, undoing, UndoAsks, RollBackAsks};
+use store::head;
 
 // The entry of journal j's page.
 fn place(j: usize) -> u64
@@ -27,7 +28,7 @@ fn number(words: &[u64], j: usize, i: usize) -> usize
     requires { ⌜ Numbered (now words) j i ⌝ }
     ensures { λ n. ⌜ (n ≡ numberOf (now (words .entry)) j i) × (n < journalCount * journalRoom (now (words .entry))) ⌝ }
 {
-    words[8] as usize * j + i
+    words[head::JOURNAL_WORDS] as usize * j + i
 }
 
 // Notes the word at an address, whose first and last chunk are held at the slots s and t, as the newest of journal j.
@@ -35,16 +36,16 @@ fn note_at(bytes: &mut [u8], words: &mut [u64], j: usize, address: u32, s: usize
     requires { ⌜ NoteRoom (now bytes) (now words) j s t ⌝ }
     ensures { λ _. ⌜ NotedAt (now (bytes .entry)) (now (words .entry)) j address s t (now (bytes .exit)) (now (words .exit)) ⌝ }
 {
-    let i = words[12 + j];
+    let i = words[head::JOURNALS + j];
     let n = number(words, j, i as usize);
-    let c = words[6] as usize;
+    let c = words[head::CHUNKS] as usize;
     let old = bodies::word_in(bytes, s, t, (address % 256) as usize);
     bodies::copy(&old, 0, bytes, 256 * c + 32 * n, 32);
     let at = 16 + 3 * n;
     words[at] = address as u64;
     words[at + 1] = s as u64;
     words[at + 2] = t as u64;
-    words[12 + j] = i + 1;
+    words[head::JOURNALS + j] = i + 1;
 }
 
 // Notes the word at an address of journal j's page, whose first and last chunk are held at the slots s and t. vm2: `record_bootloader_word_rollback`.
@@ -81,8 +82,8 @@ pub fn forget(bytes: &[u8], keys: &[u64], order: &[u32], words: &mut [u64])
     requires { ⌜ WellFormed (mem (now bytes) (now keys) (now order) (now words)) ⌝ }
     ensures { λ _. ⌜ Shows (settingOf (mem (now (bytes .entry)) (now (keys .entry)) (now (order .entry)) (now (words .entry)))) (forgotten (viewOf (mem (now (bytes .entry)) (now (keys .entry)) (now (order .entry)) (now (words .entry))))) (mem (now (bytes .entry)) (now (keys .entry)) (now (order .entry)) (now (words .exit))) ⌝ }
 {
-    words[12] = 0;
-    words[13] = 0;
+    words[head::HEAP_JOURNAL] = 0;
+    words[head::AUX_JOURNAL] = 0;
 }
 
 // Puts word i of journal j back at the slots noted: no search.
@@ -91,7 +92,7 @@ fn put_back(bytes: &mut [u8], words: &[u64], j: usize, i: usize)
     ensures { λ _. ⌜ PutBack (now (bytes .entry)) (now (words .entry)) j i (now (bytes .exit)) ⌝ }
 {
     let n = number(words, j, i);
-    let c = words[6] as usize;
+    let c = words[head::CHUNKS] as usize;
     let mut old = [0u8; 32];
     bodies::copy(bytes, 256 * c + 32 * n, &mut old, 0, 32);
     let at = 16 + 3 * n;
@@ -109,12 +110,12 @@ fn undo(bytes: &mut [u8], keys: &[u64], order: &[u32], words: &mut [u64], j: usi
     requires { ⌜ UndoAsks (mem (now bytes) (now keys) (now order) (now words)) j mark ⌝ }
     ensures { λ _. ⌜ Shows (settingOf (mem (now (bytes .entry)) (now (keys .entry)) (now (order .entry)) (now (words .entry)))) (undoing (layoutOf (now (words .entry))) j mark (viewOf (mem (now (bytes .entry)) (now (keys .entry)) (now (order .entry)) (now (words .entry))))) (mem (now (bytes .exit)) (now (keys .entry)) (now (order .entry)) (now (words .exit))) ⌝ }
 {
-    let mut i = words[12 + j];
+    let mut i = words[head::JOURNALS + j];
     while mark < i {
         i -= 1;
         put_back(bytes, words, j, i as usize);
     }
-    words[12 + j] = mark;
+    words[head::JOURNALS + j] = mark;
 }
 
 // Puts the words back that were noted since a snapshot, and cuts the journals there. vm2: `rollback`.

@@ -12,6 +12,7 @@ ghost use Rattle.page_ids.specs.declared.Layout.{Layout};
 ghost use Rattle.opening.specs.Opening.{layoutFrom, setting, headed, sizesRight, OpenAsks, FixedAsks, FirstPages, openingOutcome, CalldataAsks};
 use outcome::Answer;
 use page_ids::Layout;
+use store::head;
 
 // Every byte becomes 0.
 fn clear_bytes(bytes: &mut [u8])
@@ -51,20 +52,20 @@ fn write_head(
     requires { ⌜ headLength ≤ length (now words) ⌝ }
     ensures { λ _. ⌜ now (words .exit) ≡ headed (setting (layoutFrom statics calldata heap aux base stride) chunks pages room) (now (words .entry)) ⌝ }
 {
-    words[0] = statics as u64;
-    words[1] = calldata as u64;
-    words[2] = heap as u64;
-    words[3] = aux as u64;
-    words[4] = base as u64;
-    words[5] = stride as u64;
-    words[6] = chunks as u64;
-    words[7] = pages as u64;
-    words[8] = room as u64;
-    words[9] = 0;
-    words[10] = 4;
-    words[11] = 0;
-    words[12] = 0;
-    words[13] = 0;
+    words[head::STATIC_MEMORY] = statics as u64;
+    words[head::CALLDATA] = calldata as u64;
+    words[head::BOOTLOADER_HEAP] = heap as u64;
+    words[head::BOOTLOADER_AUX] = aux as u64;
+    words[head::BASE] = base as u64;
+    words[head::STRIDE] = stride as u64;
+    words[head::CHUNKS] = chunks as u64;
+    words[head::PAGES] = pages as u64;
+    words[head::JOURNAL_WORDS] = room as u64;
+    words[head::HELD] = 0;
+    words[head::ENTRIES] = 4;
+    words[head::DYNAMIC_LENGTH] = 0;
+    words[head::HEAP_JOURNAL] = 0;
+    words[head::AUX_JOURNAL] = 0;
 }
 
 // Lists the four fixed pages, whose ids the head has, as entries 0 to 3.

@@ -8,16 +8,17 @@ ghost use Rattle.view.specs.Steps.{max};
 ghost use Rattle.view.specs.Does.{Shows};
 ghost use Rattle.view.specs.Inner.{listing, ListAsks};
 ghost use Rattle.pages.specs.Entry.{EntryAsks, EntryTaken};
+use store::head;
 
 // Raises the dynamic length to `least`, if it is below.
 fn raise(words: &mut [u64], least: u64)
     requires { ⌜ headLength ≤ length (now words) ⌝ }
     ensures { λ _. ⌜ now (words .exit) ≡ set (now (words .entry)) 11 (max (dynamicLength (now (words .entry))) least) ⌝ }
 {
-    if least < words[11] {
+    if least < words[head::DYNAMIC_LENGTH] {
         return;
     }
-    words[11] = least;
+    words[head::DYNAMIC_LENGTH] = least;
 }
 
 // Gives a free entry to a dynamic page that has none, and makes the dynamic length reach past its group.
@@ -25,9 +26,9 @@ fn take_entry(keys: &mut [u64], order: &mut [u32], words: &mut [u64], page: u32)
     requires { ⌜ EntryAsks (now keys) (now order) (now words) page ⌝ }
     ensures { λ _. ⌜ EntryTaken page (now (keys .entry)) (now (order .entry)) (now (words .entry)) (now (keys .exit)) (now (order .exit)) (now (words .exit)) ⌝ }
 {
-    let c = words[6] as usize;
-    let n = words[10] as usize;
-    let group = (page as u64 - words[4]) / words[5];
+    let c = words[head::CHUNKS] as usize;
+    let n = words[head::ENTRIES] as usize;
+    let group = (page as u64 - words[head::BASE]) / words[head::STRIDE];
     let e = store::free_place(&keys[c..], n);
     index::insert(
         &mut keys[c..],
@@ -36,7 +37,7 @@ fn take_entry(keys: &mut [u64], order: &mut [u32], words: &mut [u64], page: u32)
         e as u32,
         page as u64 + 1,
     );
-    words[10] = (n + 1) as u64;
+    words[head::ENTRIES] = (n + 1) as u64;
     raise(words, group + 1);
 }
 
@@ -46,7 +47,7 @@ pub fn list_page(bytes: &[u8], keys: &mut [u64], order: &mut [u32], words: &mut 
     ensures { λ _. ⌜ Shows (settingOf (mem (now (bytes .entry)) (now (keys .entry)) (now (order .entry)) (now (words .entry)))) (listing (mem (now (bytes .entry)) (now (keys .entry)) (now (order .entry)) (now (words .entry))) page) (mem (now (bytes .entry)) (now (keys .exit)) (now (order .exit)) (now (words .exit))) ⌝ }
 {
     let e = store::entry_of(keys, order, words, page);
-    if (e as u64) < words[7] + 4 {
+    if (e as u64) < words[head::PAGES] + 4 {
         return;
     }
     take_entry(keys, order, words, page);

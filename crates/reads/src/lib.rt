@@ -3,6 +3,7 @@
 use outcome::Answer;
 use page_ids::Address;
 use page_ids::PageId;
+use store::head;
 use word::Word;
 ghost use mathlib.Core.Path.{_≡_};
 ghost use mathlib.Core.Bool.{cond, _&&_};
@@ -183,7 +184,7 @@ pub fn dynamic_len(bytes: &[u8], keys: &[u64], order: &[u32], words: &[u64]) -> 
     }
     LengthRead {
         refusal: 0,
-        length: words[11] as u32,
+        length: words[head::DYNAMIC_LENGTH] as u32,
     }
 }
 
@@ -199,8 +200,8 @@ pub fn snapshot(bytes: &[u8], keys: &[u64], order: &[u32], words: &[u64]) -> Mar
     }
     Marks {
         refusal: 0,
-        heap: words[12] as u32,
-        aux: words[13] as u32,
+        heap: words[head::HEAP_JOURNAL] as u32,
+        aux: words[head::AUX_JOURNAL] as u32,
     }
 }
 

@@ -12,6 +12,7 @@ ghost use Rattle.formed.specs.WellFormed.{WellFormed};
 ghost use Rattle.view.specs.View.{viewOf};
 ghost use Rattle.view.specs.Steps.{run, padded};
 ghost use Rattle.reads.specs.Reading.{Put};
+use store::head;
 
 // The lesser of two numbers above 0.
 fn least(a: usize, b: usize) -> usize
@@ -42,7 +43,7 @@ fn slot_at(keys: &[u64], order: &[u32], words: &[u64], page: u32, k: usize) -> u
     ensures { λ r. ⌜ ((b : List ℕ) → r ≡ slotOfChunk (mem b (now (keys .entry)) (now (order .entry)) (now (words .entry))) page k) ⌝ }
 {
     if k > 16777216 {
-        return words[6] as usize;
+        return words[head::CHUNKS] as usize;
     }
     store::place_of(keys, order, words, page, k as u32)
 }
@@ -64,7 +65,7 @@ fn read_part(
     ensures { λ _. ⌜ Put (λ i. byteAt (mem (now (bytes .entry)) (now (keys .entry)) (now (order .entry)) (now (words .entry))) page (a + i)) to n (now (out .entry)) (now (out .exit)) ⌝ }
 {
     let s = slot_at(keys, order, words, page, a / 256);
-    if s >= words[6] as usize {
+    if s >= words[head::CHUNKS] as usize {
         fill(out, to, n);
         return;
     }
@@ -106,7 +107,7 @@ pub fn read_word(
     requires { ⌜ WellFormed (mem (now bytes) (now keys) (now order) (now words)) ⌝ }
     ensures { λ r. ⌜ r ≡ run (viewOf (mem (now (bytes .entry)) (now (keys .entry)) (now (order .entry)) (now (words .entry)))) page address 32 ⌝ }
 {
-    let c = words[6] as usize;
+    let c = words[head::CHUNKS] as usize;
     let s = store::hinted(keys, order, words, page, address / 256);
     if s < c {
         let t = store::hinted_last(keys, order, words, page, address, s);
@@ -157,7 +158,7 @@ pub fn chunk_of<'a>(
     ensures { λ r. ⌜ now r ≡ run (viewOf (mem (now (bytes .entry)) (now (keys .entry)) (now (order .entry)) (now (words .entry)))) page (256 * number) 256 ⌝ }
 {
     let s = slot_at(keys, order, words, page, number as usize);
-    if s >= words[6] as usize {
+    if s >= words[head::CHUNKS] as usize {
         return block;
     }
     let at = 256 * s;
@@ -197,7 +198,7 @@ pub fn byte_at(
     ensures { λ r. ⌜ r ≡ viewOf (mem (now (bytes .entry)) (now (keys .entry)) (now (order .entry)) (now (words .entry))) .bytes page address ⌝ }
 {
     let s = slot_at(keys, order, words, page, (address / 256) as usize);
-    if s >= words[6] as usize {
+    if s >= words[head::CHUNKS] as usize {
         return 0;
     }
     bytes[256 * s + (address % 256) as usize]

@@ -13,6 +13,7 @@ ghost use Rattle.view.specs.Steps.{missing, touchedCount, alignedCount};
 ghost use Rattle.view.specs.Checks.{isNone, overfull, roomFor};
 ghost use Rattle.room.specs.Refusals.{number, lacksAt};
 use page_ids::DecodedPage;
+use store::head;
 
 // How many chunks n bytes at an address touch.
 pub fn touched(address: u32, n: usize) -> u64
@@ -70,7 +71,7 @@ pub fn is_allocated(bytes: &[u8], keys: &[u64], order: &[u32], words: &[u64], pa
     ensures { λ r. ⌜ r ≡ viewOf (mem (now (bytes .entry)) (now (keys .entry)) (now (order .entry)) (now (words .entry))) .allocated page ⌝ }
 {
     let e = store::entry_of(keys, order, words, page);
-    (e as u64) < words[7] + 4
+    (e as u64) < words[head::PAGES] + 4
 }
 
 // 9: the page needs an entry and none is left.
@@ -81,7 +82,7 @@ fn no_entry(bytes: &[u8], keys: &[u64], order: &[u32], words: &[u64], page: u32)
     if is_allocated(bytes, keys, order, words, page) {
         return false;
     }
-    words[10] == words[7] + 4
+    words[head::ENTRIES] == words[head::PAGES] + 4
 }
 
 // Whether the page at entry e does not hold chunk k.
@@ -93,7 +94,7 @@ fn lacks(keys: &[u64], order: &[u32], words: &[u64], e: usize, k: u64) -> bool
         return true;
     }
     let s = store::slot_of(keys, order, words, e as u64 * 33554432 + k + 1);
-    words[6] <= s as u64
+    words[head::CHUNKS] <= s as u64
 }
 
 // 10: more of the chunks first, .., first + count - 1 are missing than the pool has. It stops as soon as that is sure.
@@ -137,11 +138,11 @@ fn short_of_words(
     requires { ⌜ (WellFormed (mem (now bytes) (now keys) (now order) (now words))) × (w ≤ 2 ^ 60) ⌝ }
     ensures { λ r. ⌜ r ≡ overfull (settingOf (mem (now (bytes .entry)) (now (keys .entry)) (now (order .entry)) (now (words .entry)))) (viewOf (mem (now (bytes .entry)) (now (keys .entry)) (now (order .entry)) (now (words .entry)))) page w journalCount ⌝ }
 {
-    if page as u64 == words[2] {
-        return words[8] < words[12] + w;
+    if page as u64 == words[head::BOOTLOADER_HEAP] {
+        return words[head::JOURNAL_WORDS] < words[head::HEAP_JOURNAL] + w;
     }
-    if page as u64 == words[3] {
-        return words[8] < words[13] + w;
+    if page as u64 == words[head::BOOTLOADER_AUX] {
+        return words[head::JOURNAL_WORDS] < words[head::AUX_JOURNAL] + w;
     }
     false
 }

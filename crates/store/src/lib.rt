@@ -9,12 +9,14 @@ ghost use Rattle.store.specs.Mem.{headLength, slotCount, pageCount, held
 ghost use Rattle.store.specs.Hold.{lacks, Indexed, PagesIndexed, Taken, Held};
 ghost use Rattle.store.specs.Give.{Zeroed, Wiped, Given};
 
+pub mod head;
+
 // How many slots are pooled.
 pub fn pool_count(keys: &[u64], order: &[u32], words: &[u64]) -> u64
     requires { ⌜ Indexed (now keys) (now order) (now words) ⌝ }
     ensures { λ r. ⌜ r ≡ freeCount (take (slotCount (now (words .entry))) (now (keys .entry))) ⌝ }
 {
-    words[6] - words[9]
+    words[head::CHUNKS] - words[head::HELD]
 }
 
 // A free place of a table that has one: `guess`, where that is one. Which one it is stays open.
@@ -43,11 +45,11 @@ fn take_slot(keys: &mut [u64], order: &mut [u32], words: &mut [u64], k: u64) -> 
     requires { ⌜ (0 < k) × (slotCount (now words) ≤ seek (take (slotCount (now words)) (now keys)) k) × (heldNow (now words) < slotCount (now words)) ⌝ }
     ensures { λ r. ⌜ Taken k (now (keys .entry)) (now (order .entry)) (now (words .entry)) r (now (keys .exit)) (now (order .exit)) (now (words .exit)) ⌝ }
 {
-    let c = words[6] as usize;
-    let n = words[9] as usize;
+    let c = words[head::CHUNKS] as usize;
+    let n = words[head::HELD] as usize;
     let s = free_place(&keys[0..c], n);
     index::insert(&mut keys[0..c], &mut order[0..c], n, s as u32, k);
-    words[9] = (n + 1) as u64;
+    words[head::HELD] = (n + 1) as u64;
     s
 }
 
@@ -56,8 +58,8 @@ pub fn slot_of(keys: &[u64], order: &[u32], words: &[u64], k: u64) -> usize
     requires { ⌜ (Indexed (now keys) (now order) (now words)) × (0 < k) ⌝ }
     ensures { λ r. ⌜ r ≡ seek (take (slotCount (now (words .entry))) (now (keys .entry))) k ⌝ }
 {
-    let c = words[6] as usize;
-    index::find(&keys[0..c], &order[0..c], words[9] as usize, k)
+    let c = words[head::CHUNKS] as usize;
+    index::find(&keys[0..c], &order[0..c], words[head::HELD] as usize, k)
 }
 
 // The entry of a page, or the number of entries where none lists it.
@@ -65,8 +67,13 @@ pub fn entry_of(keys: &[u64], order: &[u32], words: &[u64], page: u32) -> usize
     requires { ⌜ PagesIndexed (now keys) (now order) (now words) ⌝ }
     ensures { λ r. ⌜ r ≡ seek (drop (slotCount (now (words .entry))) (now (keys .entry))) (page + 1) ⌝ }
 {
-    let c = words[6] as usize;
-    index::find(&keys[c..], &order[c..], words[10] as usize, page as u64 + 1)
+    let c = words[head::CHUNKS] as usize;
+    index::find(
+        &keys[c..],
+        &order[c..],
+        words[head::ENTRIES] as usize,
+        page as u64 + 1,
+    )
 }
 
 // ---- hints
@@ -95,7 +102,7 @@ fn is_place(keys: &[u64], words: &[u64], s: usize, page: u32, chunk: u32) -> boo
     requires { ⌜ (headLength ≤ length (now words)) × (slotCount (now words) ≤ length (now keys)) × (slotCount (now words) ≤ 65536) ⌝ }
     ensures { λ r. ⌜ (r ≡ true → Names (now (keys .entry)) (now (words .entry)) s page chunk) ⌝ }
 {
-    let c = words[6] as usize;
+    let c = words[head::CHUNKS] as usize;
     if s >= c {
         return false;
     }
@@ -117,13 +124,13 @@ pub fn hinted(keys: &[u64], order: &[u32], words: &[u64], page: u32, chunk: u32)
 {
     let h = hint_place(order, page, chunk);
     if h >= order.len() {
-        return words[6] as usize;
+        return words[head::CHUNKS] as usize;
     }
     let s = order[h] as usize;
     if is_place(keys, words, s, page, chunk) {
         return s;
     }
-    words[6] as usize
+    words[head::CHUNKS] as usize
 }
 
 // The slot of a chunk of a page, or the number of slots where none holds it.
@@ -132,7 +139,7 @@ pub fn place_of(keys: &[u64], order: &[u32], words: &[u64], page: u32, chunk: u3
     ensures { λ r. ⌜ r ≡ slotFor (now (keys .entry)) (now (words .entry)) page chunk ⌝ }
 {
     let s = hinted(keys, order, words, page, chunk);
-    if s < words[6] as usize {
+    if s < words[head::CHUNKS] as usize {
         return s;
     }
     let e = entry_of(keys, order, words, page);
@@ -182,12 +189,12 @@ pub fn learn(order: &mut [u32], words: &[u64], page: u32, chunk: u32, s: usize)
     ensures { λ _. ⌜ Learnt (now (order .entry)) (now (words .entry)) (now (order .exit)) ⌝ }
 {
     let n = order.len();
-    order[n - 1] = (ones(words[6]) % 4294967296) as u32;
+    order[n - 1] = (ones(words[head::CHUNKS]) % 4294967296) as u32;
     let h = hint_place(order, page, chunk);
     if h >= n {
         return;
     }
-    if (h as u64) < words[6] + words[7] + 4 {
+    if (h as u64) < words[head::CHUNKS] + words[head::PAGES] + 4 {
         return;
     }
     order[h] = s as u32;
@@ -199,7 +206,7 @@ pub fn hold(keys: &mut [u64], order: &mut [u32], words: &mut [u64], k: u64) -> u
     requires { ⌜ (0 < k) × (lacks (take (slotCount (now words)) (now keys)) k + heldNow (now words) ≤ slotCount (now words)) ⌝ }
     ensures { λ r. ⌜ Held k (now (keys .entry)) (now (order .entry)) (now (words .entry)) r (now (keys .exit)) (now (order .exit)) (now (words .exit)) ⌝ }
 {
-    let c = words[6] as usize;
+    let c = words[head::CHUNKS] as usize;
     let s = slot_of(keys, order, words, k);
     if s < c {
         return s;
@@ -244,11 +251,11 @@ pub fn give(
     requires { ⌜ (256 * slotCount (now words) ≤ length (now bytes)) × (0 < lo) × (lo ≤ hi) ⌝ }
     ensures { λ _. ⌜ Given lo hi (now (bytes .entry)) (now (keys .entry)) (now (order .entry)) (now (words .entry)) (now (bytes .exit)) (now (keys .exit)) (now (order .exit)) (now (words .exit)) ⌝ }
 {
-    let c = words[6] as usize;
-    let n = words[9] as usize;
+    let c = words[head::CHUNKS] as usize;
+    let n = words[head::HELD] as usize;
     let from = index::rank_below(&keys[0..c], &order[0..c], n, lo);
     let to = index::rank_below(&keys[0..c], &order[0..c], n, hi);
     wipe(bytes, &order[0..c], from, to);
     index::remove(&mut keys[0..c], &mut order[0..c], n, from, to);
-    words[9] = (n - (to - from)) as u64;
+    words[head::HELD] = (n - (to - from)) as u64;
 }

@@ -11,6 +11,7 @@ ghost use Rattle.view.specs.Does.{Shows};
 ghost use Rattle.view.specs.Inner.{listing, holding, journalling};
 ghost use Rattle.room.specs.Refusals.{number};
 ghost use Rattle.writes.specs.Asks.{PrepareAsks, JournalAsks, WordAsks, wordPut, WrittenOrLeft};
+use store::head;
 
 // The page is allocated and holds the chunks first, .., first + count - 1.
 fn prepare(
@@ -43,11 +44,11 @@ fn journal_found(
     requires { ⌜ WordAsks (mem (now bytes) (now keys) (now order) (now words)) page address s t ⌝ }
     ensures { λ _. ⌜ Shows (settingOf (mem (now (bytes .entry)) (now (keys .entry)) (now (order .entry)) (now (words .entry)))) (journalling (layoutOf (now (words .entry))) page (wordNotes (viewOf (mem (now (bytes .entry)) (now (keys .entry)) (now (order .entry)) (now (words .entry)))) page address) (viewOf (mem (now (bytes .entry)) (now (keys .entry)) (now (order .entry)) (now (words .entry))))) (mem (now (bytes .exit)) (now (keys .entry)) (now (order .entry)) (now (words .exit))) ⌝ }
 {
-    if page as u64 == words[2] {
+    if page as u64 == words[head::BOOTLOADER_HEAP] {
         journal::note_found(bytes, keys, order, words, 0, address, s, t);
         return;
     }
-    if page as u64 == words[3] {
+    if page as u64 == words[head::BOOTLOADER_AUX] {
         journal::note_found(bytes, keys, order, words, 1, address, s, t);
         return;
     }
@@ -67,11 +68,11 @@ fn journal_range(
     ensures { λ _. ⌜ Shows (settingOf (mem (now (bytes .entry)) (now (keys .entry)) (now (order .entry)) (now (words .entry)))) (journalling (layoutOf (now (words .entry))) page (alignedNotes (viewOf (mem (now (bytes .entry)) (now (keys .entry)) (now (order .entry)) (now (words .entry)))) page start n) (viewOf (mem (now (bytes .entry)) (now (keys .entry)) (now (order .entry)) (now (words .entry))))) (mem (now (bytes .exit)) (now (keys .entry)) (now (order .entry)) (now (words .exit))) ⌝ }
 {
     let count = room::aligned(start, n) as u32;
-    if page as u64 == words[2] {
+    if page as u64 == words[head::BOOTLOADER_HEAP] {
         journal::note_aligned(bytes, keys, order, words, 0, start / 32, count);
         return;
     }
-    if page as u64 == words[3] {
+    if page as u64 == words[head::BOOTLOADER_AUX] {
         journal::note_aligned(bytes, keys, order, words, 1, start / 32, count);
         return;
     }
@@ -109,7 +110,7 @@ fn write_found(
     requires { ⌜ (WellFormed (mem (now bytes) (now keys) (now order) (now words))) × (number (wordWriteChecks (settingOf (mem (now bytes) (now keys) (now order) (now words))) (viewOf (mem (now bytes) (now keys) (now order) (now words))) page address) ≡ 0) ⌝ }
     ensures { λ r. ⌜ WrittenOrLeft (mem (now (bytes .entry)) (now (keys .entry)) (now (order .entry)) (now (words .entry))) page address value r (mem (now (bytes .exit)) (now (keys .entry)) (now (order .entry)) (now (words .exit))) ⌝ }
 {
-    let c = words[6] as usize;
+    let c = words[head::CHUNKS] as usize;
     let s = store::hinted(keys, order, words, page, address / 256);
     if s >= c {
         return false;

@@ -2,7 +2,7 @@
 ghost use mathlib.Core.Path.{_≡_};
 ghost use mathlib.Core.Bool.{false, cond, _&&_};
 ghost use mathlib.Core.List.{[], _∷_, _++_};
-ghost use Prim.Native.Nat.{_-_, _%_, _^_, _≤_};
+ghost use Prim.Native.Nat.{_-_, _%_, _^_, _≤_, min};
 ghost use lib.Dec.{ltb};
 ghost use Rattle.outcome.specs.Outcome.{refused};
 ghost use Rattle.word.specs.Value.{value};
@@ -10,7 +10,6 @@ ghost use Rattle.state.specs.Access.{frameAccessed};
 ghost use Rattle.store.specs.Mem.{mem, layoutOf};
 ghost use Rattle.formed.specs.WellFormed.{WellFormed};
 ghost use Rattle.view.specs.View.{settingOf, viewOf};
-ghost use Rattle.view.specs.Steps.{min};
 ghost use Rattle.view.specs.Checks.{wordWriteChecks};
 ghost use Rattle.view.specs.Instructions.{heapOf, staticOf, frameAlone, panic, hooked, incremented};
 ghost use Rattle.room.specs.Refusals.{number};

@@ -3,7 +3,7 @@
 use mathlib.Core.Path.{_≡_, refl, sym, ap, _∙_, subst}
 use mathlib.Core.Logic.{⊎-elim}
 use mathlib.Core.List.{List, _++_}
-use Prim.Native.Nat.{ℕ, zero, suc, _+_, _*_, _-_, _/_, _%_, _≤_, _<_}
+use Prim.Native.Nat.{ℕ, zero, suc, _+_, _*_, _-_, _/_, _%_, _≤_, _<_, max}
 use native.Mathlib.Numerals.{add-one}
 use native.Mathlib.Omega.{arith}
 use lib.ListN.{length, getD, set, take, drop, length-set, length-drop, length-append, replicate}
@@ -20,7 +20,7 @@ use Rattle.store.proofs.Parts.{rest-part}
 use Rattle.formed.specs.Pages.{group, journalCount, journalPlace, journalPage}
 use Rattle.formed.specs.Parts.{keyOf, entryOf, tab}
 use Rattle.view.specs.View.{View, Setting, settingOf, viewOf}
-use Rattle.view.specs.Steps.{max, wordNotes, marks, rolledBack, fresh, opened}
+use Rattle.view.specs.Steps.{wordNotes, marks, rolledBack, fresh, opened}
 use Rattle.view.specs.Does.{Shows}
 use Rattle.view.specs.Inner.{listing, holding, putting, ListAsks, HoldAsks, PutAsks, noting, NoteAsks}
 use Rattle.bodies.specs.Words.{placeIn, Spread, InSlots}

@@ -3,7 +3,7 @@
 use mathlib.Core.Path.{_≡_, refl, sym, ap, _∙_, subst}
 use mathlib.Core.Bool.{Bool, true, false, cond, _&&_, _||_}
 use mathlib.Core.List.{List, [], _++_}
-use Prim.Native.Nat.{ℕ, zero, suc, _+_, _-_, _/_, _≤_, _<_, zero-le}
+use Prim.Native.Nat.{ℕ, zero, suc, _+_, _-_, _/_, _≤_, _<_, zero-le, max}
 use native.Mathlib.Omega.{arith}
 use lib.Dec.{leb, ltb, eqb}
 use lib.ListN.{length}
@@ -14,7 +14,7 @@ use Rattle.formed.specs.Pages.{LayoutRule, fixed, group, journalCount, journalP
 use Rattle.formed.specs.Parts.{Note}
 use Rattle.formed.proofs.Pages.{is-fixed}
 use Rattle.view.specs.View.{View, Setting, viewOf, settingOf}
-use Rattle.view.specs.Steps.{max, over, touches, touchedCount, missing, journalled, written, fresh, opened}
+use Rattle.view.specs.Steps.{over, touches, touchedCount, missing, journalled, written, fresh, opened}
 use Rattle.view.specs.Inner.{holding, putting, HoldAsks, PutAsks}
 use Rattle.view.specs.Does.{Shows}
 use Rattle.view.proofs.Equal.{view-by}

@@ -4,13 +4,13 @@ use mathlib.Core.Path.{_≡_, refl, sym, ap, _∙_, subst, fun-ext}
 use mathlib.Core.Logic.{⊎-elim}
 use mathlib.Core.Bool.{true, false, cond, _||_, false≢true}
 use mathlib.Core.List.{List, []}
-use Prim.Native.Nat.{ℕ, _+_, _*_, _-_, _/_, _%_, _≤_, _<_}
+use Prim.Native.Nat.{ℕ, _+_, _*_, _-_, _/_, _%_, _≤_, _<_, max}
 use native.Mathlib.Nat.{div-le-of-le-mul}
 use native.Mathlib.Omega.{arith}
 use lib.Dec.{ltb, eqb}
 use lib.ListN.{length, getD, set, take, drop, length-set, length-drop, List·getD-eq-default}
 use lib.Seq.{getD-set-same, getD-set-other}
-use borrow.Author.Tests.{lt-ltb, le-ltb, le-leb, lt-leb, eq-eqb, ne-eqb}
+use borrow.Author.Tests.{lt-ltb, le-ltb, eq-eqb, ne-eqb}
 use Rattle.page_ids.specs.declared.Layout.{Layout}
 use Rattle.index.specs.Index.{indexed, seek, freeCount}
 use Rattle.index.proofs.Logic.{same-or-not, lt-or-ge}
@@ -32,7 +32,6 @@ use Rattle.formed.proofs.Meaning.{facts-of, formed-by}
 use Rattle.formed.proofs.Sense.{slot-near, slot-far, left-is, allocated-is, fixed-allocated}
 use Rattle.view.specs.View.{viewOf, settingOf}
 use Rattle.view.proofs.Counts.{fixed-only}
-use Rattle.view.specs.Steps.{max}
 use Rattle.view.specs.Does.{Shows}
 use Rattle.view.specs.Inner.{listing, ListAsks}
 use Rattle.pages.specs.Entry.{EntryAsks, EntryTaken}
@@ -40,16 +39,16 @@ use Rattle.pages.proofs.Views.{listing-by}
 
 -- ---- numbers and pages
 max-low : (d g : ℕ) → d ≤ max d g
-max-low d g = ⊎-elim (λ (l : d ≤ g). rw (le-leb d g l) l) (λ (l : g < d). rw (lt-leb d g l) (let h : d ≤ d = omega arith in h)) (le-or-gt d g)
+max-low d g = omega arith
 
 max-high : (d g : ℕ) → g ≤ max d g
-max-high d g = ⊎-elim (λ (l : d ≤ g). rw (le-leb d g l) (let h : g ≤ g = omega arith in h)) (λ (l : g < d). rw (lt-leb d g l) (let h : g ≤ d = omega arith in h)) (le-or-gt d g)
+max-high d g = omega arith
 
 max-upto : (d g n : ℕ) → d ≤ n → g ≤ n → max d g ≤ n
-max-upto d g n a b = ⊎-elim (λ (l : d ≤ g). rw (le-leb d g l) b) (λ (l : g < d). rw (lt-leb d g l) a) (le-or-gt d g)
+max-upto d g n a b = omega arith
 
 max-same : (d g : ℕ) → g ≤ d → d ≡ max d g
-max-same d g l = let a = max-low d g in let b = max-upto d g d (omega arith) l in omega arith
+max-same d g l = omega arith
 
 -- word i of journal j
 abbrev noteOf : Mem → ℕ → ℕ → Note

@@ -3,25 +3,23 @@
 use mathlib.Core.Path.{_≡_, sym, ap, _∙_}
 use mathlib.Core.Bool.{true}
 use mathlib.Core.List.{List, _++_}
-use Prim.Native.Nat.{ℕ, _+_, _-_, _≤_, _<_}
+use Prim.Native.Nat.{ℕ, _+_, _-_, _≤_, _<_, max}
 use native.Mathlib.Omega.{arith}
 use lib.ListN.{length, getD, set, take, drop, length-drop}
 use lib.Seq.{getD-set-other, set-getD}
-use borrow.Author.Tests.{le-leb, lt-leb}
 use Rattle.index.specs.Index.{indexed, usedCount, Insertable}
 use Rattle.index.proofs.Orders.{index-count}
 use Rattle.store.specs.Mem.{layoutOf, slotCount, inUse}
 use Rattle.store.proofs.Parts.{rest-low, rest-high, rest-part}
 use Rattle.formed.specs.Pages.{group}
-use Rattle.view.specs.Steps.{max}
 use Rattle.pages.specs.Entry.{EntryAsks, EntryTaken}
 
 -- the dynamic length
 pub raise-not : (w : List ℕ) (g : ℕ) → g < getD w 11 0 → w ≡ set w 11 (max (getD w 11 0) g)
-raise-not w g l = rw (lt-leb (getD w 11 0) g l) (sym (set-getD w 11 0))
+raise-not w g l = let e : max (getD w 11 0) g ≡ getD w 11 0 = omega arith in rw e (sym (set-getD w 11 0))
 
 pub raise-set : (w : List ℕ) (g : ℕ) → getD w 11 0 ≤ g → set w 11 g ≡ set w 11 (max (getD w 11 0) g)
-raise-set w g l = rw (le-leb (getD w 11 0) g l)
+raise-set w g l = let e : max (getD w 11 0) g ≡ g = omega arith in rw e
 
 module _ (keys order words : List ℕ) (p : ℕ) (ix : EntryAsks keys order words p) where
   abbrev es : List ℕ

@@ -3,14 +3,14 @@
 use mathlib.Core.Path.{_≡_, refl, sym, _∙_}
 use mathlib.Core.Bool.{Bool, true, false, cond, _&&_, _||_, and-false}
 use mathlib.Core.List.{[], _++_, append-nil}
-use Prim.Native.Nat.{ℕ, _+_, _-_, zero-le}
+use Prim.Native.Nat.{ℕ, _+_, _-_, zero-le, max}
 use native.Mathlib.Omega.{arith}
 use lib.Dec.{eqb}
 use borrow.Author.Tests.{le-ltb}
 use Rattle.formed.specs.Pages.{dynamic, group}
 use Rattle.page_ids.specs.declared.Layout.{Layout}
 use Rattle.view.specs.View.{View}
-use Rattle.view.specs.Steps.{max, over, touches, missing, journalled, written}
+use Rattle.view.specs.Steps.{over, touches, missing, journalled, written}
 use Rattle.view.proofs.Equal.{view-by}
 
 module _ (l : Layout) (p : ℕ) (v : View) where

@@ -3,13 +3,12 @@
 use mathlib.Core.Path.{_≡_}
 use mathlib.Core.Bool.{true}
 use mathlib.Core.List.{List}
-use Prim.Native.Nat.{ℕ, _+_, _≤_, _<_}
+use Prim.Native.Nat.{ℕ, _+_, _≤_, _<_, max}
 use lib.ListN.{length, getD, set, take, drop}
 use Rattle.index.specs.Index.{indexed, seek}
 use Rattle.store.specs.Mem.{layoutOf, slotCount, inUse, dynamicLength}
 use Rattle.store.specs.Hold.{PagesIndexed}
 use Rattle.formed.specs.Pages.{group}
-use Rattle.view.specs.Steps.{max}
 
 -- no entry lists page p, one is free, and p lies at or above the base of the dynamic pages
 pub record EntryAsks (keys order words : List ℕ) (p : ℕ) : Type 0 where

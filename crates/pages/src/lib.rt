@@ -1,10 +1,9 @@
 // Page entries: a page is allocated.
 ghost use mathlib.Core.Path.{_≡_};
-ghost use Prim.Native.Nat.{_≤_};
+ghost use Prim.Native.Nat.{_≤_, max};
 ghost use lib.ListN.{length, set};
 ghost use Rattle.store.specs.Mem.{mem, headLength, dynamicLength};
 ghost use Rattle.view.specs.View.{settingOf};
-ghost use Rattle.view.specs.Steps.{max};
 ghost use Rattle.view.specs.Does.{Shows};
 ghost use Rattle.view.specs.Inner.{listing, ListAsks};
 ghost use Rattle.pages.specs.Entry.{EntryAsks, EntryTaken};

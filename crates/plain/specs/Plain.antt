@@ -2,7 +2,7 @@
 -- Assumes nothing.
 use mathlib.Core.Bool.{Bool, false, cond, not, _&&_, _||_}
 use mathlib.Core.List.{List, [], _∷_, _++_}
-use Prim.Native.Nat.{ℕ, zero, suc, _+_, _*_, _-_, _/_}
+use Prim.Native.Nat.{ℕ, zero, suc, _+_, _*_, _-_, _/_, max}
 use lib.Dec.{leb, eqb}
 use lib.ListN.{length, take}
 use Rattle.outcome.specs.Outcome.{Outcome, carriedOut}
@@ -11,7 +11,7 @@ use Rattle.formed.specs.Pages.{fixed, dynamic, group, journalCount}
 use Rattle.formed.specs.Parts.{Note, tab}
 use Rattle.page_ids.specs.declared.Layout.{Layout}
 use Rattle.view.specs.View.{View, Setting}
-use Rattle.view.specs.Steps.{max, over, fromGroup, touchedCount, touches, alignedCount, journalled, rolledBytes, marks}
+use Rattle.view.specs.Steps.{over, fromGroup, touchedCount, touches, alignedCount, journalled, rolledBytes, marks}
 use Rattle.view.specs.Instructions.{heapOf, staticOf}
 use Rattle.view.specs.Calls.{Call, Value, Open, Allocate, ReadWord, ReadPartial, ReadRange, ReadByte, DynamicLength, WriteWord, WriteBytes, Lookup, LookupCheck, Free, Window, Truncate, CompareLeft, CompareRight, CompareBoth, Snapshot, Rollback, DeleteHistory, Load, Store, LoadPointer, LoadStatic, StoreStatic}
 

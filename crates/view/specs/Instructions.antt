@@ -2,7 +2,7 @@
 -- Assumes nothing.
 use mathlib.Core.Bool.{Bool, true, false, cond, not, _&&_}
 use mathlib.Core.List.{List, [], _∷_, _++_}
-use Prim.Native.Nat.{ℕ, _+_, _-_, _%_, _^_}
+use Prim.Native.Nat.{ℕ, _+_, _-_, _%_, _^_, min}
 use lib.Dec.{ltb, eqb}
 use Rattle.outcome.specs.Outcome.{refused, panicked}
 use Rattle.word.specs.Value.{bigEndian, lastAddress}
@@ -14,7 +14,7 @@ use Rattle.state.specs.declared.Area.{Area}
 use Rattle.state.specs.declared.Area.the-variants.{Heap, Aux}
 use Rattle.state.specs.Access.{frameAccessed}
 use Rattle.view.specs.View.{View, Setting}
-use Rattle.view.specs.Steps.{min, run, padded}
+use Rattle.view.specs.Steps.{run, padded}
 use Rattle.view.specs.Checks.{Check, wordWriteChecks}
 
 -- an operand: the number of its word, and whether it is tagged as a pointer

@@ -2,7 +2,7 @@
 -- Assumes nothing.
 use mathlib.Core.Bool.{Bool, false, cond, not, _&&_, _||_}
 use mathlib.Core.List.{List, [], _∷_, _++_}
-use Prim.Native.Nat.{ℕ, zero, suc, _+_, _*_, _-_, _/_, _%_}
+use Prim.Native.Nat.{ℕ, zero, suc, _+_, _*_, _-_, _/_, _%_, max}
 use lib.Dec.{ltb, leb, eqb}
 use lib.ListN.{length, getD, take, drop, replicate}
 use Rattle.index.specs.Index.{all}
@@ -10,12 +10,6 @@ use Rattle.formed.specs.Pages.{fixed, dynamic, group, journalCount, journalPage
 use Rattle.formed.specs.Parts.{Note, tab}
 use Rattle.page_ids.specs.declared.Layout.{Layout}
 use Rattle.view.specs.View.{View, Setting}
-
-abbrev pub max : ℕ → ℕ → ℕ
-max a b = cond (leb a b) b a
-
-abbrev pub min : ℕ → ℕ → ℕ
-min a b = cond (leb a b) a b
 
 -- ---- reading
 -- the n bytes from address a of a page on

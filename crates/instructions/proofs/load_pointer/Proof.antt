@@ -1,8 +1,7 @@
 use mathlib.Core.Path.{ap, _∙_}
-use Prim.Native.Nat.{ℕ, _+_, _-_}
+use Prim.Native.Nat.{ℕ, _+_, _-_, min}
 use native.Mathlib.Omega.{arith}
 use borrow.Author.Tests.{not-true, not-false}
-use Rattle.view.specs.Steps.{min}
 use Rattle.view.specs.Calls.{LoadPointer}
 use Rattle.instructions.specs.Executions.{operandOf}
 use Rattle.instructions.proofs.Laws.{ill, refused-runs, untagged-panics, offset-panics, pointer-refused, pointer-done}

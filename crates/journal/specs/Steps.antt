@@ -11,7 +11,7 @@ use Rattle.store.specs.Mem.{Mem, layoutOf, journalRoom, journalLength}
 use Rattle.formed.specs.Pages.{journalCount, journalPage}
 use Rattle.formed.specs.Parts.{Note, tab, slotOfChunk}
 use Rattle.formed.specs.WellFormed.{WellFormed}
-use Rattle.view.specs.View.{View, viewOf}
+use Rattle.view.specs.View.{View, viewOf, withBytes, withJournal}
 use Rattle.view.specs.Steps.{run, undone}
 
 -- ---- words noted
@@ -39,27 +39,11 @@ pub record AlignedAsks (m : Mem) (j first n : ℕ) : Type 0 where
 -- ---- words put back
 -- journal j is cut to its first n words
 abbrev pub cutting : ℕ → ℕ → View → View
-cutting j n v = record {
-  bytes = v .bytes;
-  held = v .held;
-  pool = v .pool;
-  allocated = v .allocated;
-  entries = v .entries;
-  dynamicLength = v .dynamicLength;
-  journal = λ i. cond (eqb i j) (take n (v .journal i)) (v .journal i);
-}
+cutting j n v = withJournal (λ i. cond (eqb i j) (take n (v .journal i)) (v .journal i)) v
 
 -- its words from number n on are put back on page p, newest first
 abbrev pub restoring : ℕ → ℕ → ℕ → View → View
-restoring p j n v = record {
-  bytes = undone p (drop n (v .journal j)) (v .bytes);
-  held = v .held;
-  pool = v .pool;
-  allocated = v .allocated;
-  entries = v .entries;
-  dynamicLength = v .dynamicLength;
-  journal = v .journal;
-}
+restoring p j n v = withBytes (undone p (drop n (v .journal j)) (v .bytes)) v
 
 -- both
 abbrev pub undoing : Layout → ℕ → ℕ → View → View

@@ -24,6 +24,22 @@ pub record Plain : Type 0 where
   pub dynamicLength : ℕ
   pub journal : ℕ → List Note
 
+-- a map with another value of one of its parts
+abbrev pub withBytes : (ℕ → ℕ → ℕ) → Plain → Plain
+withBytes x m = record { bytes = x; held = m .held; pages = m .pages; dynamicLength = m .dynamicLength; journal = m .journal }
+
+abbrev pub withHeld : List (ℕ × ℕ) → Plain → Plain
+withHeld x m = record { bytes = m .bytes; held = x; pages = m .pages; dynamicLength = m .dynamicLength; journal = m .journal }
+
+abbrev pub withPages : List ℕ → Plain → Plain
+withPages x m = record { bytes = m .bytes; held = m .held; pages = x; dynamicLength = m .dynamicLength; journal = m .journal }
+
+abbrev pub withDynamicLength : ℕ → Plain → Plain
+withDynamicLength x m = record { bytes = m .bytes; held = m .held; pages = m .pages; dynamicLength = x; journal = m .journal }
+
+abbrev pub withJournal : (ℕ → List Note) → Plain → Plain
+withJournal x m = record { bytes = m .bytes; held = m .held; pages = m .pages; dynamicLength = m .dynamicLength; journal = x }
+
 -- ---- pairs and pages
 unfoldable pub has : List (ℕ × ℕ) → ℕ → ℕ → Bool
 has [] p k = false
@@ -68,13 +84,9 @@ putWord l p a n m = put l p a (wordBytes n) (noteOf m p a ∷ []) m
 
 -- a chunk that `dropped` names is zero and no longer held, a page that `free` names no longer allocated; the dynamic length becomes n
 abbrev pub dropping : (ℕ → ℕ → Bool) → (ℕ → Bool) → ℕ → Plain → Plain
-dropping dropped free n m = record {
-  bytes = λ p a. cond (dropped p (a / 256)) 0 (m .bytes p a);
-  held = others (λ pair. dropped (pair .0) (pair .1)) (m .held);
-  pages = others free (m .pages);
-  dynamicLength = n;
-  journal = m .journal;
-}
+dropping dropped free n m =
+    withBytes (λ p a. cond (dropped p (a / 256)) 0 (m .bytes p a))
+    (withHeld (others (λ pair. dropped (pair .0) (pair .1)) (m .held)) (withPages (others free (m .pages)) (withDynamicLength n m)))
 
 abbrev pub follow : Layout → Call → Plain → Plain
 follow l (Open t calldata) m = m
@@ -96,14 +108,9 @@ follow l (CompareLeft other) m = m
 follow l (CompareRight other) m = m
 follow l CompareBoth m = m
 follow l Snapshot m = m
-follow l (Rollback heap aux) m = record {
-  bytes = rolledBytes l (marks heap aux) (m .journal) journalCount (m .bytes);
-  held = m .held;
-  pages = m .pages;
-  dynamicLength = m .dynamicLength;
-  journal = λ j. take (marks heap aux j) (m .journal j);
-}
-follow l DeleteHistory m = record { bytes = m .bytes; held = m .held; pages = m .pages; dynamicLength = m .dynamicLength; journal = λ j. [] }
+follow l (Rollback heap aux) m =
+    withBytes (rolledBytes l (marks heap aux) (m .journal) journalCount (m .bytes)) (withJournal (λ j. take (marks heap aux j) (m .journal j)) m)
+follow l DeleteHistory m = withJournal (λ j. []) m
 follow l (Load area f x) m = m
 -- stores are word writes
 follow l (Store area f x n h) m = putWord l (heapOf f area) (x .word) n m

@@ -11,7 +11,7 @@ use Rattle.formed.specs.Pages.{fixed, dynamic, journalCount, journalPage}
 use Rattle.formed.specs.Parts.{Note}
 use Rattle.page_ids.specs.declared.Layout.{Layout}
 use Rattle.formed.specs.WellFormed.{WellFormed}
-use Rattle.view.specs.View.{View, viewOf}
+use Rattle.view.specs.View.{View, viewOf, withBytes, withHeld, withPool, withJournal}
 use Rattle.view.specs.Steps.{over, missing, journalled, written}
 
 -- ---- what a step does
@@ -21,51 +21,19 @@ listing m p = written (layoutOf (m .words)) p 0 [] [] (viewOf m)
 
 -- the n chunks from k on of page p are held
 abbrev pub holding : ℕ → ℕ → ℕ → View → View
-holding p k n v = record {
-  bytes = v .bytes;
-  held = λ q j. (eqb q p && (leb k j && ltb j (k + n))) || v .held q j;
-  pool = v .pool - missing (v .held p) k n;
-  allocated = v .allocated;
-  entries = v .entries;
-  dynamicLength = v .dynamicLength;
-  journal = v .journal;
-}
+holding p k n v = withHeld (λ q j. (eqb q p && (leb k j && ltb j (k + n))) || v .held q j) (withPool (v .pool - missing (v .held p) k n) v)
 
 -- the notes are added to journal j
 abbrev pub noting : ℕ → List Note → View → View
-noting j notes v = record {
-  bytes = v .bytes;
-  held = v .held;
-  pool = v .pool;
-  allocated = v .allocated;
-  entries = v .entries;
-  dynamicLength = v .dynamicLength;
-  journal = λ i. cond (eqb i j) (v .journal i ++ notes) (v .journal i);
-}
+noting j notes v = withJournal (λ i. cond (eqb i j) (v .journal i ++ notes) (v .journal i)) v
 
 -- the notes are added to the journal of page p, if it has one
 abbrev pub journalling : Layout → ℕ → List Note → View → View
-journalling l p notes v = record {
-  bytes = v .bytes;
-  held = v .held;
-  pool = v .pool;
-  allocated = v .allocated;
-  entries = v .entries;
-  dynamicLength = v .dynamicLength;
-  journal = λ j. cond (journalled l p j) (v .journal j ++ notes) (v .journal j);
-}
+journalling l p notes v = withJournal (λ j. cond (journalled l p j) (v .journal j ++ notes) (v .journal j)) v
 
 -- the bytes bs stand at address a of page p
 abbrev pub putting : ℕ → ℕ → List ℕ → View → View
-putting p a bs v = record {
-  bytes = over p a bs (v .bytes);
-  held = v .held;
-  pool = v .pool;
-  allocated = v .allocated;
-  entries = v .entries;
-  dynamicLength = v .dynamicLength;
-  journal = v .journal;
-}
+putting p a bs v = withBytes (over p a bs (v .bytes)) v
 
 -- ---- what it asks
 pub record ListAsks (m : Mem) (p : ℕ) : Type 0 where

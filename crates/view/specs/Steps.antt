@@ -9,7 +9,7 @@ use Rattle.index.specs.Index.{all}
 use Rattle.formed.specs.Pages.{fixed, dynamic, group, journalCount, journalPage}
 use Rattle.formed.specs.Parts.{Note, tab}
 use Rattle.page_ids.specs.declared.Layout.{Layout}
-use Rattle.view.specs.View.{View, Setting}
+use Rattle.view.specs.View.{View, Setting, withBytes, withHeld, withPool, withAllocated, withEntries, withDynamicLength, withJournal}
 
 -- ---- reading
 -- the n bytes from address a of a page on
@@ -94,15 +94,12 @@ pairs test = count (λ i. test (i / 33554432) (i % 33554432)) 144115188075855872
 -- the chunks that `dropped` names are zero and no longer held, the pages that `free` names no longer allocated; each chunk that is not held
 -- is in the pool, and each entry that no dynamic page has is left
 abbrev pub without : Setting → (ℕ → ℕ → Bool) → (ℕ → Bool) → View → View
-without s dropped free v = record {
-  bytes = λ q a. cond (dropped q (a / 256)) 0 (v .bytes q a);
-  held = λ q k. v .held q k && not (dropped q k);
-  pool = s .chunks - pairs (λ q k. v .held q k && not (dropped q k));
-  allocated = λ q. v .allocated q && not (free q);
-  entries = s .pages - count (λ q. (v .allocated q && not (free q)) && dynamic (s .layout) q) 4294967296;
-  dynamicLength = v .dynamicLength;
-  journal = v .journal;
-}
+without s dropped free v =
+    withBytes (λ q a. cond (dropped q (a / 256)) 0 (v .bytes q a))
+    (withHeld (λ q k. v .held q k && not (dropped q k))
+    (withPool (s .chunks - pairs (λ q k. v .held q k && not (dropped q k)))
+    (withAllocated (λ q. v .allocated q && not (free q))
+    (withEntries (s .pages - count (λ q. (v .allocated q && not (free q)) && dynamic (s .layout) q) 4294967296) v))))
 
 -- free drops its page's chunks
 abbrev pub freed : Setting → ℕ → View → View
@@ -117,15 +114,7 @@ abbrev pub fromGroup : Layout → ℕ → ℕ → Bool
 fromGroup l n q = dynamic l q && leb n (group l q)
 
 abbrev pub shortened : ℕ → View → View
-shortened n v = record {
-  bytes = v .bytes;
-  held = v .held;
-  pool = v .pool;
-  allocated = v .allocated;
-  entries = v .entries;
-  dynamicLength = n;
-  journal = v .journal;
-}
+shortened n v = withDynamicLength n v
 
 abbrev pub truncated : Setting → ℕ → View → View
 truncated s n v = shortened n (without s (λ q k. fromGroup (s .layout) n q) (fromGroup (s .layout) n) v)
@@ -155,27 +144,11 @@ marks heap aux (suc j) = aux
 
 -- rollback to the numbers `marks`: words are restored newest first, and the journals cut
 abbrev pub rolledBack : Layout → (ℕ → ℕ) → View → View
-rolledBack l marks v = record {
-  bytes = rolledBytes l marks (v .journal) journalCount (v .bytes);
-  held = v .held;
-  pool = v .pool;
-  allocated = v .allocated;
-  entries = v .entries;
-  dynamicLength = v .dynamicLength;
-  journal = λ j. take (marks j) (v .journal j);
-}
+rolledBack l marks v = withBytes (rolledBytes l marks (v .journal) journalCount (v .bytes)) (withJournal (λ j. take (marks j) (v .journal j)) v)
 
 -- deletion empties the journals
 abbrev pub forgotten : View → View
-forgotten v = record {
-  bytes = v .bytes;
-  held = v .held;
-  pool = v .pool;
-  allocated = v .allocated;
-  entries = v .entries;
-  dynamicLength = v .dynamicLength;
-  journal = λ j. [];
-}
+forgotten v = withJournal (λ j. []) v
 
 -- ---- opening: bytes and dynamic length are zero, the rest is empty
 abbrev pub fresh : Setting → View

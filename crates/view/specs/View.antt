@@ -24,6 +24,28 @@ pub record View : Type 0 where
   -- journal 0 is that of the bootloader heap, 1 that of the bootloader aux heap; the oldest word stands first
   pub journal : ℕ → List Note
 
+-- a view with another value of one of its parts
+abbrev pub withBytes : (ℕ → ℕ → ℕ) → View → View
+withBytes x v = record { bytes = x; held = v .held; pool = v .pool; allocated = v .allocated; entries = v .entries; dynamicLength = v .dynamicLength; journal = v .journal }
+
+abbrev pub withHeld : (ℕ → ℕ → Bool) → View → View
+withHeld x v = record { bytes = v .bytes; held = x; pool = v .pool; allocated = v .allocated; entries = v .entries; dynamicLength = v .dynamicLength; journal = v .journal }
+
+abbrev pub withPool : ℕ → View → View
+withPool x v = record { bytes = v .bytes; held = v .held; pool = x; allocated = v .allocated; entries = v .entries; dynamicLength = v .dynamicLength; journal = v .journal }
+
+abbrev pub withAllocated : (ℕ → Bool) → View → View
+withAllocated x v = record { bytes = v .bytes; held = v .held; pool = v .pool; allocated = x; entries = v .entries; dynamicLength = v .dynamicLength; journal = v .journal }
+
+abbrev pub withEntries : ℕ → View → View
+withEntries x v = record { bytes = v .bytes; held = v .held; pool = v .pool; allocated = v .allocated; entries = x; dynamicLength = v .dynamicLength; journal = v .journal }
+
+abbrev pub withDynamicLength : ℕ → View → View
+withDynamicLength x v = record { bytes = v .bytes; held = v .held; pool = v .pool; allocated = v .allocated; entries = v .entries; dynamicLength = x; journal = v .journal }
+
+abbrev pub withJournal : (ℕ → List Note) → View → View
+withJournal x v = record { bytes = v .bytes; held = v .held; pool = v .pool; allocated = v .allocated; entries = v .entries; dynamicLength = v .dynamicLength; journal = x }
+
 -- the layout and the three counts of an opening, which no call changes
 pub record Setting : Type 0 where
   pub layout : Layout

@@ -205,7 +205,8 @@ fixed-id w (suc (suc (suc (suc e)))) h = absurd (omega arith)
 
 pub place-lt : (j : ℕ) → j < journalCount → journalPlace j < 4
 place-lt zero l = omega arith
-place-lt (suc j) l = omega arith
+place-lt (suc zero) l = omega arith
+place-lt (suc (suc j)) l = absurd (omega arith)
 
 -- an entry past the fixed ones
 module _ (l : Layout) (d x p : ℕ) (e : x ≡ p + 1) where

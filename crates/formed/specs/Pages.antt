@@ -38,13 +38,14 @@ dynamic l p = isDynamic (decoded l p)
 abbrev pub group : Layout → ℕ → ℕ
 group l p = (p - l .base .0) / l .stride
 
--- the journals: how many there are, the place of journal j's page among the fixed ones, and its page id
+-- the journals: how many there are, the place of journal j's page among the fixed ones (4, which none has, where there is no journal j), and its page id
 abbrev pub journalCount : ℕ
 journalCount = 2
 
 abbrev pub journalPlace : ℕ → ℕ
 journalPlace zero = 2
-journalPlace (suc j) = 3
+journalPlace (suc zero) = 3
+journalPlace (suc (suc j)) = 4
 
 abbrev pub journalPage : Layout → ℕ → ℕ
 journalPage l j = fixedId l (journalPlace j)

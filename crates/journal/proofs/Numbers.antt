@@ -6,7 +6,7 @@ use Prim.Native.Nat.{ℕ, zero, suc, _+_, _*_, _≤_, _<_}
 use native.Mathlib.Nat.{mul-suc, mul-comm, mul-le-mul-left}
 use native.Mathlib.Omega.{arith}
 use Rattle.index.proofs.Logic.{same-or-not, lt-or-ge}
-use Rattle.formed.specs.Pages.{journalPlace}
+use Rattle.formed.specs.Pages.{journalCount, journalPlace}
 
 -- word i of journal j, of n journals with room for r words each
 pub number-lt : (r j i n : ℕ) → j < n → i < r → r * j + i < n * r
@@ -31,6 +31,7 @@ number-apart r j k i x li lx e =
     ⊎-elim (λ (l : j < k). absurd (before r j k i x l li e)) (λ (l : k ≤ j). absurd (before r k j x i (omega arith) lx (sym e))) (lt-or-ge j k))
     (same-or-not j k)
 
-pub place-other : (j : ℕ) → (j ≡ 0 → ⊥) → 3 ≡ journalPlace j
-place-other zero n = absurd (n refl)
-place-other (suc j) n = refl
+pub place-other : (j : ℕ) → j < journalCount → (j ≡ 0 → ⊥) → 3 ≡ journalPlace j
+place-other zero l n = absurd (n refl)
+place-other (suc zero) l n = refl
+place-other (suc (suc j)) l n = absurd (omega arith)

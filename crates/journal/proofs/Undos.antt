@@ -8,7 +8,7 @@ use native.Mathlib.Numerals.{add-one}
 use native.Mathlib.Omega.{arith}
 use lib.Dec.{eqb}
 use lib.ListN.{length, getD, set, take, drop}
-use borrow.Author.Tests.{ne-eqb}
+use borrow.Author.Tests.{ne-eqb, le-ltb}
 use Rattle.page_ids.specs.declared.Layout.{Layout}
 use Rattle.store.specs.Mem.{Mem, mem, layoutOf, slotCount, journalRoom, journalLength, holders}
 use Rattle.formed.specs.Pages.{journalCount, journalPage}
@@ -17,7 +17,7 @@ use Rattle.formed.specs.WellFormed.{WellFormed}
 use Rattle.formed.proofs.Sizes.{holders-long}
 use Rattle.formed.proofs.Keys.{in-table}
 use Rattle.view.specs.View.{View, Setting, settingOf, viewOf}
-use Rattle.view.specs.Steps.{undone, rolledBytes, marks, rolledBack}
+use Rattle.view.specs.Steps.{undone, rolledCount, rolledBytes, marks, rolledBack}
 use Rattle.view.specs.Does.{Shows}
 use Rattle.view.specs.Inner.{putting}
 use Rattle.view.proofs.Equal.{view-by}
@@ -28,7 +28,7 @@ use Rattle.journal.proofs.Lists.{tab-drop, tab-end}
 use Rattle.bodies.proofs.Copies.{spread-same}
 use Rattle.bodies.proofs.Words.{put-shows}
 use Rattle.journal.proofs.Kept.{noteIn}
-use Rattle.journal.proofs.Shown.{shows-then, shows-same, journal-at, journal-none, journal-long}
+use Rattle.journal.proofs.Shown.{shows-then, shows-same, journal-at, journal-long}
 use Rattle.journal.proofs.Cuts.{cut-shows}
 use Rattle.journal.proofs.Places.{held-by}
 
@@ -128,10 +128,6 @@ undo-shows bytes keys order words bytes' j n i asks lo hi a =
     (cut-shows bytes' keys order words (b .formed) j n (asks .which) (asks .mark))
 
 -- journal after journal
-nothing : (n : ℕ) → take {A = Note} n [] ≡ []
-nothing zero = refl
-nothing (suc n) = refl
-
 module _ (bytes keys order words : List ℕ) (heap aux : ℕ) (asks : RollBackAsks (mem bytes keys order words) heap aux) where
   abbrev m₀ : Mem
   m₀ = mem bytes keys order words
@@ -159,10 +155,9 @@ module _ (bytes keys order words : List ℕ) (heap aux : ℕ) (asks : RollBackAs
       each zero = refl
       each (suc zero) = refl
       each (suc (suc k)) =
-          let none = journal-none m₀ (suc (suc k)) (omega arith) in
           ap (λ (x : Bool). cond x (take aux (cond (eqb (suc (suc k)) 0) (take heap (viewOf m₀ .journal (suc (suc k)))) (viewOf m₀ .journal (suc (suc k))))) (cond (eqb (suc (suc k)) 0) (take heap (viewOf m₀ .journal (suc (suc k)))) (viewOf m₀ .journal (suc (suc k))))) (ne-eqb (suc (suc k)) 1 (λ e. omega arith))
           ∙ ap (λ (x : Bool). cond x (take heap (viewOf m₀ .journal (suc (suc k)))) (viewOf m₀ .journal (suc (suc k)))) (ne-eqb (suc (suc k)) 0 (λ e. omega arith))
-          ∙ none ∙ sym (nothing aux) ∙ ap (take aux) (sym none)
+          ∙ sym (ap (λ (x : Bool). cond x (take 0 (viewOf m₀ .journal (suc (suc k)))) (viewOf m₀ .journal (suc (suc k)))) (le-ltb (suc (suc k)) rolledCount (omega arith)))
 
       pub rolled : Shows (settingOf m₀) (rolledBack (layoutOf words) (marks heap aux) (viewOf m₀)) (mem bytes₂ keys order words₂)
       unfolding rolledBytes

@@ -19,7 +19,7 @@ use Rattle.page_ids.specs.declared.Layout.{Layout}
 use Rattle.formed.specs.Pages.{LayoutRule, fixed, journalCount, journalPlace, journalPage}
 use Rattle.formed.specs.Parts.{Note, tab}
 use Rattle.view.specs.View.{Setting}
-use Rattle.view.specs.Steps.{over, touches, undone, rolledBytes, marks, alignedCount}
+use Rattle.view.specs.Steps.{over, touches, undone, rolledCount, rolledBytes, marks, alignedCount}
 use Rattle.view.specs.Instructions.{heapOf, staticOf}
 use Rattle.view.specs.Calls.{Call, Value, Open, Allocate, ReadWord, ReadPartial, ReadRange, ReadByte, DynamicLength, WriteWord, WriteBytes, Lookup, LookupCheck, Free, Window, Truncate, CompareLeft, CompareRight, CompareBoth, Snapshot, Rollback, DeleteHistory, Load, Store, LoadPointer, LoadStatic, StoreStatic, outcomeOf}
 use Rattle.plain.specs.Plain.{Plain, put, putWord, dropping, follow, seen}
@@ -35,7 +35,8 @@ pub record Since (l : Layout) (to : ℕ → ℕ) (f : ℕ → ℕ → ℕ) (p : 
 -- the journals have different pages
 apart : {l : Layout} → LayoutRule l → (i j : ℕ) → i < j → j < journalCount → journalPage l i ≡ journalPage l j → ⊥
 apart r zero zero x y = absurd (not-suc-le-zero x)
-apart r zero (suc j) x y = r .distinct 2 3 (omega arith) (omega arith)
+apart r zero (suc zero) x y = r .distinct 2 3 (omega arith) (omega arith)
+apart r zero (suc (suc j)) x y = absurd (omega arith)
 apart r (suc i) zero x y = absurd (not-suc-le-zero x)
 apart r (suc i) (suc j) x y = absurd (omega arith)
 
@@ -118,14 +119,18 @@ module _ (l : Layout) (r : LayoutRule l) (to : ℕ → ℕ) where
 
     -- ---- a rollback to numbers that are no smaller
     module _ (heap aux : ℕ) (p : Plain) (h : Since l to f p) (up : (j : ℕ) → j < journalCount → to j ≤ marks heap aux j) where
-      back-long : (j : ℕ) → j < journalCount → to j ≤ length (take (marks heap aux j) (p .journal j))
-      back-long j k = simp length-take (let x = h .long j k in let y = up j k in omega arith)
+      back-cut : (j : ℕ) → j < journalCount → (follow l (Rollback heap aux) p) .journal j ≡ take (marks heap aux j) (p .journal j)
+      back-cut j k = rw (lt-ltb j rolledCount k) refl
+
+      back-long : (j : ℕ) → j < journalCount → to j ≤ length ((follow l (Rollback heap aux) p) .journal j)
+      back-long j k = rw (back-cut j k) (simp length-take (let x = h .long j k in let y = up j k in omega arith))
 
       back-page : (j b : ℕ) → j < journalCount → rewound l to (follow l (Rollback heap aux) p) j b ≡ rewound l to p j b
       back-page j b k =
           let stays : List Note = drop (to j) (take (marks heap aux j) (p .journal j)) in
           let goes : List Note = drop (marks heap aux j) (p .journal j) in
-          undone-at (journalPage l j) stays ((follow l (Rollback heap aux) p) .bytes) (undone (journalPage l j) goes (p .bytes)) (journalPage l j) b
+          ap (λ (n : List Note). undone (journalPage l j) (drop (to j) n) ((follow l (Rollback heap aux) p) .bytes) (journalPage l j) b) (back-cut j k)
+          ∙ undone-at (journalPage l j) stays ((follow l (Rollback heap aux) p) .bytes) (undone (journalPage l j) goes (p .bytes)) (journalPage l j) b
           (rolled-own l (marks heap aux) (p .journal) journalCount (p .bytes) j b (apart r) k)
           ∙ ap (λ (g : ℕ → ℕ → ℕ). g (journalPage l j) b) (sym (undone-append (journalPage l j) stays goes (p .bytes)))
           ∙ ap (λ (n : List Note). undone (journalPage l j) n (p .bytes) (journalPage l j) b) (drop-cut (to j) (marks heap aux j) (p .journal j) (up j k))
@@ -136,7 +141,8 @@ module _ (l : Layout) (r : LayoutRule l) (to : ℕ → ℕ) where
 -- numbers that are no smaller in both places
 marks-le : (x y x' y' : ℕ) → x ≤ x' → y ≤ y' → (j : ℕ) → j < journalCount → marks x y j ≤ marks x' y' j
 marks-le x y x' y' h k zero l = h
-marks-le x y x' y' h k (suc j) l = k
+marks-le x y x' y' h k (suc zero) l = k
+marks-le x y x' y' h k (suc (suc j)) l = absurd (omega arith)
 
 -- ---- each call that is carried out
 module _ (s : Setting) (r : LayoutRule (s .layout)) (heap aux : ℕ) (f : ℕ → ℕ → ℕ) (p : Plain) (o : Outcome Value) (t : carriedOut o ≡ true) where

@@ -4,14 +4,14 @@ use mathlib.Core.Bool.{Bool, false, cond, not, _&&_, _||_}
 use mathlib.Core.List.{List, [], _∷_, _++_}
 use Prim.Native.Nat.{ℕ, zero, suc, _+_, _*_, _-_, _/_, max}
 use lib.Dec.{leb, eqb}
-use lib.ListN.{length, take}
+use lib.ListN.{length}
 use Rattle.outcome.specs.Outcome.{Outcome, carriedOut}
 use Rattle.word.specs.Value.{wordBytes}
-use Rattle.formed.specs.Pages.{fixed, dynamic, group, journalCount}
+use Rattle.formed.specs.Pages.{fixed, dynamic, group}
 use Rattle.formed.specs.Parts.{Note, tab}
 use Rattle.page_ids.specs.declared.Layout.{Layout}
 use Rattle.view.specs.View.{View, Setting}
-use Rattle.view.specs.Steps.{over, fromGroup, touchedCount, touches, alignedCount, journalled, rolledBytes, marks}
+use Rattle.view.specs.Steps.{over, fromGroup, touchedCount, touches, alignedCount, journalled, rolledCount, rolledBytes, marks, cut}
 use Rattle.view.specs.Instructions.{heapOf, staticOf}
 use Rattle.view.specs.Calls.{Call, Value, Open, Allocate, ReadWord, ReadPartial, ReadRange, ReadByte, DynamicLength, WriteWord, WriteBytes, Lookup, LookupCheck, Free, Window, Truncate, CompareLeft, CompareRight, CompareBoth, Snapshot, Rollback, DeleteHistory, Load, Store, LoadPointer, LoadStatic, StoreStatic}
 
@@ -109,7 +109,7 @@ follow l (CompareRight other) m = m
 follow l CompareBoth m = m
 follow l Snapshot m = m
 follow l (Rollback heap aux) m =
-    withBytes (rolledBytes l (marks heap aux) (m .journal) journalCount (m .bytes)) (withJournal (λ j. take (marks heap aux j) (m .journal j)) m)
+    withBytes (rolledBytes l (marks heap aux) (m .journal) rolledCount (m .bytes)) (withJournal (cut (marks heap aux) (m .journal)) m)
 follow l DeleteHistory m = withJournal (λ j. []) m
 follow l (Load area f x) m = m
 -- stores are word writes

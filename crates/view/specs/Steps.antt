@@ -132,19 +132,28 @@ unfoldable pub undone : ℕ → List Note → (ℕ → ℕ → ℕ) → ℕ → 
 undone p [] f = f
 undone p (note ∷ newer) f = over p (note .address) (note .old) (undone p newer f)
 
+-- how many of the journals, from journal 0 on, a rollback goes back in
+abbrev pub rolledCount : ℕ
+rolledCount = 2
+
 -- each journal's page with the words from number marks j on put back, for the journals below n
 unfoldable pub rolledBytes : Layout → (ℕ → ℕ) → (ℕ → List Note) → ℕ → (ℕ → ℕ → ℕ) → ℕ → ℕ → ℕ
 rolledBytes l marks journal zero f = f
 rolledBytes l marks journal (suc n) f = undone (journalPage l n) (drop (marks n) (journal n)) (rolledBytes l marks journal n f)
 
--- the numbers of a snapshot: one for each journal
+-- the numbers of a snapshot: one for each journal that a rollback goes back in
 abbrev pub marks : ℕ → ℕ → ℕ → ℕ
 marks heap aux zero = heap
-marks heap aux (suc j) = aux
+marks heap aux (suc zero) = aux
+marks heap aux (suc (suc j)) = 0
+
+-- those journals cut to their numbers; any other stays
+abbrev pub cut : (ℕ → ℕ) → (ℕ → List Note) → ℕ → List Note
+cut marks journal j = cond (ltb j rolledCount) (take (marks j) (journal j)) (journal j)
 
 -- rollback to the numbers `marks`: words are restored newest first, and the journals cut
 abbrev pub rolledBack : Layout → (ℕ → ℕ) → View → View
-rolledBack l marks v = withBytes (rolledBytes l marks (v .journal) journalCount (v .bytes)) (withJournal (λ j. take (marks j) (v .journal j)) v)
+rolledBack l marks v = withBytes (rolledBytes l marks (v .journal) rolledCount (v .bytes)) (withJournal (cut marks (v .journal)) v)
 
 -- deletion empties the journals
 abbrev pub forgotten : View → View

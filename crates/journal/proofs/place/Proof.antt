@@ -8,7 +8,7 @@ returns-2 : tie.Need-returns-2
 returns-2 c =
     let at-if1 = c in
     let start = at-if1 .before in
-    (place-other (start .args .j) (at-if1 .if1 .left), omega arith)
+    (place-other (start .args .j) (start .pre) (at-if1 .if1 .left), omega arith)
 
 pub place-spec : {M : Type 1} → statement M
 place-spec = tie.close (tie.spec (λ c. search needs) returns-2)

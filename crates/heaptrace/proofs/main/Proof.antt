@@ -1,6 +1,0 @@
-use borrow.Author.Needs.{needs}
-use Rattle.heaptrace.proofs.main.Statement.{statement}
-use Rattle.heaptrace.proofs.main.Tie as tie
-
-pub main-spec : {M : Type 1} → statement M
-main-spec = tie.close (tie.spec (λ c κs. search needs) (λ c κs. search needs) (λ c. search needs) (λ c. search needs) (λ c. search needs) (λ c. search needs) (λ c. search needs) (λ c. search needs) (λ c. search needs) (λ c κs. search needs) (λ c. search needs))

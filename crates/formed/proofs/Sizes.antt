@@ -11,73 +11,119 @@ use lib.Seq.{length-take-le}
 use borrow.Author.Tests.{le-leb, eq-eqb, leb-true, eqb-true}
 use Rattle.index.proofs.Logic.{and-left, and-right, and-both}
 use Rattle.store.specs.Mem.{Mem, slotCount, pageCount, journalRoom, dynamicLength, holders, entries, chunks}
+use Rattle.formed.specs.Buffers.{bytesFor, keysFor, orderFor, wordsFor, lengthsFit}
 use Rattle.formed.specs.Formed.{sized, fits, narrow}
 use Rattle.formed.specs.WellFormed.{Lengths}
 
--- the counts, and the lengths of the buffers
-module _ (m : Mem) where
-  abbrev S₇ : Bool
-  S₇ = eqb (length (m .words)) (16 + 6 * journalRoom (m .words))
+-- what the test of the counts and the lengths means
+pub record Fit (b k o w c p j : ℕ) : Type 0 where
+  pub slots-lo : 1 ≤ c
+  pub slots-hi : c ≤ 65536
+  pub pages-lo : 1 ≤ p
+  pub pages-hi : p ≤ 4096
+  pub room-hi : j ≤ 65536
+  pub in-bytes : b ≡ bytesFor c j
+  pub in-keys : k ≡ keysFor c p
+  pub in-order : o ≡ orderFor c p
+  pub in-words : w ≡ wordsFor j
 
+module _ (b k o w c p j : ℕ) where
   abbrev S₆ : Bool
-  S₆ = eqb (length (m .order)) (3 * slotCount (m .words) + pageCount (m .words) + 4) && S₇
+  S₆ = eqb o (orderFor c p) && eqb w (wordsFor j)
 
   abbrev S₅ : Bool
-  S₅ = eqb (length (m .keys)) (slotCount (m .words) + pageCount (m .words) + 4) && S₆
+  S₅ = eqb k (keysFor c p) && S₆
 
   abbrev S₄ : Bool
-  S₄ = eqb (length (m .bytes)) (256 * slotCount (m .words) + 64 * journalRoom (m .words)) && S₅
+  S₄ = eqb b (bytesFor c j) && S₅
 
   abbrev S₃ : Bool
-  S₃ = leb (journalRoom (m .words)) 65536 && S₄
+  S₃ = leb j 65536 && S₄
 
   abbrev P₃ : Bool
-  P₃ = leb 1 (pageCount (m .words)) && leb (pageCount (m .words)) 4096
-
-  abbrev S₂ : Bool
-  S₂ = P₃ && S₃
+  P₃ = leb 1 p && leb p 4096
 
   abbrev P₂ : Bool
-  P₂ = leb 1 (slotCount (m .words)) && leb (slotCount (m .words)) 65536
+  P₂ = leb 1 c && leb c 65536
 
-  abbrev S₁ : Bool
-  S₁ = P₂ && S₂
+  pub fit-are : lengthsFit b k o w c p j ≡ true → Fit b k o w c p j
+  fit-are s =
+      let s₂ = and-right P₂ (P₃ && S₃) s in
+      let slots = and-left P₂ (P₃ && S₃) s in
+      let s₃ = and-right P₃ S₃ s₂ in
+      let pages = and-left P₃ S₃ s₂ in
+      let s₄ = and-right (leb j 65536) S₄ s₃ in
+      let s₅ = and-right (eqb b (bytesFor c j)) S₅ s₄ in
+      let s₆ = and-right (eqb k (keysFor c p)) S₆ s₅ in
+      record {
+        slots-lo = leb-true 1 c (and-left (leb 1 c) (leb c 65536) slots);
+        slots-hi = leb-true c 65536 (and-right (leb 1 c) (leb c 65536) slots);
+        pages-lo = leb-true 1 p (and-left (leb 1 p) (leb p 4096) pages);
+        pages-hi = leb-true p 4096 (and-right (leb 1 p) (leb p 4096) pages);
+        room-hi = leb-true j 65536 (and-left (leb j 65536) S₄ s₃);
+        in-bytes = eqb-true b (bytesFor c j) (and-left (eqb b (bytesFor c j)) S₅ s₄);
+        in-keys = eqb-true k (keysFor c p) (and-left (eqb k (keysFor c p)) S₆ s₅);
+        in-order = eqb-true o (orderFor c p) (and-left (eqb o (orderFor c p)) (eqb w (wordsFor j)) s₆);
+        in-words = eqb-true w (wordsFor j) (and-right (eqb o (orderFor c p)) (eqb w (wordsFor j)) s₆);
+      }
+
+  pub fit-test : Fit b k o w c p j → lengthsFit b k o w c p j ≡ true
+  fit-test r =
+      and-both P₂ (P₃ && S₃) (and-both (leb 1 c) (leb c 65536) (le-leb 1 c (r .slots-lo)) (le-leb c 65536 (r .slots-hi)))
+      (and-both P₃ S₃ (and-both (leb 1 p) (leb p 4096) (le-leb 1 p (r .pages-lo)) (le-leb p 4096 (r .pages-hi)))
+      (and-both (leb j 65536) S₄ (le-leb j 65536 (r .room-hi))
+      (and-both (eqb b (bytesFor c j)) S₅ (eq-eqb b (bytesFor c j) (r .in-bytes))
+      (and-both (eqb k (keysFor c p)) S₆ (eq-eqb k (keysFor c p) (r .in-keys))
+      (and-both (eqb o (orderFor c p)) (eqb w (wordsFor j)) (eq-eqb o (orderFor c p) (r .in-order)) (eq-eqb w (wordsFor j) (r .in-words)))))))
+
+  -- 01: no buffer is longer
+  pub lengths-bound : Fit b k o w c p j → (b ≤ 33554432) × (k ≤ 33554432) × (o ≤ 33554432) × (w ≤ 33554432)
+  lengths-bound r = (omega arith, omega arith, omega arith, omega arith)
+
+-- the counts, and the lengths of the buffers
+module _ (m : Mem) where
+  abbrev fits-them : Bool
+  fits-them = lengthsFit (length (m .bytes)) (length (m .keys)) (length (m .order)) (length (m .words)) (slotCount (m .words)) (pageCount (m .words)) (journalRoom (m .words))
+
+  abbrev Fits-them : Type 0
+  Fits-them = Fit (length (m .bytes)) (length (m .keys)) (length (m .order)) (length (m .words)) (slotCount (m .words)) (pageCount (m .words)) (journalRoom (m .words))
 
   pub lengths-are : sized (length (m .bytes)) (length (m .keys)) (length (m .order)) (m .words) ≡ true → Lengths m
   unfolding sized
   lengths-are s =
-      let s₁ = and-right (leb 16 (length (m .words))) S₁ s in
-      let s₂ = and-right P₂ S₂ s₁ in
-      let c = and-left P₂ S₂ s₁ in
-      let s₃ = and-right P₃ S₃ s₂ in
-      let p = and-left P₃ S₃ s₂ in
-      let s₄ = and-right (leb (journalRoom (m .words)) 65536) S₄ s₃ in
-      let s₅ = and-right (eqb (length (m .bytes)) (256 * slotCount (m .words) + 64 * journalRoom (m .words))) S₅ s₄ in
-      let s₆ = and-right (eqb (length (m .keys)) (slotCount (m .words) + pageCount (m .words) + 4)) S₆ s₅ in
+      let r : Fits-them = fit-are _ _ _ _ _ _ _ (and-right (leb 16 (length (m .words))) fits-them s) in
       record {
-        slots-lo = leb-true 1 (slotCount (m .words)) (and-left (leb 1 (slotCount (m .words))) (leb (slotCount (m .words)) 65536) c);
-        slots-hi = leb-true (slotCount (m .words)) 65536 (and-right (leb 1 (slotCount (m .words))) (leb (slotCount (m .words)) 65536) c);
-        pages-lo = leb-true 1 (pageCount (m .words)) (and-left (leb 1 (pageCount (m .words))) (leb (pageCount (m .words)) 4096) p);
-        pages-hi = leb-true (pageCount (m .words)) 4096 (and-right (leb 1 (pageCount (m .words))) (leb (pageCount (m .words)) 4096) p);
-        room-hi = leb-true (journalRoom (m .words)) 65536 (and-left (leb (journalRoom (m .words)) 65536) S₄ s₃);
-        in-bytes = eqb-true (length (m .bytes)) (256 * slotCount (m .words) + 64 * journalRoom (m .words)) (and-left (eqb (length (m .bytes)) (256 * slotCount (m .words) + 64 * journalRoom (m .words))) S₅ s₄);
-        in-keys = eqb-true (length (m .keys)) (slotCount (m .words) + pageCount (m .words) + 4) (and-left (eqb (length (m .keys)) (slotCount (m .words) + pageCount (m .words) + 4)) S₆ s₅);
-        in-order = eqb-true (length (m .order)) (3 * slotCount (m .words) + pageCount (m .words) + 4) (and-left (eqb (length (m .order)) (3 * slotCount (m .words) + pageCount (m .words) + 4)) S₇ s₆);
-        in-words = eqb-true (length (m .words)) (16 + 6 * journalRoom (m .words)) (and-right (eqb (length (m .order)) (3 * slotCount (m .words) + pageCount (m .words) + 4)) S₇ s₆);
+        slots-lo = r .slots-lo;
+        slots-hi = r .slots-hi;
+        pages-lo = r .pages-lo;
+        pages-hi = r .pages-hi;
+        room-hi = r .room-hi;
+        in-bytes = r .in-bytes;
+        in-keys = r .in-keys;
+        in-order = r .in-order;
+        in-words = r .in-words;
       }
+
+  pub sized-long : 16 ≤ length (m .words) → fits-them ≡ sized (length (m .bytes)) (length (m .keys)) (length (m .order)) (m .words)
+  unfolding sized
+  sized-long l = rw (le-leb 16 (length (m .words)) l)
 
   pub sized-test : Lengths m → sized (length (m .bytes)) (length (m .keys)) (length (m .order)) (m .words) ≡ true
   unfolding sized
   sized-test r =
-      let q = r .in-words in
-      and-both (leb 16 (length (m .words))) S₁ (le-leb 16 (length (m .words)) (omega arith))
-      (and-both P₂ S₂ (and-both (leb 1 (slotCount (m .words))) (leb (slotCount (m .words)) 65536) (le-leb 1 (slotCount (m .words)) (r .slots-lo)) (le-leb (slotCount (m .words)) 65536 (r .slots-hi)))
-      (and-both P₃ S₃ (and-both (leb 1 (pageCount (m .words))) (leb (pageCount (m .words)) 4096) (le-leb 1 (pageCount (m .words)) (r .pages-lo)) (le-leb (pageCount (m .words)) 4096 (r .pages-hi)))
-      (and-both (leb (journalRoom (m .words)) 65536) S₄ (le-leb (journalRoom (m .words)) 65536 (r .room-hi))
-      (and-both (eqb (length (m .bytes)) (256 * slotCount (m .words) + 64 * journalRoom (m .words))) S₅ (eq-eqb (length (m .bytes)) (256 * slotCount (m .words) + 64 * journalRoom (m .words)) (r .in-bytes))
-      (and-both (eqb (length (m .keys)) (slotCount (m .words) + pageCount (m .words) + 4)) S₆ (eq-eqb (length (m .keys)) (slotCount (m .words) + pageCount (m .words) + 4) (r .in-keys))
-      (and-both (eqb (length (m .order)) (3 * slotCount (m .words) + pageCount (m .words) + 4)) S₇ (eq-eqb (length (m .order)) (3 * slotCount (m .words) + pageCount (m .words) + 4) (r .in-order))
-      (eq-eqb (length (m .words)) (16 + 6 * journalRoom (m .words)) q)))))))
+      let long = r .in-words in
+      let f : Fits-them = record {
+        slots-lo = r .slots-lo;
+        slots-hi = r .slots-hi;
+        pages-lo = r .pages-lo;
+        pages-hi = r .pages-hi;
+        room-hi = r .room-hi;
+        in-bytes = r .in-bytes;
+        in-keys = r .in-keys;
+        in-order = r .in-order;
+        in-words = r .in-words;
+      } in
+      and-both (leb 16 (length (m .words))) fits-them (le-leb 16 (length (m .words)) (omega arith)) (fit-test _ _ _ _ _ _ _ f)
 
 -- the lengths of the parts
 module _ (m : Mem) (r : Lengths m) where

@@ -9,14 +9,13 @@ use Rattle.page_ids.specs.Decode.{badLayout}
 use Rattle.index.specs.Index.{all, indexed}
 use Rattle.store.specs.Mem.{Mem, headLength, layoutOf, slotCount, pageCount, journalRoom, heldNow, inUse, dynamicLength, journalLength, holders, entries, slotOrder, pageOrder, chunks}
 use Rattle.formed.specs.Pages.{dynamic, group, journalCount, journalPlace}
-use Rattle.formed.specs.Buffers.{bytesFor, keysFor, orderFor, wordsFor}
+use Rattle.formed.specs.Buffers.{lengthsFit}
 use Rattle.formed.specs.Parts.{keyOf}
 
 -- the counts are in bounds, and the lengths b, k, o of the other buffers and that of w are those for them
 unfoldable pub sized : ℕ → ℕ → ℕ → List ℕ → Bool
 sized b k o w =
-    leb headLength (length w) && ((leb 1 (slotCount w) && leb (slotCount w) 65536) && ((leb 1 (pageCount w) && leb (pageCount w) 4096) && (leb (journalRoom w) 65536
-    && (eqb b (bytesFor (slotCount w) (journalRoom w)) && (eqb k (keysFor (slotCount w) (pageCount w)) && (eqb o (orderFor (slotCount w) (pageCount w)) && eqb (length w) (wordsFor (journalRoom w))))))))
+    leb headLength (length w) && lengthsFit b k o (length w) (slotCount w) (pageCount w) (journalRoom w)
 
 -- a number of 32 bits
 abbrev pub fits : ℕ → Bool

@@ -4,22 +4,25 @@ ghost use mathlib.Core.Bool.{true};
 ghost use Prim.Native.Nat.{_≤_};
 ghost use lib.ListN.{length};
 ghost use Rattle.store.specs.Mem.{headLength, layoutOf};
+ghost use Rattle.formed.specs.Buffers.{lengthsFit};
 ghost use Rattle.formed.specs.Formed.{sized, narrow, headRight};
 use page_ids::BasePage;
 use page_ids::Layout;
 use page_ids::PageId;
 use store::head;
 
-// Whether the counts are within their bounds, and the buffers as long as the counts ask.
-pub fn sized_ok(bytes: &[u8], keys: &[u64], order: &[u32], words: &[u64]) -> bool
-    ensures { λ r. ⌜ r ≡ sized (length (now (bytes .entry))) (length (now (keys .entry))) (length (now (order .entry))) (now (words .entry)) ⌝ }
+// Whether the counts of chunks, of pages and of words of a journal are within their bounds, and the four lengths those that they ask for.
+pub fn lengths_ok(
+    bytes: usize,
+    keys: usize,
+    order: usize,
+    words: usize,
+    c: u64,
+    p: u64,
+    j: u64,
+) -> bool
+    ensures { λ r. ⌜ r ≡ lengthsFit bytes keys order words c p j ⌝ }
 {
-    if words.len() < head::LENGTH {
-        return false;
-    }
-    let c = words[head::CHUNKS];
-    let p = words[head::PAGES];
-    let j = words[head::JOURNAL_WORDS];
     if c < 1 {
         return false;
     }
@@ -35,19 +38,37 @@ pub fn sized_ok(bytes: &[u8], keys: &[u64], order: &[u32], words: &[u64]) -> boo
     if 65536 < j {
         return false;
     }
-    if bytes.len() as u64 != 256 * c + 64 * j {
+    if bytes as u64 != 256 * c + 64 * j {
         return false;
     }
-    if keys.len() as u64 != c + p + 4 {
+    if keys as u64 != c + p + 4 {
         return false;
     }
-    if order.len() as u64 != 3 * c + p + 4 {
+    if order as u64 != 3 * c + p + 4 {
         return false;
     }
-    if words.len() as u64 != 16 + 6 * j {
+    if words as u64 != 16 + 6 * j {
         return false;
     }
     true
+}
+
+// Whether the head's counts are within their bounds, and the buffers as long as they ask.
+pub fn sized_ok(bytes: &[u8], keys: &[u64], order: &[u32], words: &[u64]) -> bool
+    ensures { λ r. ⌜ r ≡ sized (length (now (bytes .entry))) (length (now (keys .entry))) (length (now (order .entry))) (now (words .entry)) ⌝ }
+{
+    if words.len() < head::LENGTH {
+        return false;
+    }
+    lengths_ok(
+        bytes.len(),
+        keys.len(),
+        order.len(),
+        words.len(),
+        words[head::CHUNKS],
+        words[head::PAGES],
+        words[head::JOURNAL_WORDS],
+    )
 }
 
 // Whether the layout's numbers and the dynamic length have 32 bits.

@@ -5,69 +5,60 @@ use mathlib.Core.Bool.{Bool, true, false, not, _&&_, false≢true}
 use mathlib.Core.List.{List, [], _∷_}
 use Prim.Native.Nat.{ℕ, zero, suc, _+_, _*_, _/_, _≤_, _<_}
 use native.Mathlib.Omega.{arith}
-use lib.Dec.{leb, ltb, eqb}
+use lib.Dec.{leb, ltb}
 use lib.ListN.{length}
-use borrow.Author.Tests.{le-leb, eq-eqb, lt-ltb, le-ltb, leb-true, eqb-true, ltb-false}
-use Rattle.index.proofs.Logic.{and-left, and-right, and-both}
+use borrow.Author.Tests.{lt-ltb, le-ltb, ltb-false}
 use Rattle.outcome.specs.Outcome.{Outcome, refused, done, firstOf, carriedOut, answered}
 use Rattle.page_ids.specs.Decode.{badLayout}
 use Rattle.store.specs.Mem.{Mem}
+use Rattle.formed.specs.Buffers.{lengthsFit}
+use Rattle.formed.proofs.Sizes.{fit-are, fit-test}
 use Rattle.view.specs.View.{Setting, settingOf}
 use Rattle.view.specs.Steps.{touchedCount, fresh, opened}
-use Rattle.view.specs.Checks.{countsRight, lengthsRight, openingChecks, bytesLength, keysLength, orderLength, wordsLength}
+use Rattle.view.specs.Checks.{lengthsRight, openingChecks}
 use Rattle.view.specs.Does.{Shows, Does}
 use Rattle.opening.specs.Opening.{sizesRight, Sizes, OpenAsks, CalldataAsks}
 
 -- ---- refusal 2
+grouped : (a b c d : Bool) → ((a && (b && c)) && d) ≡ (a && (b && (c && d)))
+grouped true true c d = refl
+grouped true false c d = refl
+grouped false b c d = refl
+
 module _ (s : Setting) (m : Mem) where
-  abbrev C : Bool
-  C = leb 1 (s .chunks) && leb (s .chunks) 65536
-
-  abbrev P : Bool
-  P = leb 1 (s .pages) && leb (s .pages) 4096
-
-  abbrev L₄ : Bool
-  L₄ = eqb (length (m .words)) (wordsLength s)
-
-  abbrev L₃ : Bool
-  L₃ = eqb (length (m .order)) (orderLength s) && L₄
-
-  abbrev L₂ : Bool
-  L₂ = eqb (length (m .keys)) (keysLength s) && L₃
+  pub sizes-fit : sizesRight s m ≡ lengthsFit (length (m .bytes)) (length (m .keys)) (length (m .order)) (length (m .words)) (s .chunks) (s .pages) (s .room)
+  sizes-fit = grouped (leb 1 (s .chunks) && leb (s .chunks) 65536) (leb 1 (s .pages) && leb (s .pages) 4096) (leb (s .room) 65536) (lengthsRight s m)
 
   pub sizes-are : sizesRight s m ≡ true → Sizes s m
   sizes-are y =
-      let n = and-left (countsRight s) (lengthsRight s m) y in
-      let c = and-left C (P && leb (s .room) 65536) n in
-      let n′ = and-right C (P && leb (s .room) 65536) n in
-      let p = and-left P (leb (s .room) 65536) n′ in
-      let l = and-right (countsRight s) (lengthsRight s m) y in
-      let l₂ = and-right (eqb (length (m .bytes)) (bytesLength s)) L₂ l in
-      let l₃ = and-right (eqb (length (m .keys)) (keysLength s)) L₃ l₂ in
+      let r = fit-are (length (m .bytes)) (length (m .keys)) (length (m .order)) (length (m .words)) (s .chunks) (s .pages) (s .room) (sym sizes-fit ∙ y) in
       record {
-        chunks-lo = leb-true 1 (s .chunks) (and-left (leb 1 (s .chunks)) (leb (s .chunks) 65536) c);
-        chunks-hi = leb-true (s .chunks) 65536 (and-right (leb 1 (s .chunks)) (leb (s .chunks) 65536) c);
-        pages-lo = leb-true 1 (s .pages) (and-left (leb 1 (s .pages)) (leb (s .pages) 4096) p);
-        pages-hi = leb-true (s .pages) 4096 (and-right (leb 1 (s .pages)) (leb (s .pages) 4096) p);
-        room-hi = leb-true (s .room) 65536 (and-right P (leb (s .room) 65536) n′);
-        in-bytes = eqb-true (length (m .bytes)) (bytesLength s) (and-left (eqb (length (m .bytes)) (bytesLength s)) L₂ l);
-        in-keys = eqb-true (length (m .keys)) (keysLength s) (and-left (eqb (length (m .keys)) (keysLength s)) L₃ l₂);
-        in-order = eqb-true (length (m .order)) (orderLength s) (and-left (eqb (length (m .order)) (orderLength s)) L₄ l₃);
-        in-words = eqb-true (length (m .words)) (wordsLength s) (and-right (eqb (length (m .order)) (orderLength s)) L₄ l₃);
+        chunks-lo = r .slots-lo;
+        chunks-hi = r .slots-hi;
+        pages-lo = r .pages-lo;
+        pages-hi = r .pages-hi;
+        room-hi = r .room-hi;
+        in-bytes = r .in-bytes;
+        in-keys = r .in-keys;
+        in-order = r .in-order;
+        in-words = r .in-words;
       }
 
   pub sizes-test : Sizes s m → sizesRight s m ≡ true
   sizes-test z =
-      and-both (countsRight s) (lengthsRight s m)
-      (and-both C (P && leb (s .room) 65536)
-      (and-both (leb 1 (s .chunks)) (leb (s .chunks) 65536) (le-leb 1 (s .chunks) (z .chunks-lo)) (le-leb (s .chunks) 65536 (z .chunks-hi)))
-      (and-both P (leb (s .room) 65536)
-      (and-both (leb 1 (s .pages)) (leb (s .pages) 4096) (le-leb 1 (s .pages) (z .pages-lo)) (le-leb (s .pages) 4096 (z .pages-hi)))
-      (le-leb (s .room) 65536 (z .room-hi))))
-      (and-both (eqb (length (m .bytes)) (bytesLength s)) L₂ (eq-eqb (length (m .bytes)) (bytesLength s) (z .in-bytes))
-      (and-both (eqb (length (m .keys)) (keysLength s)) L₃ (eq-eqb (length (m .keys)) (keysLength s) (z .in-keys))
-      (and-both (eqb (length (m .order)) (orderLength s)) L₄ (eq-eqb (length (m .order)) (orderLength s) (z .in-order))
-      (eq-eqb (length (m .words)) (wordsLength s) (z .in-words)))))
+      sizes-fit
+      ∙ fit-test (length (m .bytes)) (length (m .keys)) (length (m .order)) (length (m .words)) (s .chunks) (s .pages) (s .room)
+      (record {
+        slots-lo = z .chunks-lo;
+        slots-hi = z .chunks-hi;
+        pages-lo = z .pages-lo;
+        pages-hi = z .pages-hi;
+        room-hi = z .room-hi;
+        in-bytes = z .in-bytes;
+        in-keys = z .in-keys;
+        in-order = z .in-order;
+        in-words = z .in-words;
+      })
 
 -- ---- refusal 10: the chunks that n bytes from address 0 on touch
 pub touched-is : (n : ℕ) → (n + 255) / 256 ≡ touchedCount 0 n

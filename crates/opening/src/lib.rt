@@ -167,37 +167,15 @@ fn sizes_right(
 ) -> bool
     ensures { λ r. ⌜ ((l : Layout) → r ≡ sizesRight (setting l chunks pages room) (mem (now (bytes .entry)) (now (keys .entry)) (now (order .entry)) (now (words .entry)))) ⌝ }
 {
-    if chunks < 1 {
-        return false;
-    }
-    if 65536 < chunks {
-        return false;
-    }
-    if pages < 1 {
-        return false;
-    }
-    if 4096 < pages {
-        return false;
-    }
-    if 65536 < room {
-        return false;
-    }
-    let c = chunks as usize;
-    let p = pages as usize;
-    let j = room as usize;
-    if bytes.len() != 256 * c + 64 * j {
-        return false;
-    }
-    if keys.len() != c + p + 4 {
-        return false;
-    }
-    if order.len() != 3 * c + p + 4 {
-        return false;
-    }
-    if words.len() != 16 + 6 * j {
-        return false;
-    }
-    true
+    formed::head::lengths_ok(
+        bytes.len(),
+        keys.len(),
+        order.len(),
+        words.len(),
+        chunks as u64,
+        pages as u64,
+        room as u64,
+    )
 }
 
 // The number with which an opening is refused, or 0.

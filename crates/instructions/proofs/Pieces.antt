@@ -4,7 +4,7 @@ use mathlib.Core.Path.{_≡_, refl, ap, _∙_}
 use mathlib.Core.Bool.{Bool, true, false, cond, not, _&&_, false≢true, true≢false}
 use mathlib.Core.List.{[], _∷_}
 use mathlib.Core.Logic.{⊎-elim}
-use Prim.Native.Nat.{ℕ, _%_, _^_, _<_, _≤_}
+use Prim.Native.Nat.{ℕ, _%_, _^_, _<_, _≤_, min}
 use native.Mathlib.Omega.{arith}
 use lib.Dec.{ltb}
 use borrow.Author.Tests.{lt-ltb, le-ltb, le-leb, lt-leb, ltb-true, ltb-false}
@@ -16,7 +16,6 @@ use Rattle.state.specs.declared.Area.{Area}
 use Rattle.state.specs.declared.Area.the-variants.{Heap, Aux}
 use Rattle.state.specs.declared.Step.{Step}
 use Rattle.state.specs.Access.{newBound, frameGrown, frameAccessed}
-use Rattle.view.specs.Steps.{min}
 use Rattle.view.proofs.Order.{emptied}
 use Rattle.room.specs.Refusals.{number}
 use Rattle.instructions.specs.Executions.{carried}
@@ -75,13 +74,13 @@ carried-next s f w y y' t e = λ i. carried s w (e i) t f
 
 -- ---- the lesser
 pub min-left : (a b : ℕ) → a ≤ b → a ≡ min a b
-min-left a b l = rw (le-leb a b l) refl
+min-left a b l = omega arith
 
 pub min-right : (a b : ℕ) → b < a → b ≡ min a b
-min-right a b l = rw (lt-leb a b l) refl
+min-right a b l = omega arith
 
 pub min-le-left : (a b : ℕ) → min a b ≤ a
-min-le-left a b = ⊎-elim (λ (l : b < a). rw (lt-leb a b l) (omega arith)) (λ (g : a ≤ b). rw (le-leb a b g) (omega arith)) (lt-or-ge b a)
+min-le-left a b = omega arith
 
 pub min-le-right : (a b : ℕ) → min a b ≤ b
-min-le-right a b = ⊎-elim (λ (l : b < a). rw (lt-leb a b l) (omega arith)) (λ (g : a ≤ b). rw (le-leb a b g) (omega arith)) (lt-or-ge b a)
+min-le-right a b = omega arith

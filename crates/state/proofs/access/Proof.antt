@@ -7,14 +7,8 @@ use Rattle.state.proofs.access.Tie as tie
 returns : tie.Need-returns
 returns c = rw (lt-ltb 4294967263 _ (c .if1 .taken)) refl
 
-new-bound-requires : tie.Need-new-bound-requires
-new-bound-requires c κs = search needs
-
-grow-requires : tie.Need-grow-requires
-grow-requires c κs = search needs
-
 returns-2 : tie.Need-returns-2
 returns-2 c = rw (le-ltb _ _ (c .before .before .if1 .left), sym (c .before .new-bound .ensures)) (c .grow .ensures)
 
 pub access-spec : {M : Type 1} → statement M
-access-spec = tie.close (tie.spec returns new-bound-requires grow-requires returns-2)
+access-spec = tie.close (tie.spec returns (λ c κs. search needs) (λ c κs. search needs) returns-2)

@@ -5,24 +5,12 @@ use Rattle.state.specs.declared.Area.{Area}
 use Rattle.state.proofs.growth_step.Statement.{statement}
 use Rattle.state.proofs.growth_step.Tie as tie
 
-enum-told : tie.Need-enum-told
-enum-told c = search needs
-
-grow-requires : tie.Need-grow-requires
-grow-requires c κs = search needs
-
 returns : tie.Need-returns
 returns c = let start = c .before .before .before in rw (c .grow .ensures) (sym (ap (λ (area : Area). frameGrown (start .args .frame) area (start .args .new)) (c .before .enum-told .given .1)))
-
-enum-told-2 : tie.Need-enum-told-2
-enum-told-2 c = search needs
-
-grow-requires-2 : tie.Need-grow-requires-2
-grow-requires-2 c κs = search needs
 
 returns-2 : tie.Need-returns-2
 returns-2 c = let start = c .before .before .before in rw (c .grow2 .ensures) (sym (ap (λ (area : Area). frameGrown (start .args .frame) area (start .args .new)) (c .before .enum-told2 .given .1)))
 
 pub growth-step-spec : {M : Type 1} → statement M
 growth-step-spec =
-    tie.close (tie.spec enum-told grow-requires returns enum-told-2 grow-requires-2 returns-2)
+    tie.close (tie.spec (λ c. search needs) (λ c κs. search needs) returns (λ c. search needs) (λ c κs. search needs) returns-2)

@@ -5,24 +5,12 @@ use borrow.Author.Needs.{needs}
 use Rattle.instructions.proofs.parts.reach.Statement.{statement}
 use Rattle.instructions.proofs.parts.reach.Tie as tie
 
-bigger-than-last-address-requires : tie.Need-bigger-than-last-address-requires
-bigger-than-last-address-requires c κs = search needs
-
 returns : tie.Need-returns
 returns c =
     let at-if1 = c in
     let at-bigger-than-last-address = at-if1 .before in
     let start = at-bigger-than-last-address .before in
     reach-far (start .args .frame) (start .args .area) (value (start .args .operand .limbs)) (sym (at-bigger-than-last-address .bigger-than-last-address .ensures) ∙ at-if1 .if1 .taken)
-
-low-u32-requires : tie.Need-low-u32-requires
-low-u32-requires c κs = search needs
-
-new-bound-requires : tie.Need-new-bound-requires
-new-bound-requires c κs = search needs
-
-growth-step-requires : tie.Need-growth-step-requires
-growth-step-requires c κs = search needs
 
 returns-2 : tie.Need-returns-2
 returns-2 c =
@@ -35,4 +23,4 @@ returns-2 c =
     reach-near (start .args .frame) (start .args .area) (value (start .args .operand .limbs)) (sym (at-bigger-than-last-address .bigger-than-last-address .ensures) ∙ at-if1 .if1 .left) (at-low-u32 .low-u32 .result) (at-new-bound .new-bound .result) (at-low-u32 .low-u32 .ensures) (at-new-bound .new-bound .ensures) (at-growth-step .growth-step .result) (at-growth-step .growth-step .ensures)
 
 pub reach-spec : {M : Type 1} → statement M
-reach-spec = tie.close (tie.spec bigger-than-last-address-requires returns low-u32-requires new-bound-requires growth-step-requires returns-2)
+reach-spec = tie.close (tie.spec (λ c κs. search needs) returns (λ c κs. search needs) (λ c κs. search needs) (λ c κs. search needs) returns-2)

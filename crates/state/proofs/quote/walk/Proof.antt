@@ -18,15 +18,6 @@ abbrev μ-loop : tie.MeasureT-loop
 loop-holds : tie.Need-loop-holds Inv-loop μ-loop
 loop-holds c = (omega arith, (omega arith, refl))
 
-mul-t8 : tie.Need-mul-t8 Inv-loop μ-loop
-mul-t8 c = search needs
-
-shared-slice-read-t11 : tie.Need-shared-slice-read-t11 Inv-loop μ-loop
-shared-slice-read-t11 c = search needs
-
-access-requires : tie.Need-access-requires Inv-loop μ-loop
-access-requires c κs = search needs
-
 sub-t13 : tie.Need-sub-t13 Inv-loop μ-loop
 sub-t13 c =
     let at-access = c .before .before in
@@ -50,12 +41,6 @@ returns c =
     (at-loop .loop .inv .1 .1
     ∙ walked-stops (start .args .gas) (start .args .list .now) (at-loop .loop .i) (at-loop .loop .left) (at-loop .loop .reached) (omega (arith, at-loop-test .loop-test .taken)) (at-access .access .ensures) (not-true _ (c .if1 .taken)))
 
-add-i : tie.Need-add-i Inv-loop μ-loop
-add-i c = search needs
-
-loop-less : tie.Need-loop-less Inv-loop μ-loop
-loop-less c = search needs
-
 loop-again : tie.Need-loop-again Inv-loop μ-loop
 loop-again c =
     let at-access = c .before .before in
@@ -73,12 +58,6 @@ loop-again c =
       ),
     )
 
-sub-t15 : tie.Need-sub-t15 Inv-loop μ-loop
-sub-t15 c = search needs
-
-cast-t16 : tie.Need-cast-t16 Inv-loop μ-loop
-cast-t16 c = search needs
-
 returns-2 : tie.Need-returns-2 Inv-loop μ-loop
 returns-2 c =
     let at-loop = c .before in
@@ -93,15 +72,15 @@ walk-spec =
     Inv-loop
     μ-loop
     loop-holds
-    mul-t8
-    shared-slice-read-t11
-    access-requires
+    (λ c. search needs)
+    (λ c. search needs)
+    (λ c κs. search needs)
     sub-t13
     cast-t14
     returns
-    add-i
-    loop-less
+    (λ c. search needs)
+    (λ c. search needs)
     loop-again
-    sub-t15
-    cast-t16
+    (λ c. search needs)
+    (λ c. search needs)
     returns-2)

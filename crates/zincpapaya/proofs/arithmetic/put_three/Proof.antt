@@ -7,23 +7,11 @@ use Rattle.zincpapaya.proofs.arithmetic.put_three.Tie as tie
 wide-requires : tie.Need-wide-requires
 wide-requires c κs = tt
 
-slice-write-out : tie.Need-slice-write-out
-slice-write-out c = search needs
-
 wide-requires-2 : tie.Need-wide-requires-2
 wide-requires-2 c κs = tt
 
-slice-write-out-2 : tie.Need-slice-write-out-2
-slice-write-out-2 c = search needs
-
 wide-requires-3 : tie.Need-wide-requires-3
 wide-requires-3 c κs = tt
-
-slice-write-out-3 : tie.Need-slice-write-out-3
-slice-write-out-3 c = search needs
-
-same-length : tie.Need-same-length
-same-length c = search needs
 
 returns : tie.Need-returns
 returns c =
@@ -38,10 +26,10 @@ put-three-spec =
     tie.close
     (tie.spec
     wide-requires
-    slice-write-out
+    (λ c. search needs)
     wide-requires-2
-    slice-write-out-2
+    (λ c. search needs)
     wide-requires-3
-    slice-write-out-3
-    same-length
+    (λ c. search needs)
+    (λ c. search needs)
     returns)

@@ -20,17 +20,9 @@ pub fn same(right: bool, what: &[u8], expected: u64, came: u64) -> bool {
     false
 }
 
-// 0 for a call that was carried out, or the number of its refusal.
-fn number(answer: Answer) -> u32 {
-    match answer {
-        Answer::Done => 0,
-        Answer::Refused(n) => n,
-    }
-}
-
 // Whether a call was carried out.
 pub fn done(right: bool, call: &[u8], answer: Answer) -> bool {
-    let refusal = number(answer);
+    let refusal = outcome::status(answer);
     same(right, call, 0, refusal as u64)
 }
 

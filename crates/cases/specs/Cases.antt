@@ -9,7 +9,7 @@ use Rattle.outcome.specs.Outcome.{Outcome, panicked, done, firstOf}
 use Rattle.page_ids.specs.Decode.{Page, none, page, decoding}
 use Rattle.page_ids.specs.declared.Layout.{Layout}
 use Rattle.fat_pointer.specs.declared.FatPointer.{FatPointer}
-use Rattle.fat_pointer.specs.Pointer.{pointerOf, numberOf}
+use Rattle.fat_pointer.specs.Pointer.{pointerOf, pointerWord}
 use Rattle.state.specs.declared.Frame.{Frame}
 use Rattle.state.specs.declared.Area.the-variants.{Heap}
 use Rattle.state.specs.Access.{frameAccessed}
@@ -53,7 +53,7 @@ among (n ∷ list) k = eqb k n || among list k
 
 -- a pointer, read back from the number of its word
 abbrev pub pointer : ℕ → ℕ → ℕ → FatPointer
-pointer start length offset = pointerOf (numberOf (record { offset = offset; «memory_page» = record { 0 = 66 }; start = start; length = length }))
+pointer start length offset = pointerOf (pointerWord (record { offset = offset; «memory_page» = record { 0 = 66 }; start = start; length = length }))
 
 -- a frame with this gas and heap bound
 abbrev pub frame : ℕ → ℕ → Frame
@@ -69,24 +69,24 @@ access f address =
     (accessChecks (λ g. gasAndBound (g .frame)) Heap f address)
     (done (gasAndBound (frameAccessed f Heap address .frame)))
 
--- ---- a row holds
--- A window is one of page 66, a heap: of the chunks that it held it holds those of the list, and no others. A price is paid from any gas that reaches it.
-abbrev pub holds : Case → Type 0
-holds (decodes id p) = decoding layout id ≡ done p
-holds (spans address chunks) = touchedCount address 32 ≡ chunks
-holds (keeps start length chunks) =
+-- ---- a row Holds
+-- A window is one of page 66, a heap: of the chunks that it held it Holds those of the list, and no others. A price is paid from any gas that reaches it.
+abbrev pub Holds : Case → Type 0
+Holds (decodes id p) = decoding layout id ≡ done p
+Holds (spans address chunks) = touchedCount address 32 ≡ chunks
+Holds (keeps start length chunks) =
     (v : View) (k : ℕ) → windowed setting 66 start length v .held 66 k ≡ (v .held 66 k && among chunks k)
-holds (reads start length offset addresses) =
+Holds (reads start length offset addresses) =
     let p = pointer start length offset in
     tab (readCount p) (λ i. readFrom p + i) ≡ addresses
-holds (pays bound address price broke) =
+Holds (pays bound address price broke) =
     ((gas : ℕ) → price ≤ gas → access (frame gas bound) address ≡ done (gas - price, bound + price))
     × (access (frame 0 bound) address ≡ broke)
 
--- every row of a list holds
+-- every row of a list Holds
 abbrev pub All : List Case → Type 0
 All [] = Unit {0}
-All (row ∷ rows) = holds row × All rows
+All (row ∷ rows) = Holds row × All rows
 
 -- ---- THE TABLE
 abbrev pub table : List Case

@@ -15,7 +15,7 @@ use Rattle.formed.specs.WellFormed.{WellFormed}
 use Rattle.formed.proofs.Bools.{and-stop, and-pass}
 use Rattle.formed.proofs.Sense.{unheld-byte}
 use Rattle.view.specs.View.{View, viewOf}
-use Rattle.view.specs.Steps.{same, alike}
+use Rattle.view.specs.Steps.{sameBool, alike}
 use Rattle.compare.specs.Covers.{coversPage, covers}
 
 -- ---- tests
@@ -35,16 +35,16 @@ implied false b h = refl
 not-implied : (a b : Bool) → a ≡ true → b ≡ false → not a || b ≡ false
 not-implied a b e f = rw (e, f)
 
-same-if : (a b : Bool) → (a ≡ true → b ≡ true) → (b ≡ true → a ≡ true) → same a b ≡ true
+same-if : (a b : Bool) → (a ≡ true → b ≡ true) → (b ≡ true → a ≡ true) → sameBool a b ≡ true
 same-if true b f g = f refl
 same-if false true f g = g refl
 same-if false false f g = refl
 
-same-left : (a b : Bool) → same a b ≡ true → a ≡ true → b ≡ true
+same-left : (a b : Bool) → sameBool a b ≡ true → a ≡ true → b ≡ true
 same-left true b h e = h
 same-left false b h e = absurd (false≢true e)
 
-same-right : (a b : Bool) → same a b ≡ true → b ≡ true → a ≡ true
+same-right : (a b : Bool) → sameBool a b ≡ true → b ≡ true → a ≡ true
 same-right true b h e = refl
 same-right false true h e = h
 same-right false false h e = e
@@ -91,30 +91,30 @@ module _ (v w : View) where
       (and-false-right (pageKept p) (bytesKept p)
       (all-fails (byteKept p) 4294967327 a u (not-implied (v .held p (a / 256)) (eqb (v .bytes p a) (w .bytes p a)) h (ne-eqb (v .bytes p a) (w .bytes p a) n))))
 
-  -- ---- an equality, the same way
+  -- ---- an equality, the sameBool way
   abbrev bytesSame : ℕ → Bool
   bytesSame p = all (λ a. eqb (v .bytes p a) (w .bytes p a)) 4294967327
 
   abbrev pageSame : ℕ → Bool
-  pageSame p = same (v .allocated p) (w .allocated p) && bytesSame p
+  pageSame p = sameBool (v .allocated p) (w .allocated p) && bytesSame p
 
-  pub alike-by : ((p : ℕ) → p < 4294967296 → same (v .allocated p) (w .allocated p) ≡ true) → ((p a : ℕ) → p < 4294967296 → a < 4294967327 → v .bytes p a ≡ w .bytes p a) → alike v w ≡ true
+  pub alike-by : ((p : ℕ) → p < 4294967296 → sameBool (v .allocated p) (w .allocated p) ≡ true) → ((p a : ℕ) → p < 4294967296 → a < 4294967327 → v .bytes p a ≡ w .bytes p a) → alike v w ≡ true
   unfolding alike
   alike-by pages bytes =
       all-intro pageSame 4294967296 (λ p l.
-      and-both (same (v .allocated p) (w .allocated p)) (bytesSame p) (pages p l)
+      and-both (sameBool (v .allocated p) (w .allocated p)) (bytesSame p) (pages p l)
       (all-intro (λ a. eqb (v .bytes p a) (w .bytes p a)) 4294967327 (λ a u. eq-eqb (v .bytes p a) (w .bytes p a) (bytes p a l u))))
 
   page-alike : (p : ℕ) → p < 4294967296 → alike v w ≡ true → pageSame p ≡ true
   unfolding alike
   page-alike p l e = all-at pageSame 4294967296 p e l
 
-  pub alike-page : (p : ℕ) → p < 4294967296 → alike v w ≡ true → same (v .allocated p) (w .allocated p) ≡ true
-  alike-page p l e = and-left (same (v .allocated p) (w .allocated p)) (bytesSame p) (page-alike p l e)
+  pub alike-page : (p : ℕ) → p < 4294967296 → alike v w ≡ true → sameBool (v .allocated p) (w .allocated p) ≡ true
+  alike-page p l e = and-left (sameBool (v .allocated p) (w .allocated p)) (bytesSame p) (page-alike p l e)
 
   pub alike-byte : (p a : ℕ) → p < 4294967296 → a < 4294967327 → alike v w ≡ true → v .bytes p a ≡ w .bytes p a
   alike-byte p a l u e =
-      eqb-true (v .bytes p a) (w .bytes p a) (all-at (λ b. eqb (v .bytes p b) (w .bytes p b)) 4294967327 a (and-right (same (v .allocated p) (w .allocated p)) (bytesSame p) (page-alike p l e)) u)
+      eqb-true (v .bytes p a) (w .bytes p a) (all-at (λ b. eqb (v .bytes p b) (w .bytes p b)) 4294967327 a (and-right (sameBool (v .allocated p) (w .allocated p)) (bytesSame p) (page-alike p l e)) u)
 
   alike-covers : alike v w ≡ true → covers v w ≡ true
   unfolding covers

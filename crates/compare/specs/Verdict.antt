@@ -7,7 +7,7 @@ use Rattle.compare.specs.declared.Comparison.{Comparison}
 use Rattle.compare.specs.declared.Comparison.the-variants.{Equal, Different, Refused}
 
 -- 01's number or value of each case
-abbrev pub told : Comparison → Outcome Value
-told Equal = done (verdict true)
-told Different = done (verdict false)
-told (Refused n) = refused n
+abbrev pub comparisonOutcome : Comparison → Outcome Value
+comparisonOutcome Equal = done (verdict true)
+comparisonOutcome Different = done (verdict false)
+comparisonOutcome (Refused n) = refused n

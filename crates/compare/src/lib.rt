@@ -11,7 +11,7 @@ ghost use Rattle.view.specs.View.{viewOf};
 ghost use Rattle.view.specs.Steps.{alike};
 ghost use Rattle.view.specs.Checks.{sameLayout};
 ghost use Rattle.view.specs.Calls.{comparisonOf};
-ghost use Rattle.compare.specs.Verdict.{told};
+ghost use Rattle.compare.specs.Verdict.{comparisonOutcome};
 ghost use Rattle.compare.specs.Covers.{covers};
 use store::head;
 
@@ -166,7 +166,7 @@ pub fn compare(
     right_order: &[u32],
     right_words: &[u64],
 ) -> Comparison
-    ensures { λ r. ⌜ told r ≡ comparisonOf (mem (now («left_bytes» .entry)) (now («left_keys» .entry)) (now («left_order» .entry)) (now («left_words» .entry))) (mem (now («right_bytes» .entry)) (now («right_keys» .entry)) (now («right_order» .entry)) (now («right_words» .entry))) ⌝ }
+    ensures { λ r. ⌜ comparisonOutcome r ≡ comparisonOf (mem (now («left_bytes» .entry)) (now («left_keys» .entry)) (now («left_order» .entry)) (now («left_words» .entry))) (mem (now («right_bytes» .entry)) (now («right_keys» .entry)) (now («right_order» .entry)) (now («right_words» .entry))) ⌝ }
 {
     if !formed::well_formed(left_bytes, left_keys, left_order, left_words) {
         return Comparison::Refused(3);

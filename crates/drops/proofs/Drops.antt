@@ -16,7 +16,7 @@ use Rattle.index.proofs.Orders.{index-fits}
 use Rattle.index.proofs.Places.{seek-hit, find-past, find-gap}
 use Rattle.index.proofs.Meaning.{once}
 use Rattle.store.specs.Mem.{Mem, mem, layoutOf, slotCount, pageCount, heldNow, inUse, holders, entries, slotOrder, pageOrder}
-use Rattle.store.specs.Give.{within, Given}
+use Rattle.store.specs.Give.{within, Released}
 use Rattle.store.proofs.Parts.{rest-low, rest-high, rest-part}
 use Rattle.store.proofs.Gives.{within-yes}
 use Rattle.formed.specs.Pages.{dynamic}
@@ -62,7 +62,7 @@ nothing false = refl
 
 -- ---- `drop_chunks`
 module _ (bytes keys order words bytes' keys' order' words' : List ℕ) (p lo hi : ℕ) (a : DropAsks (mem bytes keys order words) p lo hi)
-    (g : Given (entryOf (mem bytes keys order words) p * 33554432 + 1 + lo) (entryOf (mem bytes keys order words) p * 33554432 + 1 + hi) bytes keys order words bytes' keys' order' words') where
+    (g : Released (entryOf (mem bytes keys order words) p * 33554432 + 1 + lo) (entryOf (mem bytes keys order words) p * 33554432 + 1 + hi) bytes keys order words bytes' keys' order' words') where
   abbrev m : Mem
   m = mem bytes keys order words
 
@@ -339,10 +339,10 @@ module _ (m : Mem) (p : ℕ) (a : PageAsks m p) where
 
 -- `drop_chunks`, by the entry that it found
 pub dropped-by : (bytes keys order words bytes' keys' order' words' : List ℕ) (p lo hi e : ℕ) → (a : DropAsks (mem bytes keys order words) p lo hi) → e ≡ seek (drop (slotCount words) keys) (p + 1)
-    → Given (e * 33554432 + 1 + lo) (e * 33554432 + 1 + hi) bytes keys order words bytes' keys' order' words'
+    → Released (e * 33554432 + 1 + lo) (e * 33554432 + 1 + hi) bytes keys order words bytes' keys' order' words'
     → (Shows (settingOf (mem bytes keys order words)) (dropping (settingOf (mem bytes keys order words)) p lo hi (viewOf (mem bytes keys order words))) (mem bytes' keys' order' words')) × (entries (mem bytes' keys' order' words') ≡ entries (mem bytes keys order words))
 dropped-by bytes keys order words bytes' keys' order' words' p lo hi e a q g =
-    let h = subst (λ (x : ℕ). Given (x * 33554432 + 1 + lo) (x * 33554432 + 1 + hi) bytes keys order words bytes' keys' order' words') q g in
+    let h = subst (λ (x : ℕ). Released (x * 33554432 + 1 + lo) (x * 33554432 + 1 + hi) bytes keys order words bytes' keys' order' words') q g in
     (dropped bytes keys order words bytes' keys' order' words' p lo hi a h, pages-same bytes keys order words bytes' keys' order' words' p lo hi a h)
 
 -- `free_page`, by its two steps

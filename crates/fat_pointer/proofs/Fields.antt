@@ -5,7 +5,7 @@ use Prim.Native.Nat.{ℕ, _+_, _*_, _-_, _/_, _%_, _<_, _^_}
 use native.Mathlib.Omega.{arith}
 use native.Mathlib.Nat.{mod-add-div, div-div-eq-div-mul, mod-eq-sub-mul-div, mul-assoc}
 use Rattle.word.specs.Value.{limbsValue}
-use Rattle.fat_pointer.specs.Pointer.{pointerOf, numberOf}
+use Rattle.fat_pointer.specs.Pointer.{pointerOf, pointerWord}
 use Rattle.fat_pointer.specs.declared.FatPointer.{FatPointer}
 
 -- the low and the high field of a limb are those of every word whose lowest limb it is
@@ -67,7 +67,7 @@ module _ (o p s l : ℕ) (lo : o < 2 ^ 32) (lp : p < 2 ^ 32) (ls : s < 2 ^ 32) (
       (ap (λ (q : ℕ). q % 2 ^ 32) past-page ∙ field s _ ls) (ap (λ (q : ℕ). q % 2 ^ 32) past-start ∙ small l ll)
 
 -- the round trip: the pointer of a pointer's word is the pointer
-pub round-trip : (p : FatPointer) → p .offset < 2 ^ 32 → p .«memory_page» .0 < 2 ^ 32 → p .start < 2 ^ 32 → p .length < 2 ^ 32 → pointerOf (numberOf p) ≡ p
+pub round-trip : (p : FatPointer) → p .offset < 2 ^ 32 → p .«memory_page» .0 < 2 ^ 32 → p .start < 2 ^ 32 → p .length < 2 ^ 32 → pointerOf (pointerWord p) ≡ p
 round-trip p = again (p .offset) (p .«memory_page» .0) (p .start) (p .length)
 
 -- a field, and what lies above it
@@ -78,7 +78,7 @@ fields-sum : (w q₁ q₂ q₃ r o p s l : ℕ) → w ≡ o + 2 ^ 32 * q₁ → 
 fields-sum w q₁ q₂ q₃ r o p s l e₀ e₁ e₂ e₃ = omega arith
 
 -- and the word of a word's pointer is the word's lower 128 bits
-pub word-again : (w : ℕ) → numberOf (pointerOf w) ≡ w % 2 ^ 128
+pub word-again : (w : ℕ) → pointerWord (pointerOf w) ≡ w % 2 ^ 128
 word-again w =
     fields-sum w (w / 2 ^ 32) (w / 2 ^ 64) (w / 2 ^ 96) (2 ^ 32 * (w / 2 ^ 128)) _ _ _ _
     (sym (mod-add-div w (2 ^ 32))) (next w (2 ^ 32)) (next w (2 ^ 64)) (next w (2 ^ 96))

@@ -13,5 +13,5 @@ pointerOf word = record {
 }
 
 -- the number of a pointer's word; bits from 128 up are 0
-abbrev pub numberOf : FatPointer → ℕ
-numberOf p = p .offset + 2 ^ 32 * p .«memory_page» .0 + 2 ^ 64 * p .start + 2 ^ 96 * p .length
+abbrev pub pointerWord : FatPointer → ℕ
+pointerWord p = p .offset + 2 ^ 32 * p .«memory_page» .0 + 2 ^ 64 * p .start + 2 ^ 96 * p .length

@@ -3,7 +3,7 @@
 ghost use mathlib.Core.Path.{_≡_};
 ghost use Prim.Native.Nat.{_+_, _*_, _/_, _%_, _^_};
 ghost use Rattle.word.specs.Value.{value, limbsValue};
-ghost use Rattle.fat_pointer.specs.Pointer.{pointerOf, numberOf};
+ghost use Rattle.fat_pointer.specs.Pointer.{pointerOf, pointerWord};
 use page_ids::PageId;
 use word::Word;
 
@@ -55,7 +55,7 @@ fn pack(low: u32, high: u32) -> u64
 
 // The word of a pointer; the upper 128 bits are zero.
 pub fn into_u256(p: FatPointer) -> Word
-    ensures { λ r. ⌜ value (r .limbs) ≡ numberOf p ⌝ }
+    ensures { λ r. ⌜ value (r .limbs) ≡ pointerWord p ⌝ }
 {
     let page = p.memory_page.0;
     let limbs = [pack(p.offset, page), pack(p.start, p.length), 0, 0];

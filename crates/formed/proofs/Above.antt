@@ -6,10 +6,10 @@ use mathlib.Core.Bool.{Bool, true, false, cond, false≢true}
 use Prim.Native.Nat.{ℕ, _-_, _%_, _≤_, _<_}
 use lib.Dec.{ltb, eqb}
 use borrow.Author.Tests.{lt-ltb}
-use Rattle.page_ids.specs.Decode.{Page, none, page, byRemainder}
+use Rattle.page_ids.specs.Decode.{Page, none, page, byRemainder, isDynamic}
 use Rattle.page_ids.specs.declared.Layout.{Layout}
 use Rattle.index.proofs.Logic.{lt-or-ge}
-use Rattle.formed.specs.Pages.{isDynamic, dynamic, group}
+use Rattle.formed.specs.Pages.{dynamic, group}
 
 -- a dynamic page lies at or above the base
 pub dynamic-above : (l : Layout) (p : ℕ) → dynamic l p ≡ true → l .base .0 ≤ p

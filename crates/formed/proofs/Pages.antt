@@ -14,10 +14,10 @@ use Rattle.page_ids.specs.declared.DynamicPageKind.{DynamicPageKind}
 use Rattle.page_ids.specs.declared.DynamicPageKind.the-variants.{Code, Heap, Aux}
 use Rattle.page_ids.specs.declared.DecodedPage.{DecodedPage}
 use Rattle.page_ids.specs.declared.DecodedPage.the-variants.{Dynamic}
-use Rattle.page_ids.specs.Decode.{badLayout, Page, none, page, pageOf, byRemainder, decoded}
+use Rattle.page_ids.specs.Decode.{badLayout, Page, none, page, pageOf, byRemainder, decoded, isDynamic, isFixed}
 use Rattle.index.proofs.Logic.{and-left, and-right, and-both, same-or-not}
 use Rattle.store.specs.Mem.{layoutOf}
-use Rattle.formed.specs.Pages.{fixedId, LayoutRule, isDynamic, isFixed, fixed, dynamic, group, journalCount, journalPlace}
+use Rattle.formed.specs.Pages.{fixedId, LayoutRule, fixed, dynamic, group, journalCount, journalPlace}
 use Rattle.formed.proofs.Bools.{not-on, or-off, or-first, or-rest, or-on, or-left}
 
 -- the rule of refusal 1

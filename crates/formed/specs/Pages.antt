@@ -4,7 +4,7 @@ use mathlib.Core.Path.{_≡_}
 use mathlib.Core.Bool.{Bool, false}
 use Prim.Native.Nat.{ℕ, zero, suc, _-_, _/_, _<_, _≤_}
 use lib.Dec.{leb, ltb}
-use Rattle.page_ids.specs.Decode.{Page, none, page, decoded}
+use Rattle.page_ids.specs.Decode.{decoded, isDynamic, isFixed}
 use Rattle.page_ids.specs.declared.Layout.{Layout}
 
 -- the fixed page ids in 01's order: 0 static, 1 calldata, 2 bootloader heap, 3 bootloader aux
@@ -18,15 +18,6 @@ fixedId l (suc (suc (suc i))) = l .«bootloader_aux» .0
 pub record LayoutRule (l : Layout) : Type 0 where
   pub distinct : (i j : ℕ) → i < j → j < 4 → fixedId l i ≡ fixedId l j → ⊥
   pub stride : 4 ≤ l .stride
-
--- kinds 0 to 2 are dynamic, 3 to 6 fixed
-abbrev pub isDynamic : Page → Bool
-isDynamic none = false
-isDynamic (page kind group) = ltb kind 3
-
-abbrev pub isFixed : Page → Bool
-isFixed none = false
-isFixed (page kind group) = leb 3 kind
 
 unfoldable pub fixed : Layout → ℕ → Bool
 fixed l p = isFixed (decoded l p)

@@ -9,17 +9,17 @@ use lib.Dec.{ltb}
 use borrow.Author.Tests.{lt-ltb, le-ltb, ltb-false}
 use Rattle.outcome.specs.Outcome.{refused}
 use Rattle.index.proofs.Logic.{and-left, and-right}
-use Rattle.page_ids.specs.Decode.{Page, none, page, decoded}
+use Rattle.page_ids.specs.Decode.{Page, none, page, decoded, isNone, isDynamic, isFixed}
 use Rattle.store.specs.Mem.{Mem, layoutOf, dynamicLength}
-use Rattle.formed.specs.Pages.{isFixed, isDynamic, fixed, dynamic}
+use Rattle.formed.specs.Pages.{fixed, dynamic}
 use Rattle.formed.specs.Parts.{allocated}
 use Rattle.formed.specs.WellFormed.{WellFormed}
 use Rattle.view.specs.View.{View, Setting, viewOf, settingOf}
 use Rattle.view.specs.Steps.{fromGroup, shortened, truncated}
-use Rattle.view.specs.Checks.{isNone, undecodable, freeChecks, truncateChecks}
+use Rattle.view.specs.Checks.{undecodable, freeChecks, truncateChecks}
 use Rattle.view.specs.Does.{Shows}
 use Rattle.view.proofs.Counts.{fixed-only}
-use Rattle.room.specs.Refusals.{number}
+use Rattle.room.specs.Refusals.{firstRefusal}
 use Rattle.room.proofs.Numbers.{first-holds, first-fails, none-first}
 use Rattle.refusals.proofs.Chosen.{chosen-4, past-4, none-is, fixed-is}
 use Rattle.refusals.proofs.Passed.{Refusals, end, next, decodable}
@@ -28,24 +28,24 @@ use Rattle.freeing.specs.Freeing.{emptied, ShortenAsks}
 
 -- ---- a free; d is the page as decoded
 module _ (s : Setting) (v : View) (p : ℕ) (d : Page) (is : d ≡ decoded (s .layout) p) where
-  pub free-4 : isNone d ≡ true → 4 ≡ number (freeChecks s v p)
+  pub free-4 : isNone d ≡ true → 4 ≡ firstRefusal (freeChecks s v p)
   free-4 e = chosen-4 s v p d is ((fixed (s .layout) p, refused 5) ∷ (not (v .allocated p), refused 7) ∷ []) e
 
   module _ (e : isNone d ≡ false) where
-    past : (r : ℕ) → r ≡ number ((fixed (s .layout) p, refused 5) ∷ (not (v .allocated p), refused 7) ∷ []) → r ≡ number (freeChecks s v p)
+    past : (r : ℕ) → r ≡ firstRefusal ((fixed (s .layout) p, refused 5) ∷ (not (v .allocated p), refused 7) ∷ []) → r ≡ firstRefusal (freeChecks s v p)
     past r q = past-4 s v p d is ((fixed (s .layout) p, refused 5) ∷ (not (v .allocated p), refused 7) ∷ []) e r q
 
-    pub free-5 : isFixed d ≡ true → 5 ≡ number (freeChecks s v p)
+    pub free-5 : isFixed d ≡ true → 5 ≡ firstRefusal (freeChecks s v p)
     free-5 f = past 5 (first-holds (fixed (s .layout) p) 5 ((not (v .allocated p), refused 7) ∷ []) (fixed-is s v p d is f))
 
     module _ (f : isFixed d ≡ false) where
-      past-5 : (r : ℕ) → r ≡ number ((not (v .allocated p), refused 7) ∷ []) → r ≡ number (freeChecks s v p)
+      past-5 : (r : ℕ) → r ≡ firstRefusal ((not (v .allocated p), refused 7) ∷ []) → r ≡ firstRefusal (freeChecks s v p)
       past-5 r q = past r (q ∙ first-fails (fixed (s .layout) p) (refused 5) ((not (v .allocated p), refused 7) ∷ []) (fixed-is s v p d is f))
 
-      pub free-7 : v .allocated p ≡ false → 7 ≡ number (freeChecks s v p)
+      pub free-7 : v .allocated p ≡ false → 7 ≡ firstRefusal (freeChecks s v p)
       free-7 a = past-5 7 (first-holds (not (v .allocated p)) 7 [] (ap not a))
 
-      pub free-0 : v .allocated p ≡ true → 0 ≡ number (freeChecks s v p)
+      pub free-0 : v .allocated p ≡ true → 0 ≡ firstRefusal (freeChecks s v p)
       free-0 a = past-5 0 (first-fails (not (v .allocated p)) (refused 7) [] (ap not a))
 
 -- a decodable page that is not fixed is dynamic
@@ -59,7 +59,7 @@ dynamic-by s p e f = only-dynamic (fixed (s .layout) p) (dynamic (s .layout) p) 
 pub free-refusals : (s : Setting) (v : View) (p : ℕ) → Refusals (freeChecks s v p)
 free-refusals s v p = next (next (next end))
 
-pub free-passed : (m : Mem) (p : ℕ) → WellFormed m → number (freeChecks (settingOf m) (viewOf m) p) ≡ 0 → PageAsks m p
+pub free-passed : (m : Mem) (p : ℕ) → WellFormed m → firstRefusal (freeChecks (settingOf m) (viewOf m) p) ≡ 0 → PageAsks m p
 free-passed m p f e =
     let h = none-first (undecodable (settingOf m) p) 3 ((fixed (layoutOf (m .words)) p, refused 5) ∷ (not (allocated m p), refused 7) ∷ []) e in
     let k = none-first (fixed (layoutOf (m .words)) p) 4 ((not (allocated m p), refused 7) ∷ []) (h .1) in
@@ -92,16 +92,16 @@ both-asked m p f e =
 
 -- ---- a truncation
 module _ (v : View) (n : ℕ) where
-  pub truncate-13 : v .dynamicLength < n → 13 ≡ number (truncateChecks v n)
+  pub truncate-13 : v .dynamicLength < n → 13 ≡ firstRefusal (truncateChecks v n)
   truncate-13 l = first-holds (ltb (v .dynamicLength) n) 13 [] (lt-ltb (v .dynamicLength) n l)
 
-  pub truncate-0 : n ≤ v .dynamicLength → 0 ≡ number (truncateChecks v n)
+  pub truncate-0 : n ≤ v .dynamicLength → 0 ≡ firstRefusal (truncateChecks v n)
   truncate-0 l = first-fails (ltb (v .dynamicLength) n) (refused 13) [] (le-ltb (v .dynamicLength) n l)
 
   pub truncate-refusals : Refusals (truncateChecks v n)
   truncate-refusals = next end
 
-  pub truncate-passed : number (truncateChecks v n) ≡ 0 → n ≤ v .dynamicLength
+  pub truncate-passed : firstRefusal (truncateChecks v n) ≡ 0 → n ≤ v .dynamicLength
   truncate-passed e = ltb-false (v .dynamicLength) n (none-first (ltb (v .dynamicLength) n) 12 [] e .0)
 
 module _ (m : Mem) (n : ℕ) (l : n ≤ dynamicLength (m .words)) (m₁ : Mem) (shows : Shows (settingOf m) (emptied (settingOf m) n (viewOf m)) m₁) where

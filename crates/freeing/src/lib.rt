@@ -1,13 +1,13 @@
 // Pages freed, shrunk to a window, and cut off by truncation.
 ghost use mathlib.Core.Path.{_≡_};
 ghost use mathlib.Core.Bool.{_&&_};
-ghost use Rattle.outcome.specs.Outcome.{numberOf};
+ghost use Rattle.outcome.specs.Outcome.{refusalNumber, answerOutcome};
 ghost use Rattle.store.specs.Mem.{mem, layoutOf};
 ghost use Rattle.formed.specs.Pages.{dynamic};
 ghost use Rattle.formed.specs.WellFormed.{WellFormed};
 ghost use Rattle.view.specs.View.{settingOf, viewOf};
 ghost use Rattle.view.specs.Checks.{onMemory, freeChecks, truncateChecks};
-ghost use Rattle.view.specs.Calls.{Call, nothing, CallDoes, told};
+ghost use Rattle.view.specs.Calls.{Call, nothing, CallDoes};
 use outcome::Answer;
 use page_ids::Address;
 use page_ids::PageId;
@@ -17,7 +17,7 @@ pub mod steps;
 
 // The number with which a free is refused, or 0.
 fn free_refusal(bytes: &[u8], keys: &[u64], order: &[u32], words: &[u64], page: u32) -> u32
-    ensures { λ r. let m = mem (now (bytes .entry)) (now (keys .entry)) (now (order .entry)) (now (words .entry)) in ⌜ r ≡ numberOf (onMemory m (freeChecks (settingOf m) (viewOf m) page) nothing) ⌝ }
+    ensures { λ r. let m = mem (now (bytes .entry)) (now (keys .entry)) (now (order .entry)) (now (words .entry)) in ⌜ r ≡ refusalNumber (onMemory m (freeChecks (settingOf m) (viewOf m) page) nothing) ⌝ }
 {
     if !formed::well_formed(bytes, keys, order, words) {
         return 3;
@@ -43,7 +43,7 @@ pub fn deallocate(
     words: &mut [u64],
     page: PageId,
 ) -> Answer
-    ensures { λ r. ⌜ CallDoes (mem (now (bytes .entry)) (now (keys .entry)) (now (order .entry)) (now (words .entry))) (Call.Free (page .0)) (told r) (mem (now (bytes .exit)) (now (keys .exit)) (now (order .exit)) (now (words .exit))) ⌝ }
+    ensures { λ r. ⌜ CallDoes (mem (now (bytes .entry)) (now (keys .entry)) (now (order .entry)) (now (words .entry))) (Call.Free (page .0)) (answerOutcome nothing r) (mem (now (bytes .exit)) (now (keys .exit)) (now (order .exit)) (now (words .exit))) ⌝ }
 {
     let refusal = free_refusal(bytes, keys, order, words, page.0);
     if refusal != 0 {
@@ -78,7 +78,7 @@ pub fn compact_to_window(
     start: Address,
     length: u32,
 ) -> Answer
-    ensures { λ r. ⌜ CallDoes (mem (now (bytes .entry)) (now (keys .entry)) (now (order .entry)) (now (words .entry))) (Call.Window (page .0) (start .0) length) (told r) (mem (now (bytes .exit)) (now (keys .exit)) (now (order .exit)) (now (words .exit))) ⌝ }
+    ensures { λ r. ⌜ CallDoes (mem (now (bytes .entry)) (now (keys .entry)) (now (order .entry)) (now (words .entry))) (Call.Window (page .0) (start .0) length) (answerOutcome nothing r) (mem (now (bytes .exit)) (now (keys .exit)) (now (order .exit)) (now (words .exit))) ⌝ }
 {
     if !formed::well_formed(bytes, keys, order, words) {
         return Answer::Refused(3);
@@ -92,7 +92,7 @@ pub fn compact_to_window(
 
 // The number with which a truncation is refused, or 0.
 fn truncate_refusal(bytes: &[u8], keys: &[u64], order: &[u32], words: &[u64], len: u64) -> u32
-    ensures { λ r. let m = mem (now (bytes .entry)) (now (keys .entry)) (now (order .entry)) (now (words .entry)) in ⌜ r ≡ numberOf (onMemory m (truncateChecks (viewOf m) len) nothing) ⌝ }
+    ensures { λ r. let m = mem (now (bytes .entry)) (now (keys .entry)) (now (order .entry)) (now (words .entry)) in ⌜ r ≡ refusalNumber (onMemory m (truncateChecks (viewOf m) len) nothing) ⌝ }
 {
     if !formed::well_formed(bytes, keys, order, words) {
         return 3;
@@ -111,7 +111,7 @@ pub fn truncate_dynamic_to(
     words: &mut [u64],
     len: u64,
 ) -> Answer
-    ensures { λ r. ⌜ CallDoes (mem (now (bytes .entry)) (now (keys .entry)) (now (order .entry)) (now (words .entry))) (Call.Truncate len) (told r) (mem (now (bytes .exit)) (now (keys .exit)) (now (order .exit)) (now (words .exit))) ⌝ }
+    ensures { λ r. ⌜ CallDoes (mem (now (bytes .entry)) (now (keys .entry)) (now (order .entry)) (now (words .entry))) (Call.Truncate len) (answerOutcome nothing r) (mem (now (bytes .exit)) (now (keys .exit)) (now (order .exit)) (now (words .exit))) ⌝ }
 {
     let refusal = truncate_refusal(bytes, keys, order, words, len);
     if refusal != 0 {

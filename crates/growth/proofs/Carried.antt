@@ -16,8 +16,8 @@ use Rattle.store.specs.Mem.{Mem}
 use Rattle.formed.specs.Formed.{wellFormed}
 use Rattle.view.specs.View.{settingOf, viewOf}
 use Rattle.view.specs.Checks.{Check}
-use Rattle.view.specs.Instructions.{Operand, Hook, Given, accessChecks, storeChecks, loaded, stored}
-use Rattle.view.specs.Calls.{Value, Load, Store, nothing, given, number, lengths, bytes, verdict, answerOf}
+use Rattle.view.specs.Instructions.{Operand, Hook, InstructionResult, accessChecks, storeChecks, loaded, stored}
+use Rattle.view.specs.Calls.{Value, Load, Store, nothing, instructionResult, number, lengths, bytes, verdict, answerOf}
 use Rattle.plain.proofs.Tests.{Clear, clear}
 use Rattle.growth.specs.Charges.{sameArea}
 
@@ -39,7 +39,7 @@ is-done ((b, done x) ∷ rest) a n e = absurd n
 
 -- the frame of a value, and of an outcome; f where there is none
 abbrev frameGiven : Frame → Value → Frame
-frameGiven f (given r) = r .frame
+frameGiven f (instructionResult r) = r .frame
 frameGiven f nothing = f
 frameGiven f (number n) = f
 frameGiven f (lengths heap aux) = f
@@ -52,26 +52,26 @@ frameTold f (panicked v) = frameGiven f v
 frameTold f (done v) = frameGiven f v
 
 -- ---- loads and stores
--- the access of an area at x, given the frame f, is paid and leaves the frame g
+-- the access of an area at x, instructionResult the frame f, is paid and leaves the frame g
 pub record Paid (area : Area) (x : ℕ) (f g : Frame) : Type 0 where
   pub paid : frameAccessed f area x .paid ≡ true
   pub frame : g ≡ frameAccessed f area x .frame
 
 -- an instruction that is carried out has passed its checks, and its frame is the definition's
-passed : (r v : Given) (checks : List (Check Value)) → NoneDone checks → done (given r) ≡ firstOf checks (done (given v)) → Clear checks × (r .frame ≡ v .frame)
+passed : (r v : InstructionResult) (checks : List (Check Value)) → NoneDone checks → done (instructionResult r) ≡ firstOf checks (done (instructionResult v)) → Clear checks × (r .frame ≡ v .frame)
 passed r v checks n e =
-    let c : carriedOut (firstOf checks (done (given v))) ≡ true = sym (ap carriedOut e) in
-    (clear checks (given v) c, ap (frameTold (v .frame)) (e ∙ is-done checks (given v) n c))
+    let c : carriedOut (firstOf checks (done (instructionResult v))) ≡ true = sym (ap carriedOut e) in
+    (clear checks (instructionResult v) c, ap (frameTold (v .frame)) (e ∙ is-done checks (instructionResult v) n c))
 
-module _ (m : Mem) (area : Area) (f : Frame) (x : Operand) (r : Given) where
-  pub load-paid : done (given r) ≡ answerOf m (Load area f x) → Paid area (x .word) f (r .frame)
+module _ (m : Mem) (area : Area) (f : Frame) (x : Operand) (r : InstructionResult) where
+  pub load-paid : done (instructionResult r) ≡ answerOf m (Load area f x) → Paid area (x .word) f (r .frame)
   load-paid e =
-      let p = passed r (loaded (viewOf m) area f x) ((not (wellFormed m), refused 3) ∷ accessChecks given area f (x .word)) tt e in
+      let p = passed r (loaded (viewOf m) area f x) ((not (wellFormed m), refused 3) ∷ accessChecks instructionResult area f (x .word)) tt e in
       record { paid = not-false _ (p .0 .1 .0); frame = p .1 }
 
-  pub store-paid : (n : ℕ) (h : Hook) → done (given r) ≡ answerOf m (Store area f x n h) → Paid area (x .word) f (r .frame)
+  pub store-paid : (n : ℕ) (h : Hook) → done (instructionResult r) ≡ answerOf m (Store area f x n h) → Paid area (x .word) f (r .frame)
   store-paid n h e =
-      let p = passed r (stored area f x n h) ((not (wellFormed m), refused 3) ∷ storeChecks given (settingOf m) (viewOf m) area f (x .word) n h) tt e in
+      let p = passed r (stored area f x n h) ((not (wellFormed m), refused 3) ∷ storeChecks instructionResult (settingOf m) (viewOf m) area f (x .word) n h) tt e in
       record { paid = not-false _ (p .0 .1 .0); frame = p .1 }
 
 -- ---- what the access moves

@@ -5,10 +5,11 @@ use mathlib.Core.Bool.{Bool, true, false, false≢true}
 use mathlib.Core.List.{List, [], _∷_}
 use Prim.Native.Nat.{ℕ, _+_, _≤_, max}
 use native.Mathlib.Omega.{arith}
+use Rattle.word.specs.Value.{lastAddress}
 use Rattle.state.specs.declared.Frame.{Frame}
 use Rattle.state.specs.declared.Area.{Area}
 use Rattle.state.specs.declared.Area.the-variants.{Heap, Aux}
-use Rattle.state.specs.Access.{lastAddress, boundOf}
+use Rattle.state.specs.Access.{boundOf}
 use Rattle.plain.specs.Claim.{Steps}
 use Rattle.growth.specs.Meet.{LoadsAndStoresMeet}
 use Rattle.growth.specs.Charges.{LoadOrStore, by-load, by-store, Charge, chargeOf, LoadsAndStores, one, more, sameArea, sumOf, addresses, highest, lastBound, AddsUp, GrowthAddsUp}

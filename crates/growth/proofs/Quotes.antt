@@ -19,8 +19,8 @@ use Rattle.state.proofs.Laws.{accessed-less, accessed-short}
 use Rattle.store.specs.Mem.{Mem}
 use Rattle.formed.specs.Formed.{wellFormed}
 use Rattle.view.specs.View.{viewOf}
-use Rattle.view.specs.Instructions.{Operand, Given, panic, loaded}
-use Rattle.view.specs.Calls.{Value, given, Load, answerOf}
+use Rattle.view.specs.Instructions.{Operand, InstructionResult, panic, loaded}
+use Rattle.view.specs.Calls.{Value, instructionResult, Load, answerOf}
 use Rattle.plain.specs.Claim.{Steps}
 use Rattle.growth.specs.Meet.{LoadsAndStoresMeet}
 use Rattle.growth.specs.Quotes.{Loads, none, more, ends, QuoteOfLoads}
@@ -37,21 +37,21 @@ isPanic (refused n) = false
 isPanic (panicked v) = true
 isPanic (done v) = false
 
-module _ (m : Mem) (area : Area) (f : Frame) (x : Operand) (r : Given) where
+module _ (m : Mem) (area : Area) (f : Frame) (x : Operand) (r : InstructionResult) where
   abbrev after : Frame
   after = frameAccessed f area (x .word) .frame
 
   -- by whether the memory is well formed, and whether the access is paid
   abbrev answer : Bool → Bool → Outcome Value
-  answer b p = cond (not b) (refused 3) (cond (not p) (panicked (given (panic after))) (done (given (loaded (viewOf m) area f x))))
+  answer b p = cond (not b) (refused 3) (cond (not p) (panicked (instructionResult (panic after))) (done (instructionResult (loaded (viewOf m) area f x))))
 
-  carried-out : done (given r) ≡ answerOf m (Load area f x) → growthOf area (r .frame) true ≡ accessed (f .gas) (boundOf f area) (x .word)
+  carried-out : done (instructionResult r) ≡ answerOf m (Load area f x) → growthOf area (r .frame) true ≡ accessed (f .gas) (boundOf f area) (x .word)
   carried-out e = paid-is area (x .word) f (r .frame) (load-paid m area f x r e)
 
-  panics : panicked (given r) ≡ answerOf m (Load area f x) → growthOf area (r .frame) false ≡ accessed (f .gas) (boundOf f area) (x .word)
+  panics : panicked (instructionResult r) ≡ answerOf m (Load area f x) → growthOf area (r .frame) false ≡ accessed (f .gas) (boundOf f area) (x .word)
   panics = go (wellFormed m) (frameAccessed f area (x .word) .paid) refl
     where
-      go : (b p : Bool) → frameAccessed f area (x .word) .paid ≡ p → panicked (given r) ≡ answer b p → growthOf area (r .frame) false ≡ accessed (f .gas) (boundOf f area) (x .word)
+      go : (b p : Bool) → frameAccessed f area (x .word) .paid ≡ p → panicked (instructionResult r) ≡ answer b p → growthOf area (r .frame) false ≡ accessed (f .gas) (boundOf f area) (x .word)
       go false p q e = absurd (false≢true (sym (ap isPanic e)))
       go true false q e =
           ap (λ (o : Outcome Value). growthOf area (frameTold f o) false) e

@@ -10,7 +10,7 @@ use native.Mathlib.Omega.{arith}
 use lib.ListN.{length, getD, take, set, length-append}
 use lib.Seq.{take-suc, take-suc-set, take-append-add, take-all, length-take-le, take-length}
 use Rattle.heaptrace.specs.declared.lines.State.{State}
-use Rattle.heaptrace.specs.Bounds.{Gathered, Bounded, emptied}
+use Rattle.heaptrace.specs.Bounds.{Gathered, Bounded, outputWritten}
 
 append-nil : (xs : List ℕ) → xs ++ [] ≡ xs
 append-nil [] = refl
@@ -46,14 +46,14 @@ inside-more input from i f n k a b e =
     ⊎-elim (λ q. n (ap (λ (j : ℕ). getD input j 0) (sym q) ∙ e)) (λ l. f k a l e) (eq-or-lt-of-le (le-of-suc-le-suc c))
 
 -- ---- the output
-pub roomy-bounded : (s r : State) → Bounded s → (r ≡ s) ⊎ (r ≡ emptied s) → Bounded r
+pub roomy-bounded : (s r : State) → Bounded s → (r ≡ s) ⊎ (r ≡ outputWritten s) → Bounded r
 roomy-bounded s r b e = ⊎-elim (λ q. subst (λ (x : State). Bounded x) (sym q) b) (λ q. subst (λ (x : State). Bounded x) (sym q) (b .0, omega arith)) e
 
-pub same-run : (s r : State) → (r ≡ s) ⊎ (r ≡ emptied s) → r .run ≡ s .run
+pub same-run : (s r : State) → (r ≡ s) ⊎ (r ≡ outputWritten s) → r .run ≡ s .run
 same-run s r e = ⊎-elim (λ q. ap (λ (x : State). x .run) q) (λ q. ap (λ (x : State). x .run) q) e
 
-pub same-held : (s r : State) → (r ≡ s) ⊎ (r ≡ emptied s) → r .held ≡ s .held
+pub same-held : (s r : State) → (r ≡ s) ⊎ (r ≡ outputWritten s) → r .held ≡ s .held
 same-held s r e = ⊎-elim (λ q. ap (λ (x : State). x .held) q) (λ q. ap (λ (x : State). x .held) q) e
 
-pub next-place : (s r : State) → (r ≡ s) ⊎ (r ≡ emptied s) → (r .out ≡ s .out) ⊎ (r .out ≡ 0)
+pub next-place : (s r : State) → (r ≡ s) ⊎ (r ≡ outputWritten s) → (r .out ≡ s .out) ⊎ (r .out ≡ 0)
 next-place s r e = ⊎-elim (λ q. inl (ap (λ (x : State). x .out) q)) (λ q. inr (ap (λ (x : State). x .out) q)) e

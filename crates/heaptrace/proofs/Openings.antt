@@ -19,7 +19,7 @@ use Rattle.view.specs.Calls.{nothing}
 use Rattle.opening.specs.Opening.{setting}
 use Rattle.trace.specs.Text.{done, refused}
 use Rattle.heaptrace.specs.Bounds.{Within, Space}
-use Rattle.heaptrace.specs.Trace.{toldOf, openOutcome, bytesIn, keysIn, parts}
+use Rattle.heaptrace.specs.Trace.{reported, openOutcome, bytesIn, keysIn, parts}
 
 short : (n k : ℕ) (xs : List ℕ) → n < k → length (take n xs) ≡ k → ⊥
 short n k xs l e = omega (arith, length-take n xs)
@@ -47,12 +47,12 @@ module _ (l : Layout) (x y z : ℕ) (m : Mem) where
   lengths-wrong : (128 < x) ⊎ ((64 < y) ⊎ (256 < z)) → lengthsRight (setting l x y z) lent ≡ false
   lengths-wrong b = ⊎-elim (λ h. bytes-short (fewer-chunks x z h)) (λ c. ⊎-elim (λ h. keys-short (fewer-pages x y h)) (λ h. bytes-short (fewer-words x z h)) c) b
 
-  refused-two : (t : Bool) → toldOf (cond t (outcome.refused 1) (outcome.refused 2)) ≡ cond t (refused 1) (refused 2)
+  refused-two : (t : Bool) → reported (cond t (outcome.refused 1) (outcome.refused 2)) ≡ cond t (refused 1) (refused 2)
   refused-two true = refl
   refused-two false = refl
 
   -- counts beyond the space
-  pub beyond : (128 < x) ⊎ ((64 < y) ⊎ (256 < z)) → toldOf (openOutcome lent (setting l x y z)) ≡ cond (badLayout l) (refused 1) (refused 2)
+  pub beyond : (128 < x) ⊎ ((64 < y) ⊎ (256 < z)) → reported (openOutcome lent (setting l x y z)) ≡ cond (badLayout l) (refused 1) (refused 2)
   beyond b = rw (lengths-wrong b, and-false (countsRight (setting l x y z))) (refused-two (badLayout l))
 
   whole : (x k : ℕ) → x ≤ k → min x k ≡ x
@@ -65,11 +65,11 @@ module _ (l : Layout) (x y z : ℕ) (m : Mem) where
       let c = whole z 256 (w .2) in
       rw (a, b, c, length-take-le (256 * x + 64 * z) (m .bytes) (omega (arith, s .0, w .0, w .2)), length-take-le (x + y + 4) (m .keys) (omega (arith, s .1, w .0, w .1)), length-take-le (3 * x + y + 4) (m .order) (omega (arith, s .2, w .0, w .1)), length-take-le (16 + 6 * z) (m .words) (omega (arith, s .3, w .2)), eq-eqb (256 * x + 64 * z) (256 * x + 64 * z) refl, eq-eqb (x + y + 4) (x + y + 4) refl, eq-eqb (3 * x + y + 4) (3 * x + y + 4) refl, eq-eqb (16 + 6 * z) (16 + 6 * z) refl)
 
-  told-by : (t u : Bool) → toldOf (cond t (outcome.refused 1) (cond (not (u && true)) (outcome.refused 2) (cond (ltb x 0) (outcome.refused 10) (outcome.done nothing)))) ≡ cond t (refused 1) (cond u done (refused 2))
+  told-by : (t u : Bool) → reported (cond t (outcome.refused 1) (cond (not (u && true)) (outcome.refused 2) (cond (ltb x 0) (outcome.refused 10) (outcome.done nothing)))) ≡ cond t (refused 1) (cond u done (refused 2))
   told-by true u = refl
   told-by false true = rw (le-ltb x 0 zero-le)
   told-by false false = refl
 
   -- counts within the space
-  pub within : Space (m .bytes) (m .keys) (m .order) (m .words) → Within x y z → toldOf (openOutcome lent (setting l x y z)) ≡ cond (badLayout l) (refused 1) (cond (countsRight (setting l x y z)) done (refused 2))
+  pub within : Space (m .bytes) (m .keys) (m .order) (m .words) → Within x y z → reported (openOutcome lent (setting l x y z)) ≡ cond (badLayout l) (refused 1) (cond (countsRight (setting l x y z)) done (refused 2))
   within s w = rw (lengths-right s w) (told-by (badLayout l) (countsRight (setting l x y z)))

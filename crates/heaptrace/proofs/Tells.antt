@@ -16,7 +16,7 @@ use Rattle.opening.specs.Opening.{setting}
 use Rattle.view.specs.View.{View, Setting}
 use Rattle.view.specs.Does.{Does}
 use Rattle.view.specs.Calls.{Value, number}
-use Rattle.reads.specs.Calls.{marked}
+use Rattle.reads.specs.Calls.{lengthsValue}
 use Rattle.trace.specs.declared.Kind.{Kind}
 use Rattle.trace.specs.declared.Kind.the-variants.{Unread, Open, Write, Read, Snapshot, Rollback}
 use Rattle.trace.specs.declared.text.Answered.{Answered}
@@ -24,32 +24,32 @@ use Rattle.trace.specs.declared.text.Answered.the-variants as answered
 use Rattle.trace.proofs.Kind.{the-type}
 use Rattle.trace.proofs.text.Answered.{the-type as answered-type}
 use Rattle.trace.specs.Language.{Line, commandLine, meaning}
-use Rattle.trace.specs.Text.{Told, word, marks, refused, replyWith}
+use Rattle.trace.specs.Text.{Reported, word, marks, refused, replyWith}
 use Rattle.heaptrace.specs.declared.step.Run.{Run}
-use Rattle.heaptrace.specs.Trace.{toldOf, OpenTells, LineTells, bytesIn, keysIn, orderIn, wordsIn, PartsTell, afterOpening, OnOpen, TraceTells}
+use Rattle.heaptrace.specs.Trace.{reported, OpenTells, LineTells, bytesIn, keysIn, orderIn, wordsIn, PartsTell, afterOpening, OnOpen, TraceTells}
 
-pub tells : {m m' : Mem} {o said : Outcome Value} {s : Setting} {v : View} → Does m o s v said m' → (t : Told) → t ≡ toldOf said → (t ≡ toldOf o) × Does m o s v o m'
-tells d t e = (e ∙ ap toldOf (d .answer), record { answer = refl; kept = d .kept; changed = d .changed })
+pub tells : {m m' : Mem} {o said : Outcome Value} {s : Setting} {v : View} → Does m o s v said m' → (t : Reported) → t ≡ reported said → (t ≡ reported o) × Does m o s v o m'
+tells d t e = (e ∙ ap reported (d .answer), record { answer = refl; kept = d .kept; changed = d .changed })
 
-pub word-refused : (n v : ℕ) → (n ≡ 0 → ⊥) → refused n ≡ toldOf (mapped number (answered n v))
+pub word-refused : (n v : ℕ) → (n ≡ 0 → ⊥) → refused n ≡ reported (mapped number (answered n v))
 word-refused zero v ne = absurd (ne refl)
 word-refused (suc n) v ne = refl
 
-pub word-given : (n v : ℕ) → n ≡ 0 → word v ≡ toldOf (mapped number (answered n v))
+pub word-given : (n v : ℕ) → n ≡ 0 → word v ≡ reported (mapped number (answered n v))
 word-given n v e = rw e
 
-pub marks-refused : (n : ℕ) (v : ℕ × ℕ) → (n ≡ 0 → ⊥) → refused n ≡ toldOf (mapped marked (answered n v))
+pub marks-refused : (n : ℕ) (v : ℕ × ℕ) → (n ≡ 0 → ⊥) → refused n ≡ reported (mapped lengthsValue (answered n v))
 marks-refused zero v ne = absurd (ne refl)
 marks-refused (suc n) v ne = refl
 
-pub marks-given : (n h a : ℕ) → n ≡ 0 → marks h a ≡ toldOf (mapped marked (answered n (h, a)))
+pub marks-given : (n h a : ℕ) → n ≡ 0 → marks h a ≡ reported (mapped lengthsValue (answered n (h, a)))
 marks-given n h a e = rw e
 
-pub open-of : {m m' : Mem} {t : Told} {l l' : Layout} {x y z : ℕ} → l ≡ l' → OpenTells m (setting l x y z) t m' → OpenTells m (setting l' x y z) t m'
+pub open-of : {m m' : Mem} {t : Reported} {l l' : Layout} {x y z : ℕ} → l ≡ l' → OpenTells m (setting l x y z) t m' → OpenTells m (setting l' x y z) t m'
 open-of {m} {m'} {t} {l} {l'} {x} {y} {z} e p = subst (λ (k : Layout). OpenTells m (setting k x y z) t m') e p
 
 -- ---- the parts of the space
-pub parts-tell : (c p j : ℕ) (b k o w : List ℕ) (line : Line) (t : Told) (b' k' o' w' : List ℕ) (nb nk nr nw : ℕ)
+pub parts-tell : (c p j : ℕ) (b k o w : List ℕ) (line : Line) (t : Reported) (b' k' o' w' : List ℕ) (nb nk nr nw : ℕ)
     → nb ≡ bytesIn c j → nk ≡ keysIn c p → nr ≡ orderIn c p → nw ≡ wordsIn j
     → length b' ≡ nb → length k' ≡ nk → length o' ≡ nr → length w' ≡ nw
     → LineTells (mem (take nb b) (take nk k) (take nr o) (take nw w)) line t (mem b' k' o' w')
@@ -64,7 +64,7 @@ parts-tell c p j b k o w line t b' k' o' w' nb nk nr nw eb ek eo ew lb lk lo lw 
     }
 
 -- ---- lines, by the kind of their command
-module _ (r r' : Run) (m m' : Mem) (t : Told) (ns : List ℕ) (w : ℕ) where
+module _ (r r' : Run) (m m' : Mem) (t : Reported) (ns : List ℕ) (w : ℕ) where
   pub trace-open : (k : Kind) → k ≡ Open → r' ≡ afterOpening r (getD ns 6 0) (getD ns 7 0) (getD ns 8 0) t
       → PartsTell (getD ns 6 0) (getD ns 7 0) (getD ns 8 0) m (commandLine k ns w) t m' → TraceTells r m (commandLine k ns w) r' t m'
   trace-open k e a p = subst (λ (x : Kind). TraceTells r m (commandLine x ns w) r' t m') (sym e) (a, subst (λ (x : Kind). PartsTell (getD ns 6 0) (getD ns 7 0) (getD ns 8 0) m (commandLine x ns w) t m') e p)
@@ -84,7 +84,7 @@ module _ (r r' : Run) (m m' : Mem) (t : Told) (ns : List ℕ) (w : ℕ) where
   trace-other Snapshot o p = p
   trace-other Rollback o p = p
 
-pub trace-line : (r r' : Run) (m m' : Mem) (t : Told) (l l' : Line) → l ≡ l' → TraceTells r m l r' t m' → TraceTells r m l' r' t m'
+pub trace-line : (r r' : Run) (m m' : Mem) (t : Reported) (l l' : Line) → l ≡ l' → TraceTells r m l r' t m' → TraceTells r m l' r' t m'
 trace-line r r' m m' t l l' e p = subst (λ (x : Line). TraceTells r m x r' t m') e p
 
 -- a reply that is not `ok` keeps the counts
@@ -139,6 +139,6 @@ module _ (c p j x y z : ℕ) (ex : c ≡ min x 128) (ey : p ≡ min y 64) (ez : 
       fit j n k e = omega arith
 
 -- the same run and the same bytes of a line
-pub trace-at : (r r₀ r' : Run) (m m' : Mem) (t : Told) (line : List ℕ) (n n₀ : ℕ) → r ≡ r₀ → n ≡ n₀ → TraceTells r m (meaning (take (n - 0) line)) r' t m' → TraceTells r₀ m (meaning (take n₀ line)) r' t m'
+pub trace-at : (r r₀ r' : Run) (m m' : Mem) (t : Reported) (line : List ℕ) (n n₀ : ℕ) → r ≡ r₀ → n ≡ n₀ → TraceTells r m (meaning (take (n - 0) line)) r' t m' → TraceTells r₀ m (meaning (take n₀ line)) r' t m'
 trace-at r r₀ r' m m' t line n n₀ e q p =
     subst (λ (x : Run). TraceTells x m (meaning (take n₀ line)) r' t m') e (trace-line r r' m m' t (meaning (take (n - 0) line)) (meaning (take n₀ line)) (ap (λ (k : ℕ). meaning (take k line)) (minus-none n ∙ q)) p)

@@ -7,7 +7,7 @@ use Prim.Native.Nat.{ℕ, _≤_, _<_}
 use lib.ListN.{length, getD, take}
 use Rattle.store.specs.Mem.{Mem}
 use Rattle.trace.specs.Language.{meaning}
-use Rattle.trace.specs.Text.{Told, textOf, Wrote}
+use Rattle.trace.specs.Text.{Reported, textOf, Wrote}
 use Rattle.heaptrace.specs.declared.lines.State.{State}
 use Rattle.heaptrace.specs.Trace.{TraceTells}
 
@@ -19,8 +19,8 @@ abbrev pub Space : (bytes keys order words : List ℕ) → Type 0
 Space bytes keys order words = (length bytes ≡ 49152) × (length keys ≡ 196) × (length order ≡ 452) × (length words ≡ 1552)
 
 -- the state after the output is written
-abbrev pub emptied : State → State
-emptied s = record { run = s .run; held = s .held; out = 0 }
+abbrev pub outputWritten : State → State
+outputWritten s = record { run = s .run; held = s .held; out = 0 }
 
 -- what is gathered lies within its buffer
 abbrev pub Bounded : State → Type 0
@@ -41,7 +41,7 @@ pub record Gathered (held : ℕ) (piece o d : List ℕ) (n : ℕ) : Type 0 where
 
 -- ---- a line that is answered: what it does, and that the answer's text is what the output has next
 pub record Answers (s : State) (m : Mem) (line out : List ℕ) (s' : State) (m' : Mem) (out' : List ℕ) : Type 0 where
-  pub told : Told
+  pub told : Reported
   pub tells : TraceTells (s .run) m (meaning (take (s .held) line)) (s' .run) told m'
   -- the text stands after what is gathered, or at the start where that is written first
   pub at : ℕ

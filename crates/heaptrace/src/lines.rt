@@ -3,7 +3,7 @@ ghost use Prim.Native.Nat.{_≤_, _<_};
 ghost use lib.ListN.{length};
 ghost use mathlib.Core.Path.{_≡_};
 ghost use Rattle.io.specs.Counts.{Counts};
-ghost use Rattle.heaptrace.specs.Bounds.{Bounded, Space, LineEnd, Gathered, emptied, Answers};
+ghost use Rattle.heaptrace.specs.Bounds.{Bounded, Space, LineEnd, Gathered, outputWritten, Answers};
 ghost use Rattle.store.specs.Mem.{mem};
 ghost use mathlib.Core.Logic.{_⊎_};
 use crate::step;
@@ -60,7 +60,7 @@ fn gather(line: &mut [u8], held: usize, piece: &[u8]) -> usize
 // Writes the gathered output.
 fn flush(output: &[u8], state: State) -> State
     requires { ⌜ (Bounded state) × (length (now output) ≡ 65536) ⌝ }
-    ensures { λ r. ⌜ r ≡ emptied state ⌝ }
+    ensures { λ r. ⌜ r ≡ outputWritten state ⌝ }
 {
     let out = state.out;
     io::write_all(1, &output[0..out]);
@@ -75,7 +75,7 @@ fn flush(output: &[u8], state: State) -> State
 // The state with room for one more answer, the longest of which has 135 bytes.
 fn roomy(output: &[u8], state: State) -> State
     requires { ⌜ (Bounded state) × (length (now output) ≡ 65536) ⌝ }
-    ensures { λ r. ⌜ ((r ≡ state) ⊎ (r ≡ emptied state)) × (r .out ≤ 65400) ⌝ }
+    ensures { λ r. ⌜ ((r ≡ state) ⊎ (r ≡ outputWritten state)) × (r .out ≤ 65400) ⌝ }
 {
     if 65400 < state.out {
         return flush(output, state);

@@ -2,6 +2,7 @@
 ghost use mathlib.Core.Path.{_≡_};
 ghost use Prim.Native.Nat.{min};
 ghost use lib.ListN.{getD};
+ghost use Rattle.outcome.specs.Outcome.{answerOutcome};
 ghost use Rattle.word.specs.Value.{value};
 ghost use Rattle.store.specs.Mem.{mem};
 ghost use Rattle.view.specs.Calls as calls;
@@ -10,7 +11,7 @@ ghost use Rattle.opening.specs.Opening.{layoutFrom, setting};
 ghost use Rattle.trace.specs.Language.{meaning, commandOf};
 ghost use Rattle.trace.specs.Text.{replyOf};
 ghost use Rattle.heaptrace.specs.Bounds.{Space};
-ghost use Rattle.heaptrace.specs.Trace.{toldOf, CallTells, OpenTells, LineTells, PartsTell, TraceTells, afterOpening};
+ghost use Rattle.heaptrace.specs.Trace.{reported, CallTells, OpenTells, LineTells, PartsTell, TraceTells, afterOpening};
 use outcome::Answer;
 use page_ids::Address;
 use page_ids::BasePage;
@@ -40,7 +41,7 @@ pub struct Taken {
 // ---- the calls, of a memory in just these buffers
 
 fn said(answer: Answer) -> Reply
-    ensures { λ r. ⌜ replyOf r ≡ toldOf (calls.told answer) ⌝ }
+    ensures { λ r. ⌜ replyOf r ≡ reported (answerOutcome nothing answer) ⌝ }
 {
     match answer {
         Answer::Done => text::done(),

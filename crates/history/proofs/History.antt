@@ -8,7 +8,7 @@ use native.Mathlib.Omega.{arith}
 use lib.Dec.{ltb}
 use lib.ListN.{length, getD}
 use borrow.Author.Tests.{lt-ltb, le-ltb, ltb-false, not-true, not-false}
-use Rattle.outcome.specs.Outcome.{Outcome, refused, done, firstOf, carriedOut, numberOf}
+use Rattle.outcome.specs.Outcome.{Outcome, refused, done, firstOf, carriedOut, refusalNumber}
 use Rattle.store.specs.Mem.{Mem}
 use Rattle.formed.specs.Formed.{wellFormed}
 use Rattle.formed.proofs.Meaning.{well-formed-means}
@@ -41,7 +41,7 @@ aux-past h a e f = rw (e, f) refl
 none-past : (h a : Bool) → h ≡ false → a ≡ false → done nothing ≡ marked h a
 none-past h a e f = rw (e, f) refl
 
-passes : (w h a : Bool) → numberOf (tested w (marked h a)) ≡ 0 → (w ≡ true) × (h ≡ false) × (a ≡ false)
+passes : (w h a : Bool) → refusalNumber (tested w (marked h a)) ≡ 0 → (w ≡ true) × (h ≡ false) × (a ≡ false)
 passes true false false e = (refl, refl, refl)
 passes true false true e = absurd (omega arith)
 passes true true a e = absurd (omega arith)
@@ -88,28 +88,28 @@ module _ (m : Mem) (heap aux : ℕ) where
   aux-long = journal-long m 1 (omega arith)
 
   -- the refusals
-  pub refusal-3 : wellFormed m ≡ false → 3 ≡ numberOf answer
-  refusal-3 e = ap numberOf (not-formed m (Rollback heap aux) e)
+  pub refusal-3 : wellFormed m ≡ false → 3 ≡ refusalNumber answer
+  refusal-3 e = ap refusalNumber (not-formed m (Rollback heap aux) e)
 
   module _ (e : wellFormed m ≡ true) where
     goes : marked H A ≡ answer
     goes = goes-on (wellFormed m) (marked H A) e
 
-    pub refusal-heap : getD (m .words) 12 0 < heap → 12 ≡ numberOf answer
-    refusal-heap l = ap numberOf (heap-past H A (lt-ltb _ heap (let q = heap-long in omega arith)) ∙ goes)
+    pub refusal-heap : getD (m .words) 12 0 < heap → 12 ≡ refusalNumber answer
+    refusal-heap l = ap refusalNumber (heap-past H A (lt-ltb _ heap (let q = heap-long in omega arith)) ∙ goes)
 
     module _ (k : heap ≤ getD (m .words) 12 0) where
       heap-in : H ≡ false
       heap-in = le-ltb _ heap (let q = heap-long in omega arith)
 
-      pub refusal-aux : getD (m .words) 13 0 < aux → 12 ≡ numberOf answer
-      refusal-aux l = ap numberOf (aux-past H A heap-in (lt-ltb _ aux (let q = aux-long in omega arith)) ∙ goes)
+      pub refusal-aux : getD (m .words) 13 0 < aux → 12 ≡ refusalNumber answer
+      refusal-aux l = ap refusalNumber (aux-past H A heap-in (lt-ltb _ aux (let q = aux-long in omega arith)) ∙ goes)
 
-      pub refusal-none : aux ≤ getD (m .words) 13 0 → 0 ≡ numberOf answer
-      refusal-none l = ap numberOf (none-past H A heap-in (le-ltb _ aux (let q = aux-long in omega arith)) ∙ goes)
+      pub refusal-none : aux ≤ getD (m .words) 13 0 → 0 ≡ refusalNumber answer
+      refusal-none l = ap refusalNumber (none-past H A heap-in (le-ltb _ aux (let q = aux-long in omega arith)) ∙ goes)
 
   -- the call, refused or carried out
-  module _ (n : ℕ) (e : n ≡ numberOf answer) where
+  module _ (n : ℕ) (e : n ≡ refusalNumber answer) where
     pub rollback-refused : (n ≡ 0 → ⊥) → CallDoes m (Rollback heap aux) (refused n) m
     rollback-refused z = call-refused m (Rollback heap aux) n (told-number answer n e z)
 

@@ -1,8 +1,8 @@
 // The history of the bootloader pages: rollback to a snapshot, and deletion.
 ghost use mathlib.Core.Path.{_≡_};
-ghost use Rattle.outcome.specs.Outcome.{numberOf};
+ghost use Rattle.outcome.specs.Outcome.{refusalNumber, answerOutcome};
 ghost use Rattle.store.specs.Mem.{mem};
-ghost use Rattle.view.specs.Calls.{Rollback, DeleteHistory, answerOf, CallDoes, told};
+ghost use Rattle.view.specs.Calls.{Rollback, DeleteHistory, answerOf, CallDoes, nothing};
 use outcome::Answer;
 use store::head;
 
@@ -15,7 +15,7 @@ fn rollback_refusal(
     heap: u64,
     aux: u64,
 ) -> u32
-    ensures { λ r. ⌜ r ≡ numberOf (answerOf (mem (now (bytes .entry)) (now (keys .entry)) (now (order .entry)) (now (words .entry))) (Rollback heap aux)) ⌝ }
+    ensures { λ r. ⌜ r ≡ refusalNumber (answerOf (mem (now (bytes .entry)) (now (keys .entry)) (now (order .entry)) (now (words .entry))) (Rollback heap aux)) ⌝ }
 {
     if !formed::well_formed(bytes, keys, order, words) {
         return 3;
@@ -38,7 +38,7 @@ pub fn rollback(
     heap: u64,
     aux: u64,
 ) -> Answer
-    ensures { λ r. let m = mem (now (bytes .entry)) (now (keys .entry)) (now (order .entry)) (now (words .entry)) in ⌜ CallDoes m (Rollback heap aux) (told r) (mem (now (bytes .exit)) (now (keys .entry)) (now (order .entry)) (now (words .exit))) ⌝ }
+    ensures { λ r. let m = mem (now (bytes .entry)) (now (keys .entry)) (now (order .entry)) (now (words .entry)) in ⌜ CallDoes m (Rollback heap aux) (answerOutcome nothing r) (mem (now (bytes .exit)) (now (keys .entry)) (now (order .entry)) (now (words .exit))) ⌝ }
 {
     let n = rollback_refusal(bytes, keys, order, words, heap, aux);
     if n != 0 {
@@ -50,7 +50,7 @@ pub fn rollback(
 
 // Empties the journals: no earlier snapshot can be rolled back to. vm2: `delete_history`.
 pub fn delete_history(bytes: &[u8], keys: &[u64], order: &[u32], words: &mut [u64]) -> Answer
-    ensures { λ r. let m = mem (now (bytes .entry)) (now (keys .entry)) (now (order .entry)) (now (words .entry)) in ⌜ CallDoes m DeleteHistory (told r) (mem (now (bytes .entry)) (now (keys .entry)) (now (order .entry)) (now (words .exit))) ⌝ }
+    ensures { λ r. let m = mem (now (bytes .entry)) (now (keys .entry)) (now (order .entry)) (now (words .entry)) in ⌜ CallDoes m DeleteHistory (answerOutcome nothing r) (mem (now (bytes .entry)) (now (keys .entry)) (now (order .entry)) (now (words .exit))) ⌝ }
 {
     if !formed::well_formed(bytes, keys, order, words) {
         return Answer::Refused(3);

@@ -6,7 +6,7 @@ ghost use Rattle.store.specs.Mem.{mem};
 ghost use Rattle.formed.specs.WellFormed.{WellFormed};
 ghost use Rattle.view.specs.View.{settingOf, viewOf};
 ghost use Rattle.view.specs.Checks.{wordWriteChecks, byteWriteChecks};
-ghost use Rattle.room.specs.Refusals.{number};
+ghost use Rattle.room.specs.Refusals.{firstRefusal};
 ghost use Rattle.journal.specs.Steps.{RollBackAsks};
 ghost use Rattle.drops.specs.Drops.{PageAsks};
 use outcome::Answer;
@@ -34,10 +34,7 @@ pub extern "C" fn in_open(
         base: BasePage(64),
         stride: 8,
     };
-    match opening::open(bytes, keys, order, words, layout, chunks, pages, room, b"") {
-        Answer::Done => 0,
-        Answer::Refused(n) => n,
-    }
+    outcome::status(opening::open(bytes, keys, order, words, layout, chunks, pages, room, b""))
 }
 
 // Four limbs of a word from place `at` on, the lowest first.
@@ -104,7 +101,7 @@ pub extern "C" fn in_write_word(
     limb2: u64,
     limb3: u64,
 )
-    requires { ⌜ (WellFormed (mem (now bytes) (now keys) (now order) (now words))) × (number (wordWriteChecks (settingOf (mem (now bytes) (now keys) (now order) (now words))) (viewOf (mem (now bytes) (now keys) (now order) (now words))) page address) ≡ 0) ⌝ }
+    requires { ⌜ (WellFormed (mem (now bytes) (now keys) (now order) (now words))) × (firstRefusal (wordWriteChecks (settingOf (mem (now bytes) (now keys) (now order) (now words))) (viewOf (mem (now bytes) (now keys) (now order) (now words))) page address) ≡ 0) ⌝ }
 {
     let limbs = [limb0, limb1, limb2, limb3];
     let value = word::to_big_endian(Word { limbs: limbs });
@@ -121,7 +118,7 @@ pub extern "C" fn in_write_range(
     start: u32,
     src: &[u8],
 )
-    requires { ⌜ (WellFormed (mem (now bytes) (now keys) (now order) (now words))) × (number (byteWriteChecks (settingOf (mem (now bytes) (now keys) (now order) (now words))) (viewOf (mem (now bytes) (now keys) (now order) (now words))) page start (length (now src))) ≡ 0) ⌝ }
+    requires { ⌜ (WellFormed (mem (now bytes) (now keys) (now order) (now words))) × (firstRefusal (byteWriteChecks (settingOf (mem (now bytes) (now keys) (now order) (now words))) (viewOf (mem (now bytes) (now keys) (now order) (now words))) page start (length (now src))) ≡ 0) ⌝ }
 {
     writes::steps::write_range(bytes, keys, order, words, page, start, src);
 }

@@ -10,34 +10,34 @@ use Rattle.outcome.specs.Outcome.{Outcome, refused, firstOf}
 use Rattle.view.specs.View.{View, Setting}
 use Rattle.view.specs.Checks.{Check, wordWriteChecks}
 use Rattle.view.specs.Calls.{Value}
-use Rattle.room.specs.Refusals.{number}
+use Rattle.room.specs.Refusals.{firstRefusal}
 use Rattle.room.proofs.Numbers.{none-first}
 use Rattle.refusals.proofs.Passed.{Refusals, end, next, room-refusals}
 
--- ---- what decides, by its number
-pub by-number : {checks : List (Check Value)} → Refusals checks → (n : ℕ) → n ≡ number checks → (n ≡ 0 → ⊥) → (o : Outcome Value) → firstOf checks o ≡ refused n
+-- ---- what decides, by its firstRefusal
+pub by-number : {checks : List (Check Value)} → Refusals checks → (n : ℕ) → n ≡ firstRefusal checks → (n ≡ 0 → ⊥) → (o : Outcome Value) → firstOf checks o ≡ refused n
 by-number end n e z o = absurd (z e)
 by-number (next {b = true} {n = k} r) n e z o = ap refused (sym e)
 by-number (next {b = false} r) n e z o = by-number r n e z o
 
-pub by-none : {checks : List (Check Value)} → Refusals checks → number checks ≡ 0 → (o : Outcome Value) → firstOf checks o ≡ o
+pub by-none : {checks : List (Check Value)} → Refusals checks → firstRefusal checks ≡ 0 → (o : Outcome Value) → firstOf checks o ≡ o
 by-none end e o = refl
 by-none (next {b = true} {n = k} r) e o = absurd (omega arith)
 by-none (next {b = false} r) e o = by-none r e o
 
 -- ---- more checks after them
 module _ (rest : List (Check Value)) where
-  pub more-number : {checks : List (Check Value)} → Refusals checks → (n : ℕ) → n ≡ number checks → (n ≡ 0 → ⊥) → n ≡ number (checks ++ rest)
+  pub more-number : {checks : List (Check Value)} → Refusals checks → (n : ℕ) → n ≡ firstRefusal checks → (n ≡ 0 → ⊥) → n ≡ firstRefusal (checks ++ rest)
   more-number end n e z = absurd (z e)
   more-number (next {b = true} r) n e z = e
   more-number (next {b = false} r) n e z = more-number r n e z
 
-  pub more-none : {checks : List (Check Value)} → Refusals checks → number checks ≡ 0 → number rest ≡ number (checks ++ rest)
+  pub more-none : {checks : List (Check Value)} → Refusals checks → firstRefusal checks ≡ 0 → firstRefusal rest ≡ firstRefusal (checks ++ rest)
   more-none end e = refl
   more-none (next {b = true} {n = k} r) e = absurd (omega arith)
   more-none (next {b = false} r) e = more-none r e
 
-  pub both-none : {checks : List (Check Value)} → Refusals checks → number (checks ++ rest) ≡ 0 → (number checks ≡ 0) × (number rest ≡ 0)
+  pub both-none : {checks : List (Check Value)} → Refusals checks → firstRefusal (checks ++ rest) ≡ 0 → (firstRefusal checks ≡ 0) × (firstRefusal rest ≡ 0)
   both-none end e = (refl, e)
   both-none (next {b = true} {n = k} r) e = absurd (omega arith)
   both-none (next {b = false} r) e = both-none r e
@@ -54,7 +54,7 @@ module _ (s : Setting) (v : View) (p a : ℕ) where
     pub store-refusals : Refusals (wordWriteChecks s v p a ++ fifteen hit n)
     store-refusals = next (next (next (next (next end))))
 
-    pub store-passed : number (wordWriteChecks s v p a ++ fifteen hit n) ≡ 0 → (number (wordWriteChecks s v p a) ≡ 0) × ((hit && ltb 4294967295 n) ≡ false)
+    pub store-passed : firstRefusal (wordWriteChecks s v p a ++ fifteen hit n) ≡ 0 → (firstRefusal (wordWriteChecks s v p a) ≡ 0) × ((hit && ltb 4294967295 n) ≡ false)
     store-passed e =
         let h = both-none (fifteen hit n) write-refusals e in
         (h .0, none-first (hit && ltb 4294967295 n) 14 [] (h .1) .0)

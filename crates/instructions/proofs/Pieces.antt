@@ -17,7 +17,7 @@ use Rattle.state.specs.declared.Area.the-variants.{Heap, Aux}
 use Rattle.state.specs.declared.Step.{Step}
 use Rattle.state.specs.Access.{newBound, frameGrown, frameAccessed}
 use Rattle.view.proofs.Order.{emptied}
-use Rattle.room.specs.Refusals.{number}
+use Rattle.room.specs.Refusals.{firstRefusal}
 use Rattle.instructions.specs.Executions.{carried}
 use Rattle.instructions.specs.declared.ExecutionStatus.{ExecutionStatus}
 use Rattle.instructions.specs.declared.ExecutionStatus.the-variants.{Running, SuspendedOnHook}
@@ -46,17 +46,17 @@ hook-on true b e = refl
 hook-on false b e = absurd (true≢false e)
 
 module _ (hit : Bool) (n : ℕ) where
-  pub missed : hit ≡ false → 0 ≡ number (fifteen hit n)
+  pub missed : hit ≡ false → 0 ≡ firstRefusal (fifteen hit n)
   missed e = rw e refl
 
-  pub fits-32 : ltb n (2 ^ 32) ≡ true → 0 ≡ number (fifteen hit n)
+  pub fits-32 : ltb n (2 ^ 32) ≡ true → 0 ≡ firstRefusal (fifteen hit n)
   fits-32 e = let l = ltb-true n (2 ^ 32) e in rw (le-ltb 4294967295 n (omega arith)) (go hit)
     where
-      go : (b : Bool) → 0 ≡ number (((b && false), refused 15) ∷ [])
+      go : (b : Bool) → 0 ≡ firstRefusal (((b && false), refused 15) ∷ [])
       go true = refl
       go false = refl
 
-  pub too-wide : hit ≡ true → ltb n (2 ^ 32) ≡ false → 15 ≡ number (fifteen hit n)
+  pub too-wide : hit ≡ true → ltb n (2 ^ 32) ≡ false → 15 ≡ firstRefusal (fifteen hit n)
   too-wide e q = let l = ltb-false n (2 ^ 32) q in rw (e, lt-ltb 4294967295 n (omega arith)) refl
 
   pub stop-hit : hit ≡ true → (k : ℕ) → k ≡ n % 2 ^ 32 → SuspendedOnHook k ≡ cond hit (SuspendedOnHook (n % 2 ^ 32)) Running

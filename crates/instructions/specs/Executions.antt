@@ -8,8 +8,8 @@ use Rattle.word.specs.Value.{value}
 use Rattle.state.specs.declared.Frame.{Frame}
 use Rattle.store.specs.Mem.{Mem}
 use Rattle.view.specs.Instructions as view
-use Rattle.view.specs.Instructions.{Given, Stop, running, onHook, frameAlone}
-use Rattle.view.specs.Calls.{Call, Value, given, CallDoes}
+use Rattle.view.specs.Instructions.{InstructionResult, Stop, running, onHook, frameAlone}
+use Rattle.view.specs.Calls.{Call, Value, instructionResult, CallDoes}
 use Rattle.instructions.specs.declared.Operand.{Operand}
 use Rattle.instructions.specs.declared.Hook.{Hook}
 use Rattle.instructions.specs.declared.Execution.{Execution}
@@ -30,26 +30,26 @@ stopOf (SuspendedOnHook n) = onHook n
 stopOf Panicked = running
 stopOf (Refused n) = running
 
-abbrev pub givenBy : Execution → Given
-givenBy r = record { word = value (r .word .limbs); operand = operandOf (r .operand); frame = r .frame; stop = stopOf (r .status) }
+abbrev pub resultOf : Execution → InstructionResult
+resultOf r = record { word = value (r .word .limbs); operand = operandOf (r .operand); frame = r .frame; stop = stopOf (r .status) }
 
-abbrev pub toldBy : ExecutionStatus → Given → Outcome Value
-toldBy Running g = done (given g)
-toldBy (SuspendedOnHook n) g = done (given g)
-toldBy Panicked g = panicked (given g)
-toldBy (Refused n) g = refused n
+abbrev pub statusOutcome : ExecutionStatus → InstructionResult → Outcome Value
+statusOutcome Running g = done (instructionResult g)
+statusOutcome (SuspendedOnHook n) g = done (instructionResult g)
+statusOutcome Panicked g = panicked (instructionResult g)
+statusOutcome (Refused n) g = refused n
 
 -- 01's number of a refusal, or what a panic or an instruction that was carried out gives
-abbrev pub told : Execution → Outcome Value
-told r = toldBy (r .status) (givenBy r)
+abbrev pub executionOutcome : Execution → Outcome Value
+executionOutcome r = statusOutcome (r .status) (resultOf r)
 
 -- THE CONTRACT of an instruction c on the buffers m and the frame f, which answers r and leaves the buffers m'
 pub record Runs (m : Mem) (c : Call) (f : Frame) (r : Execution) (m' : Mem) : Type 0 where
   -- that of every call: the outcome is the definition's; the buffers are as they were where it is refused or panics, and show the view that it leaves where not
-  pub does : CallDoes m c (told r) m'
+  pub does : CallDoes m c (executionOutcome r) m'
   -- a refused instruction gives no word and no operand, and the frame as it was
-  pub refusal : (n : ℕ) → told r ≡ refused n → givenBy r ≡ frameAlone f
+  pub refusal : (n : ℕ) → executionOutcome r ≡ refused n → resultOf r ≡ frameAlone f
 
 -- ---- what the parts do
-abbrev pub carried : ExecutionStatus → (word operand : ℕ) → Bool → Frame → Given
+abbrev pub carried : ExecutionStatus → (word operand : ℕ) → Bool → Frame → InstructionResult
 carried s w x t f = record { word = w; operand = record { word = x; tag = t }; frame = f; stop = stopOf s }

@@ -124,7 +124,7 @@ pub fn load_pointer(
         return parts::panicked(frame);
     }
     let pointer = fat_pointer::from_u256(operand.word);
-    if pointer.offset > 4294967263 {
+    if pointer.offset > word::LAST_ADDRESS {
         return parts::panicked(frame);
     }
     if pointer.length > 4294967295 - pointer.start {

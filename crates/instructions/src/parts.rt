@@ -12,8 +12,8 @@ ghost use Rattle.formed.specs.WellFormed.{WellFormed};
 ghost use Rattle.view.specs.View.{settingOf, viewOf};
 ghost use Rattle.view.specs.Checks.{wordWriteChecks};
 ghost use Rattle.view.specs.Instructions.{heapOf, staticOf, frameAlone, panic, hooked, incremented};
-ghost use Rattle.room.specs.Refusals.{number};
-ghost use Rattle.instructions.specs.Executions.{hookOf, givenBy, carried};
+ghost use Rattle.room.specs.Refusals.{firstRefusal};
+ghost use Rattle.instructions.specs.Executions.{hookOf, resultOf, carried};
 use crate::Execution;
 use crate::ExecutionStatus;
 use crate::Hook;
@@ -82,7 +82,7 @@ pub fn store_refusal(
     hook: Hook,
 ) -> u32
     requires { ⌜ WellFormed (mem (now bytes) (now keys) (now order) (now words)) ⌝ }
-    ensures { λ r. ⌜ r ≡ number (wordWriteChecks (settingOf (mem (now (bytes .entry)) (now (keys .entry)) (now (order .entry)) (now (words .entry)))) (viewOf (mem (now (bytes .entry)) (now (keys .entry)) (now (order .entry)) (now (words .entry)))) page address ++ ((hooked (hookOf hook) address && ltb 4294967295 (value (word .limbs)), refused 15) ∷ [])) ⌝ }
+    ensures { λ r. ⌜ r ≡ firstRefusal (wordWriteChecks (settingOf (mem (now (bytes .entry)) (now (keys .entry)) (now (order .entry)) (now (words .entry)))) (viewOf (mem (now (bytes .entry)) (now (keys .entry)) (now (order .entry)) (now (words .entry)))) page address ++ ((hooked (hookOf hook) address && ltb 4294967295 (value (word .limbs)), refused 15) ∷ [])) ⌝ }
 {
     let refusal = refusals::word_room(bytes, keys, order, words, page, address);
     if refusal != 0 {
@@ -117,7 +117,7 @@ pub fn no_word() -> Word
 
 // Nothing but a frame.
 fn alone(status: ExecutionStatus, frame: Frame) -> Execution
-    ensures { λ r. ⌜ (r .status ≡ status) × (givenBy r ≡ carried status 0 0 false frame) ⌝ }
+    ensures { λ r. ⌜ (r .status ≡ status) × (resultOf r ≡ carried status 0 0 false frame) ⌝ }
 {
     let none = Operand {
         word: no_word(),
@@ -131,15 +131,15 @@ fn alone(status: ExecutionStatus, frame: Frame) -> Execution
     }
 }
 
-pub fn refused(number: u32, frame: Frame) -> Execution
-    ensures { λ r. ⌜ (r .status ≡ ExecutionStatus.Refused number) × (givenBy r ≡ frameAlone frame) ⌝ }
+pub fn refused(firstRefusal: u32, frame: Frame) -> Execution
+    ensures { λ r. ⌜ (r .status ≡ ExecutionStatus.Refused firstRefusal) × (resultOf r ≡ frameAlone frame) ⌝ }
 {
-    alone(ExecutionStatus::Refused(number), frame)
+    alone(ExecutionStatus::Refused(firstRefusal), frame)
 }
 
 // A panic sets the mark.
 pub fn panicked(frame: Frame) -> Execution
-    ensures { λ r. ⌜ (r .status ≡ ExecutionStatus.Panicked) × (givenBy r ≡ panic frame) ⌝ }
+    ensures { λ r. ⌜ (r .status ≡ ExecutionStatus.Panicked) × (resultOf r ≡ panic frame) ⌝ }
 {
     let mut after = frame;
     after.panicked = true;
@@ -154,7 +154,7 @@ pub fn carried_out(
     tagged: bool,
     frame: Frame,
 ) -> Execution
-    ensures { λ r. ⌜ (r .status ≡ status) × (givenBy r ≡ carried status (value (word .limbs)) (incremented (value (operand .word .limbs))) tagged frame) ⌝ }
+    ensures { λ r. ⌜ (r .status ≡ status) × (resultOf r ≡ carried status (value (word .limbs)) (incremented (value (operand .word .limbs))) tagged frame) ⌝ }
 {
     let next = Operand {
         word: word::plus_32(operand.word),

@@ -18,7 +18,7 @@ use Rattle.view.specs.View.{View, Setting, settingOf, viewOf}
 use Rattle.view.specs.Does.{Shows}
 use Rattle.view.specs.Inner.{noting, NoteAsks}
 use Rattle.view.proofs.Equal.{view-by}
-use Rattle.journal.specs.Steps.{noteOf, alignedFrom, AlignedAsks}
+use Rattle.journal.specs.Steps.{wordNow, alignedFrom, AlignedAsks}
 use Rattle.journal.proofs.Lists.{tab-snoc}
 use Rattle.journal.proofs.Shown.{shows-then, shows-same}
 
@@ -54,7 +54,7 @@ module _ (m₀ : Mem) (j first n : ℕ) (asks : AlignedAsks m₀ j first n) wher
         ap (λ (x : View). length (x .journal j)) (a .view)
         ∙ ap (λ (b : Bool). length (cond b (v .journal j ++ notes i) (v .journal j))) (eq-eqb j j refl)
         ∙ length-append (v .journal j) (notes i)
-        ∙ ap (λ (x : ℕ). length (v .journal j) + x) (tab-long i (λ k. noteOf v page (32 * (first + k))))
+        ∙ ap (λ (x : ℕ). length (v .journal j) + x) (tab-long i (λ k. wordNow v page (32 * (first + k))))
 
     held : (x : ℕ) → x < 32 → viewOf m₁ .held (journalPage (layoutOf (m₁ .words)) j) ((32 * (first + i) + x) / 256) ≡ true
     held x lx =
@@ -73,18 +73,18 @@ module _ (m₀ : Mem) (j first n : ℕ) (asks : AlignedAsks m₀ j first n) wher
     }
 
     abbrev newest : Note
-    newest = noteOf v page (32 * (first + i))
+    newest = wordNow v page (32 * (first + i))
 
     -- one word more
-    pub aligned-more : (m₂ : Mem) → Shows (settingOf m₁) (noting j (noteOf (viewOf m₁) (journalPage (layoutOf (m₁ .words)) j) (32 * (first + i)) ∷ []) (viewOf m₁)) m₂ → Shows (settingOf m₀) (noting j (notes (i + 1)) v) m₂
+    pub aligned-more : (m₂ : Mem) → Shows (settingOf m₁) (noting j (wordNow (viewOf m₁) (journalPage (layoutOf (m₁ .words)) j) (32 * (first + i)) ∷ []) (viewOf m₁)) m₂ → Shows (settingOf m₀) (noting j (notes (i + 1)) v) m₂
     aligned-more m₂ b =
         shows-same (settingOf m₀) (noting j (newest ∷ []) (noting j (notes i) v)) (noting j (notes (i + 1)) v) m₂
         (view-by (noting j (newest ∷ []) (noting j (notes i) v)) (noting j (notes (i + 1)) v) (λ p x. refl) (λ p k. refl) refl (λ p. refl) refl refl (λ k. go (eqb k j) (v .journal k)))
-        (shows-then (settingOf m₀) (noting j (notes i) v) m₁ m₂ (λ z. noting j (noteOf z page (32 * (first + i)) ∷ []) z) a
-        (subst (λ (z : Layout). Shows (settingOf m₁) (noting j (noteOf (viewOf m₁) (journalPage z j) (32 * (first + i)) ∷ []) (viewOf m₁)) m₂) same-layout b))
+        (shows-then (settingOf m₀) (noting j (notes i) v) m₁ m₂ (λ z. noting j (wordNow z page (32 * (first + i)) ∷ []) z) a
+        (subst (λ (z : Layout). Shows (settingOf m₁) (noting j (wordNow (viewOf m₁) (journalPage z j) (32 * (first + i)) ∷ []) (viewOf m₁)) m₂) same-layout b))
       where
         go : (b : Bool) (ns : List Note) → cond b (cond b (ns ++ notes i) ns ++ (newest ∷ [])) (cond b (ns ++ notes i) ns) ≡ cond b (ns ++ notes (i + 1)) ns
-        go true ns = append-assoc ns (notes i) (newest ∷ []) ∙ ap (λ (x : List Note). ns ++ x) (sym (ap notes (add-one i) ∙ tab-snoc i (λ k. noteOf v page (32 * (first + k)))))
+        go true ns = append-assoc ns (notes i) (newest ∷ []) ∙ ap (λ (x : List Note). ns ++ x) (sym (ap notes (add-one i) ∙ tab-snoc i (λ k. wordNow v page (32 * (first + k)))))
         go false ns = refl
 
   -- all of them

@@ -10,7 +10,7 @@ use Rattle.formed.proofs.Same.{tab-at}
 use Rattle.store.specs.Mem.{slotCount, journalLength}
 use Rattle.formed.specs.Parts.{tab}
 use Rattle.bodies.specs.Words.{placeIn, Spread}
-use Rattle.journal.specs.Words.{numberOf, oldPlace, noteSet, NotedAt}
+use Rattle.journal.specs.Words.{wordNumber, oldPlace, noteSet, NotedAt}
 use Rattle.bodies.proofs.Copies.{spread-same}
 
 module _ (w : List ℕ) (l n a s t : ℕ) (small : l < 16) (inside : 16 + 3 * n + 2 < length w) where
@@ -62,7 +62,7 @@ module _ (w : List ℕ) (l n a s t : ℕ) (small : l < 16) (inside : 16 + 3 * n 
   set-last = getD-set-other w₃ l (16 + 3 * n + 2) (getD w l 0 + 1) 0 (λ e. omega arith) ∙ getD-set-same w₂ (16 + 3 * n + 2) t 0 (let h = long₂ in omega arith)
 
 -- what `note_at` leaves; n is the number that it computed
-pub noted-at : (bytes words : List ℕ) (j a s t n : ℕ) (old bytes' : List ℕ) → n ≡ numberOf words j (journalLength words j)
+pub noted-at : (bytes words : List ℕ) (j a s t n : ℕ) (old bytes' : List ℕ) → n ≡ wordNumber words j (journalLength words j)
     → old ≡ tab 32 (λ i. getD bytes (placeIn s t (a % 256) i) 0)
     → Spread (λ i. 256 * slotCount words + 32 * n + i) (λ i. getD old (0 + i) 0) 32 bytes bytes'
     → NotedAt bytes words j a s t bytes' (set (set (set (set words (16 + 3 * n) a) (16 + 3 * n + 1) s) (16 + 3 * n + 2) t) (12 + j) (journalLength words j + 1))

@@ -22,8 +22,8 @@ use Rattle.view.specs.Does.{Shows}
 use Rattle.view.specs.Inner.{noting, NoteAsks}
 use Rattle.bodies.specs.Words.{placeIn, Spread}
 use Rattle.bodies.proofs.WordBytes.{word-byte}
-use Rattle.journal.specs.Words.{numberOf, oldPlace, noteSet, NoteRoom, NotedAt}
-use Rattle.journal.specs.Steps.{noteOf, NoteSlots}
+use Rattle.journal.specs.Words.{wordNumber, oldPlace, noteSet, NoteRoom, NotedAt}
+use Rattle.journal.specs.Steps.{wordNow, NoteSlots}
 use Rattle.formed.proofs.Same.{tab-upto}
 use Rattle.journal.proofs.Lists.{tab-snoc}
 use Rattle.journal.proofs.Numbers.{number-lt, number-apart}
@@ -93,7 +93,7 @@ module _ (bytes keys order words : List ℕ) (j a : ℕ) (asks : NoteAsks (mem b
 
   -- the number of the new note
   abbrev N : ℕ
-  N = numberOf words j (journalLength words j)
+  N = wordNumber words j (journalLength words j)
 
   abbrev words' : List ℕ
   words' = noteSet words (12 + j) N a s t
@@ -127,7 +127,7 @@ module _ (bytes keys order words : List ℕ) (j a : ℕ) (asks : NoteAsks (mem b
   kept-last u ne = set-other words (12 + j) N a s t small inside (16 + 3 * u + 2) (λ e. omega arith) (λ e. omega arith) (λ e. ne (omega arith)) (λ e. let h = small in omega arith)
 
   -- an older word, or one of another journal
-  old-number : (k i : ℕ) → k < journalCount → i < journalLength words k → numberOf words k i ≡ N → ⊥
+  old-number : (k i : ℕ) → k < journalCount → i < journalLength words k → wordNumber words k i ≡ N → ⊥
   old-number k i l li e =
       let c = f .in-capacity k l in
       let r = room in
@@ -157,7 +157,7 @@ module _ (bytes keys order words : List ℕ) (j a : ℕ) (asks : NoteAsks (mem b
     kept-right k i l li =
         let h = f .notes k i l li in
         noted-by bytes keys order words bytes' words' f lb long head body k i (noteAddress m k i) (noteFirst m k i) (noteLast m k i)
-        (kept-address (numberOf words k i) (old-number k i l li)) (kept-first (numberOf words k i) (old-number k i l li)) (kept-last (numberOf words k i) (old-number k i l li)) (h .address) (h .first) (h .last)
+        (kept-address (wordNumber words k i) (old-number k i l li)) (kept-first (wordNumber words k i) (old-number k i l li)) (kept-last (wordNumber words k i) (old-number k i l li)) (h .address) (h .first) (h .last)
 
     new-right : NotedRight m' j (journalLength words j)
     new-right =
@@ -183,10 +183,10 @@ module _ (bytes keys order words : List ℕ) (j a : ℕ) (asks : NoteAsks (mem b
     kept-byte u k ne l = old .off (256 * slotCount words + 32 * u + k) (λ i li e. ne (omega arith))
 
     kept-note : (k i : ℕ) → k < journalCount → i < journalLength words k → noteIn bytes' words' (slotCount words) (journalRoom words) k i ≡ noteIn bytes words (slotCount words) (journalRoom words) k i
-    kept-note k i l li = note-same _ _ _ _ (kept-address (numberOf words k i) (old-number k i l li)) (λ x lx. kept-byte (numberOf words k i) x (old-number k i l li) lx)
+    kept-note k i l li = note-same _ _ _ _ (kept-address (wordNumber words k i) (old-number k i l li)) (λ x lx. kept-byte (wordNumber words k i) x (old-number k i l li) lx)
 
     abbrev newest : Note
-    newest = noteOf (viewOf m) page a
+    newest = wordNow (viewOf m) page a
 
     new-note : noteIn bytes' words' (slotCount words) (journalRoom words) j (journalLength words j) ≡ newest
     new-note =
@@ -229,6 +229,6 @@ module _ (bytes keys order words : List ℕ) (j a : ℕ) (asks : NoteAsks (mem b
 
   -- what `note` leaves
   pub note-shows : (bytes' words″ : List ℕ) → length bytes' ≡ length bytes → NotedAt bytes words j a s t bytes' words″
-      → Shows (settingOf m) (noting j (noteOf (viewOf m) page a ∷ []) (viewOf m)) (mem bytes' keys order words″)
+      → Shows (settingOf m) (noting j (wordNow (viewOf m) page a ∷ []) (viewOf m)) (mem bytes' keys order words″)
   note-shows bytes' words″ lb d =
-      subst (λ (x : List ℕ). Shows (settingOf m) (noting j (noteOf (viewOf m) page a ∷ []) (viewOf m)) (mem bytes' keys order x)) (sym (d .words-are)) (noted-shows bytes' lb (d .old))
+      subst (λ (x : List ℕ). Shows (settingOf m) (noting j (wordNow (viewOf m) page a ∷ []) (viewOf m)) (mem bytes' keys order x)) (sym (d .words-are)) (noted-shows bytes' lb (d .old))

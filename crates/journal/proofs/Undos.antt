@@ -22,7 +22,7 @@ use Rattle.view.specs.Does.{Shows}
 use Rattle.view.specs.Inner.{putting}
 use Rattle.view.proofs.Equal.{view-by}
 use Rattle.bodies.specs.Words.{placeIn, Spread, InSlots}
-use Rattle.journal.specs.Words.{numberOf, notePlace, oldPlace, BackAsks, PutBack}
+use Rattle.journal.specs.Words.{wordNumber, notePlace, oldPlace, BackAsks, PutBack}
 use Rattle.journal.specs.Steps.{cutting, restoring, undoing, UndoAsks, RollBackAsks}
 use Rattle.journal.proofs.Lists.{tab-drop, tab-end}
 use Rattle.bodies.proofs.Copies.{spread-same}
@@ -33,7 +33,7 @@ use Rattle.journal.proofs.Cuts.{cut-shows}
 use Rattle.journal.proofs.Places.{held-by}
 
 -- what `put_back` asks of its slots; n is the number that it computed
-pub back-slots : (bytes words : List ℕ) (j i n : ℕ) → BackAsks bytes words j i → n ≡ numberOf words j i
+pub back-slots : (bytes words : List ℕ) (j i n : ℕ) → BackAsks bytes words j i → n ≡ wordNumber words j i
     → InSlots bytes (getD words (16 + 3 * n + 1) 0) (getD words (16 + 3 * n + 2) 0) (getD words (16 + 3 * n) 0 % 256)
 back-slots bytes words j i n asks e =
     let f = asks .first in
@@ -44,7 +44,7 @@ back-slots bytes words j i n asks e =
     record { offset = omega arith; first-few = omega arith; last-few = omega arith; first = omega arith; last = omega arith }
 
 -- what it leaves
-pub put-back : (bytes words : List ℕ) (j i n : ℕ) (zs old bytes' : List ℕ) → n ≡ numberOf words j i
+pub put-back : (bytes words : List ℕ) (j i n : ℕ) (zs old bytes' : List ℕ) → n ≡ wordNumber words j i
     → Spread (λ k. 0 + k) (λ k. getD bytes (256 * slotCount words + 32 * n + k) 0) 32 zs old
     → Spread (placeIn (getD words (16 + 3 * n + 1) 0) (getD words (16 + 3 * n + 2) 0) (getD words (16 + 3 * n) 0 % 256)) (λ k. getD old k 0) 32 bytes bytes'
     → PutBack bytes words j i bytes'

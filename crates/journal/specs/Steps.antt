@@ -16,8 +16,8 @@ use Rattle.view.specs.Steps.{run, undone}
 
 -- ---- words noted
 -- the word at address a of page p, as it is now
-abbrev pub noteOf : View → ℕ → ℕ → Note
-noteOf v p a = record { address = a; old = run v p a 32 }
+abbrev pub wordNow : View → ℕ → ℕ → Note
+wordNow v p a = record { address = a; old = run v p a 32 }
 
 -- the slots s and t hold the first and the last chunk of the word at address a of journal j's page
 pub record NoteSlots (m : Mem) (j a s t : ℕ) : Type 0 where
@@ -26,7 +26,7 @@ pub record NoteSlots (m : Mem) (j a s t : ℕ) : Type 0 where
 
 -- the aligned words from number `first` on
 abbrev pub alignedFrom : View → ℕ → ℕ → ℕ → List Note
-alignedFrom v p first n = tab n (λ i. noteOf v p (32 * (first + i)))
+alignedFrom v p first n = tab n (λ i. wordNow v p (32 * (first + i)))
 
 -- the chunks of n aligned words from number `first` on are held by journal j's page, and the journal has room for them
 pub record AlignedAsks (m : Mem) (j first n : ℕ) : Type 0 where

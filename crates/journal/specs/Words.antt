@@ -10,15 +10,15 @@ use Rattle.formed.specs.Buffers.{bytesFor, wordsFor}
 use Rattle.bodies.specs.Words.{placeIn, Spread}
 
 -- the number of word i of journal j among those of all journals
-abbrev pub numberOf : List ℕ → ℕ → ℕ → ℕ
-numberOf w j i = journalRoom w * j + i
+abbrev pub wordNumber : List ℕ → ℕ → ℕ → ℕ
+wordNumber w j i = journalRoom w * j + i
 
 -- where its three numbers and its 32 bytes stand
 abbrev pub notePlace : List ℕ → ℕ → ℕ → ℕ
-notePlace w j i = headLength + 3 * numberOf w j i
+notePlace w j i = headLength + 3 * wordNumber w j i
 
 abbrev pub oldPlace : List ℕ → ℕ → ℕ → ℕ
-oldPlace w j i = 256 * slotCount w + 32 * numberOf w j i
+oldPlace w j i = 256 * slotCount w + 32 * wordNumber w j i
 
 -- bytes and words have the lengths of a memory
 pub record Long (bytes words : List ℕ) : Type 0 where
@@ -48,7 +48,7 @@ noteSet w l n a s t = set (set (set (set w (headLength + 3 * n) a) (headLength +
 
 -- bytes', words' are bytes, words after the word at address a was noted so
 pub record NotedAt (bytes words : List ℕ) (j a s t : ℕ) (bytes' words' : List ℕ) : Type 0 where
-  pub words-are : words' ≡ noteSet words (12 + j) (numberOf words j (journalLength words j)) a s t
+  pub words-are : words' ≡ noteSet words (12 + j) (wordNumber words j (journalLength words j)) a s t
   pub old : Spread (λ k. oldPlace words j (journalLength words j) + k) (λ k. getD bytes (placeIn s t (a % 256) k) 0) 32 bytes bytes'
 
 -- word i of journal j can be put back at the slots noted

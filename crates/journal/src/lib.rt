@@ -8,7 +8,7 @@ ghost use Rattle.view.specs.View.{settingOf, viewOf};
 ghost use Rattle.view.specs.Steps.{wordNotes, marks, rolledBack, forgotten};
 ghost use Rattle.view.specs.Does.{Shows};
 ghost use Rattle.view.specs.Inner.{noting, NoteAsks};
-ghost use Rattle.journal.specs.Words.{numberOf, Numbered, NoteRoom, NotedAt, BackAsks, PutBack};
+ghost use Rattle.journal.specs.Words.{wordNumber, Numbered, NoteRoom, NotedAt, BackAsks, PutBack};
 ghost use Rattle.journal.specs.Steps.{NoteSlots, alignedFrom, AlignedAsks, undoing, UndoAsks, RollBackAsks};
 use store::head;
 
@@ -26,7 +26,7 @@ fn place(j: usize) -> u64
 // The number of word i of journal j among those of all journals.
 fn number(words: &[u64], j: usize, i: usize) -> usize
     requires { ⌜ Numbered (now words) j i ⌝ }
-    ensures { λ n. ⌜ (n ≡ numberOf (now (words .entry)) j i) × (n < journalCount * journalRoom (now (words .entry))) ⌝ }
+    ensures { λ n. ⌜ (n ≡ wordNumber (now (words .entry)) j i) × (n < journalCount * journalRoom (now (words .entry))) ⌝ }
 {
     words[head::JOURNAL_WORDS] as usize * j + i
 }

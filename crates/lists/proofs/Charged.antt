@@ -12,7 +12,7 @@ use Rattle.state.specs.declared.Area.{Area}
 use Rattle.state.specs.declared.quote.Quoted.{Quoted}
 use Rattle.state.specs.declared.quote.Quoted.the-variants.{Refused, Ended}
 use Rattle.state.specs.Access.{boundOf, frameAccessed}
-use Rattle.state.specs.Quote.{endOf, walked, told, quoted}
+use Rattle.state.specs.Quote.{endOf, walked, quoteOutcome, quoted}
 use Rattle.state.proofs.quote.quote.Met as quote-met
 use Rattle.instructions.proofs.load.Met as load-met
 use Rattle.instructions.proofs.store.Met as store-met
@@ -44,7 +44,7 @@ defined = quote-of-loads Step meet
 
 -- ---- the code's quote
 quote-equals : (q : Quote) → length (listOf q) ≤ 4096 → {area : Area} {f g : Frame} {n : ℕ} → gasOf q ≡ f .gas → firstBound q ≡ boundOf f area
-    → Loads Step area f (listOf q) n g → told (q .result) ≡ done (endOf (f .gas) (g .gas) (boundOf g area) n)
+    → Loads Step area f (listOf q) n g → quoteOutcome (q .result) ≡ done (endOf (f .gas) (g .gas) (boundOf g area) n)
 quote-equals q few {area} {f} {g} {n} d e l =
     q .ensures ∙ (λ i. quoted (listOf q) (d i) (e i)) ∙ defined .equals {area = area} few l
 
@@ -60,7 +60,7 @@ module _ (m : Mem) (w : wellFormed m ≡ true) (area : Area) where
 
 -- ---- there are such quotes
 module _ (list : List ℕ) (gas bound : ℕ) where
-  answering : (b : Bool) → (r : Quoted) × (told r ≡ cond b (refused 8) (done (walked gas list gas bound 0)))
+  answering : (b : Bool) → (r : Quoted) × (quoteOutcome r ≡ cond b (refused 8) (done (walked gas list gas bound 0)))
   answering true = (Refused 8, refl)
   answering false = (Ended (walked gas list gas bound 0), refl)
 

@@ -22,7 +22,7 @@ use Rattle.lists.specs.Steps.{Step, Went, did-compare-left, did-compare-
 -- an answer that tells the outcome
 record Tells (o : Outcome Value) : Type 0 where
   answer : Comparison
-  is : compares.told answer ≡ o
+  is : compares.comparisonOutcome answer ≡ o
 
 tells : (left right : Mem) → Tells (comparisonOf left right)
 tells left right = go (wellFormed left) (wellFormed right) (sameLayout (layoutOf (left .words)) (layoutOf (right .words))) (alike (viewOf left) (viewOf right))
@@ -49,14 +49,14 @@ compared left right = record {
 pub can-compare-left : (other : Mem) → Answers (CompareLeft other)
 can-compare-left other m =
     let t = tells m other in
-    subst (λ (o : Outcome Value). Step m (CompareLeft other) o m) (left-call m other (compares.told (t .answer)) (t .is) .answer) (did-compare-left (compared m other))
+    subst (λ (o : Outcome Value). Step m (CompareLeft other) o m) (left-call m other (compares.comparisonOutcome (t .answer)) (t .is) .answer) (did-compare-left (compared m other))
 
 pub can-compare-right : (other : Mem) → Answers (CompareRight other)
 can-compare-right other m =
     let t = tells other m in
-    subst (λ (o : Outcome Value). Step m (CompareRight other) o m) (right-call m other (compares.told (t .answer)) (t .is) .answer) (did-compare-right (compared other m))
+    subst (λ (o : Outcome Value). Step m (CompareRight other) o m) (right-call m other (compares.comparisonOutcome (t .answer)) (t .is) .answer) (did-compare-right (compared other m))
 
 pub can-compare-both : Answers CompareBoth
 can-compare-both m =
     let t = tells m m in
-    subst (λ (o : Outcome Value). Step m CompareBoth o m) (both-call m m (compares.told (t .answer)) refl (t .is) .answer) (did-compare-both (compared m m) refl)
+    subst (λ (o : Outcome Value). Step m CompareBoth o m) (both-call m m (compares.comparisonOutcome (t .answer)) refl (t .is) .answer) (did-compare-both (compared m m) refl)

@@ -14,7 +14,7 @@ use Rattle.view.specs.View.{settingOf, viewOf}
 use Rattle.view.specs.Steps.{touches, fromGroup, freed, windowed, truncated}
 use Rattle.view.specs.Checks.{freeChecks, truncateChecks}
 use Rattle.view.specs.Calls.{Free, Window, Truncate, answerOf}
-use Rattle.room.specs.Refusals.{number}
+use Rattle.room.specs.Refusals.{firstRefusal}
 use Rattle.refusals.proofs.Passed.{end}
 use Rattle.freeing.proofs.Groups.{shortened-shows}
 use Rattle.freeing.proofs.Calls.{free-refusals, free-passed, truncate-refusals, truncate-passed, shorten-asked, truncated-shows}
@@ -26,7 +26,7 @@ use Rattle.lists.specs.Steps.{did-free, did-window, did-truncate}
 
 -- ---- the memories that they leave
 module _ (m : Mem) where
-  freed-there : (p : ℕ) → (WellFormed m) × (number (freeChecks (settingOf m) (viewOf m) p) ≡ 0) → Reached (settingOf m) (freed (settingOf m) p (viewOf m))
+  freed-there : (p : ℕ) → (WellFormed m) × (firstRefusal (freeChecks (settingOf m) (viewOf m) p) ≡ 0) → Reached (settingOf m) (freed (settingOf m) p (viewOf m))
   freed-there p asks =
       let a = free-passed m p (asks .0) (asks .1) in
       without-there m (asks .0) (λ q k. eqb q p) (λ q. eqb q p) (λ q k e. subst (λ (x : ℕ). dynamic (layoutOf (m .words)) x ≡ true) (sym (eqb-true q p e)) (a .kind)) (λ q k e. e)
@@ -42,7 +42,7 @@ module _ (m : Mem) where
       (λ q k e. absurd (false≢true e))
 
   -- the pages are freed, and then the dynamic length is lowered
-  truncated-there : (n : ℕ) → (WellFormed m) × (number (truncateChecks (viewOf m) n) ≡ 0) → Reached (settingOf m) (truncated (settingOf m) n (viewOf m))
+  truncated-there : (n : ℕ) → (WellFormed m) × (firstRefusal (truncateChecks (viewOf m) n) ≡ 0) → Reached (settingOf m) (truncated (settingOf m) n (viewOf m))
   truncated-there n asks =
       let l = truncate-passed (viewOf m) n (asks .1) in
       let t =

@@ -11,8 +11,7 @@ use lib.ListN.{length, set}
 use borrow.Author.Tests.{eqb-true}
 use denote.Ref.{RefT}
 use Rattle.formed.proofs.Same.{tab-long}
-use Rattle.outcome.specs.Outcome as outcomes
-use Rattle.outcome.specs.Outcome.{Outcome, refused, panicked, done, carriedOut, answered, numberOf}
+use Rattle.outcome.specs.Outcome.{Outcome, refused, panicked, done, carriedOut, answered, refusalNumber, answerOutcome}
 use Rattle.outcome.specs.declared.Answer.{Answer}
 use Rattle.outcome.specs.declared.Answer.the-variants.{Done, Refused}
 use Rattle.word.specs.Value.{value, bigEndian}
@@ -22,12 +21,12 @@ use Rattle.formed.specs.WellFormed.{WellFormed}
 use Rattle.view.specs.View.{View, viewOf, Setting, settingOf}
 use Rattle.view.specs.Steps.{run, padded, touchedCount, alignedCount}
 use Rattle.view.specs.Checks.{onMemory, partialChecks, rangeChecks, lookupChecks, countsRight, lengthsRight, Check, wordWriteChecks, byteWriteChecks, allocateChecks}
-use Rattle.view.specs.Calls.{Call, Value, ReadWord, ReadPartial, ReadRange, ReadByte, DynamicLength, Lookup, LookupCheck, Snapshot, bytes, shown, answerOf, Open, Rollback, DeleteHistory, nothing, told, CallDoes, OpenDoes, Allocate, WriteWord, WriteBytes, nextOf}
+use Rattle.view.specs.Calls.{Call, Value, ReadWord, ReadPartial, ReadRange, ReadByte, DynamicLength, Lookup, LookupCheck, Snapshot, bytes, shown, answerOf, Open, Rollback, DeleteHistory, nothing, CallDoes, OpenDoes, Allocate, WriteWord, WriteBytes, nextOf}
 use Rattle.reads.specs.declared.WordRead.{WordRead}
 use Rattle.reads.specs.declared.ByteRead.{ByteRead}
 use Rattle.reads.specs.declared.LengthRead.{LengthRead}
 use Rattle.reads.specs.declared.Marks.{Marks}
-use Rattle.reads.specs.Calls.{toldByte, toldLength, toldMarks, ReadDoes, RangeDoes}
+use Rattle.reads.specs.Calls.{byteOutcome, lengthOutcome, snapshotOutcome, ReadDoes, RangeDoes}
 use Rattle.reads.specs.Calls as reads
 use Rattle.reads.proofs.Calls.{word-call, partial-call, range-call, byte-call, length-call, check-call, marks-call}
 use Rattle.view.specs.Does.{Shows, Does}
@@ -93,41 +92,41 @@ valueOf z (refused n) = z
 valueOf z (panicked a) = z
 valueOf z (done a) = a
 
-read-does : {A : Type 0} (z : A) (o : Outcome A) → Right o → ReadDoes o (answered (numberOf o) (valueOf z o)) (valueOf z o) z
+read-does : {A : Type 0} (z : A) (o : Outcome A) → Right o → ReadDoes o (answered (refusalNumber o) (valueOf z o)) (valueOf z o) z
 read-does z (refused zero) l = absurd (omega (arith, l))
 read-does z (refused (suc n)) l = record { answer = refl; zero = λ _. refl }
 read-does z (panicked a) l = absurd l
 read-does z (done a) l = record { answer = refl; zero = λ e. absurd (true≢false e) }
 
-word-does : (o : Outcome ℕ) → Right o → ReadDoes o (answered (numberOf o) (value (limbs (valueOf 0 o)))) (value (limbs (valueOf 0 o))) 0
-word-does o r = subst (λ (x : ℕ). ReadDoes o (answered (numberOf o) x) x 0) (sym (value-is (valueOf 0 o))) (read-does 0 o r)
+word-does : (o : Outcome ℕ) → Right o → ReadDoes o (answered (refusalNumber o) (value (limbs (valueOf 0 o)))) (value (limbs (valueOf 0 o))) 0
+word-does o r = subst (λ (x : ℕ). ReadDoes o (answered (refusalNumber o) x) x 0) (sym (value-is (valueOf 0 o))) (read-does 0 o r)
 
 abbrev answerTo : {A : Type 0} → Outcome A → Answer
 answerTo (refused n) = Refused n
 answerTo (panicked a) = Done
 answerTo (done a) = Done
 
-told-to : (o : Outcome (Unit {0})) → Right o → outcomes.told (answerTo o) ≡ o
+told-to : (o : Outcome (Unit {0})) → Right o → answerOutcome tt (answerTo o) ≡ o
 told-to (refused n) r = refl
 told-to (panicked a) r = absurd r
 told-to (done tt) r = refl
 
 -- ---- the reads
 abbrev word : Outcome ℕ → WordRead
-word o = record { refusal = numberOf o; word = record { limbs = limbs (valueOf 0 o) } }
+word o = record { refusal = refusalNumber o; word = record { limbs = limbs (valueOf 0 o) } }
 
 abbrev byte : Outcome ℕ → ByteRead
-byte o = record { refusal = numberOf o; byte = valueOf 0 o }
+byte o = record { refusal = refusalNumber o; byte = valueOf 0 o }
 
 abbrev size : Outcome ℕ → LengthRead
-size o = record { refusal = numberOf o; length = valueOf 0 o }
+size o = record { refusal = refusalNumber o; length = valueOf 0 o }
 
 abbrev marks : Outcome (ℕ × ℕ) → Marks
-marks o = record { refusal = numberOf o; heap = valueOf (0, 0) o .0; aux = valueOf (0, 0) o .1 }
+marks o = record { refusal = refusalNumber o; heap = valueOf (0, 0) o .0; aux = valueOf (0, 0) o .1 }
 
 pub can-read-word : (p a : ℕ) → Answers (ReadWord p a)
 can-read-word p a m =
-    subst (λ (o : Outcome Value). Step m (ReadWord p a) o m) (word-call m p a (reads.told (word out)) (d .answer) .answer)
+    subst (λ (o : Outcome Value). Step m (ReadWord p a) o m) (word-call m p a (reads.wordOutcome (word out)) (d .answer) .answer)
     (did-read-word
     (record {
       lifetimes = ([], ([], ([], ([], tt))));
@@ -142,12 +141,12 @@ can-read-word p a m =
     out : Outcome ℕ
     out = onMemory m [] (bigEndian (run (viewOf m) p a 32))
 
-    d : ReadDoes out (reads.told (word out)) (value (word out .word .limbs)) 0
+    d : ReadDoes out (reads.wordOutcome (word out)) (value (word out .word .limbs)) 0
     d = word-does out (right-plain m (bigEndian (run (viewOf m) p a 32)))
 
 pub can-read-partial : (p x y : ℕ) → Answers (ReadPartial p x y)
 can-read-partial p x y m =
-    subst (λ (o : Outcome Value). Step m (ReadPartial p x y) o m) (partial-call m p x y (reads.told (word out)) (d .answer) .answer)
+    subst (λ (o : Outcome Value). Step m (ReadPartial p x y) o m) (partial-call m p x y (reads.wordOutcome (word out)) (d .answer) .answer)
     (did-read-partial
     (record {
       lifetimes = ([], ([], ([], ([], tt))));
@@ -162,7 +161,7 @@ can-read-partial p x y m =
     out : Outcome ℕ
     out = onMemory m (partialChecks x y) (bigEndian (padded (run (viewOf m) p x (y - x))))
 
-    d : ReadDoes out (reads.told (word out)) (value (word out .word .limbs)) 0
+    d : ReadDoes out (reads.wordOutcome (word out)) (value (word out .word .limbs)) 0
     d = word-does out (right-check m (bigEndian (padded (run (viewOf m) p x (y - x)))) (ltb 32 (y - x)))
 
 -- an output that takes the bytes
@@ -171,7 +170,7 @@ taken (refused n) l bs = l
 taken (panicked u) l bs = l
 taken (done u) l bs = bs
 
-range-does : (o : Outcome (Unit {0})) (l bs : List ℕ) → Right o → RangeDoes o (outcomes.told (answerTo o)) bs l (taken o l bs)
+range-does : (o : Outcome (Unit {0})) (l bs : List ℕ) → Right o → RangeDoes o (answerOutcome tt (answerTo o)) bs l (taken o l bs)
 range-does (panicked u) l bs r = absurd r
 range-does (refused n) l bs r = record { answer = refl; kept = λ _. refl; read = λ e. absurd (true≢false (sym e)) }
 range-does (done tt) l bs r = record { answer = refl; kept = λ e. absurd (true≢false e); read = λ _. refl }
@@ -187,7 +186,7 @@ taken-long m p x y l = go (wellFormed m) (eqb (length l) (y - x)) refl
 
 pub can-read-range : (p x y : ℕ) (l : List ℕ) → Answers (ReadRange p x y (length l))
 can-read-range p x y l m =
-    subst (λ (o : Outcome Value). Step m (ReadRange p x y (length l)) o m) (range-call m p x y l (taken out l bs) (outcomes.told (answerTo out)) (range-does out l bs right) .answer)
+    subst (λ (o : Outcome Value). Step m (ReadRange p x y (length l)) o m) (range-call m p x y l (taken out l bs) (answerOutcome tt (answerTo out)) (range-does out l bs right) .answer)
     (did-read-range
     (record {
       lifetimes = ([], ([], ([], ([], ([], tt)))));
@@ -210,7 +209,7 @@ can-read-range p x y l m =
 
 pub can-read-byte : (p a : ℕ) → Answers (ReadByte p a)
 can-read-byte p a m =
-    subst (λ (o : Outcome Value). Step m (ReadByte p a) o m) (byte-call m p a (toldByte (byte out)) (d .answer) .answer)
+    subst (λ (o : Outcome Value). Step m (ReadByte p a) o m) (byte-call m p a (byteOutcome (byte out)) (d .answer) .answer)
     (did-read-byte
     (record {
       lifetimes = ([], ([], ([], ([], tt))));
@@ -225,12 +224,12 @@ can-read-byte p a m =
     out : Outcome ℕ
     out = onMemory m [] (viewOf m .bytes p a)
 
-    d : ReadDoes out (toldByte (byte out)) (byte out .byte) 0
+    d : ReadDoes out (byteOutcome (byte out)) (byte out .byte) 0
     d = read-does 0 out (right-plain m (viewOf m .bytes p a))
 
 pub can-tell-length : Answers DynamicLength
 can-tell-length m =
-    subst (λ (o : Outcome Value). Step m DynamicLength o m) (length-call m (toldLength (size out)) (d .answer) .answer)
+    subst (λ (o : Outcome Value). Step m DynamicLength o m) (length-call m (lengthOutcome (size out)) (d .answer) .answer)
     (did-dynamic-length
     (record {
       lifetimes = ([], ([], ([], ([], tt))));
@@ -245,12 +244,12 @@ can-tell-length m =
     out : Outcome ℕ
     out = onMemory m [] (viewOf m .dynamicLength)
 
-    d : ReadDoes out (toldLength (size out)) (size out .length) 0
+    d : ReadDoes out (lengthOutcome (size out)) (size out .length) 0
     d = read-does 0 out (right-plain m (viewOf m .dynamicLength))
 
 pub can-snapshot : Answers Snapshot
 can-snapshot m =
-    subst (λ (o : Outcome Value). Step m Snapshot o m) (marks-call m (toldMarks (marks out)) (d .answer) .answer)
+    subst (λ (o : Outcome Value). Step m Snapshot o m) (marks-call m (snapshotOutcome (marks out)) (d .answer) .answer)
     (did-snapshot
     (record {
       lifetimes = ([], ([], ([], ([], tt))));
@@ -265,7 +264,7 @@ can-snapshot m =
     out : Outcome (ℕ × ℕ)
     out = onMemory m [] (length (viewOf m .journal 0), length (viewOf m .journal 1))
 
-    d : ReadDoes out (toldMarks (marks out)) (marks out .heap, marks out .aux) (0, 0)
+    d : ReadDoes out (snapshotOutcome (marks out)) (marks out .heap, marks out .aux) (0, 0)
     d = read-does (0, 0) out (right-plain m (length (viewOf m .journal 0), length (viewOf m .journal 1)))
 
 pub can-look-up : (p k : ℕ) (z : List ℕ) (m : Mem) → Step m (Lookup p k z) (done (bytes (cond (wellFormed m) (shown (viewOf m) p k z) []))) m
@@ -283,7 +282,7 @@ can-look-up p k z m =
 
 pub can-check : (p k : ℕ) (z : List ℕ) → Answers (LookupCheck p k z)
 can-check p k z m =
-    subst (λ (o : Outcome Value). Step m (LookupCheck p k z) o m) (check-call m p k z (outcomes.told (answerTo out)) (told-to out right) .answer)
+    subst (λ (o : Outcome Value). Step m (LookupCheck p k z) o m) (check-call m p k z (answerOutcome tt (answerTo out)) (told-to out right) .answer)
     (did-lookup-check
     (record {
       lifetimes = ([], ([], ([], ([], ([], tt)))));
@@ -331,8 +330,8 @@ setting-same {m} {m'} f h =
 
 -- ---- history
 module _ (heap aux : ℕ) (m : Mem) where
-  roll-back : (r : Answer) (bs ws : List ℕ) → length bs ≡ length (m .bytes) → length ws ≡ length (m .words) → CallDoes m (Rollback heap aux) (told r) (mem bs (m .keys) (m .order) ws)
-      → Step m (Rollback heap aux) (told r) (mem bs (m .keys) (m .order) ws)
+  roll-back : (r : Answer) (bs ws : List ℕ) → length bs ≡ length (m .bytes) → length ws ≡ length (m .words) → CallDoes m (Rollback heap aux) (answerOutcome nothing r) (mem bs (m .keys) (m .order) ws)
+      → Step m (Rollback heap aux) (answerOutcome nothing r) (mem bs (m .keys) (m .order) ws)
   roll-back r bs ws lb lw d =
       did-rollback
       (record {
@@ -346,9 +345,9 @@ module _ (heap aux : ℕ) (m : Mem) where
       })
 
   pub can-roll-back : Goes m (Rollback heap aux) (answerOf m (Rollback heap aux))
-  can-roll-back = go (numberOf (answerOf m (Rollback heap aux))) refl
+  can-roll-back = go (refusalNumber (answerOf m (Rollback heap aux))) refl
     where
-      go : (n : ℕ) → n ≡ numberOf (answerOf m (Rollback heap aux)) → Goes m (Rollback heap aux) (answerOf m (Rollback heap aux))
+      go : (n : ℕ) → n ≡ refusalNumber (answerOf m (Rollback heap aux)) → Goes m (Rollback heap aux) (answerOf m (Rollback heap aux))
       go zero e =
           let asks = rollback-asks m heap aux 0 e refl in
           let t = rolled-there m heap aux asks in
@@ -359,7 +358,7 @@ module _ (heap aux : ℕ) (m : Mem) where
           let d = rollback-refused m heap aux (suc n) e (λ z. omega arith) in
           record { after = m; step = subst (λ (o : Outcome Value). Step m (Rollback heap aux) o m) (d .answer) (roll-back (Refused (suc n)) (m .bytes) (m .words) refl refl d) }
 
-delete : (m : Mem) (r : Answer) (ws : List ℕ) → length ws ≡ length (m .words) → CallDoes m DeleteHistory (told r) (mem (m .bytes) (m .keys) (m .order) ws) → Step m DeleteHistory (told r) (mem (m .bytes) (m .keys) (m .order) ws)
+delete : (m : Mem) (r : Answer) (ws : List ℕ) → length ws ≡ length (m .words) → CallDoes m DeleteHistory (answerOutcome nothing r) (mem (m .bytes) (m .keys) (m .order) ws) → Step m DeleteHistory (answerOutcome nothing r) (mem (m .bytes) (m .keys) (m .order) ws)
 delete m r ws lw d =
     did-delete-history
     (record {
@@ -389,15 +388,15 @@ can-delete m = go (wellFormed m) refl
 
 -- ---- a call that goes by a list of tests: where one holds it is refused, else there is the memory that it leaves
 module _ (m : Mem) (c : Call) (checks : List (Check Value)) (tests : Refusals checks) (is : answerOf m c ≡ onMemory m checks nothing)
-    (step : (r : Answer) (m' : Mem) → Same m m' → CallDoes m c (told r) m' → Step m c (told r) m')
-    (there : (WellFormed m) × (refusals.number checks ≡ 0) → Reached (settingOf m) (nextOf (settingOf m) c (viewOf m))) where
+    (step : (r : Answer) (m' : Mem) → Same m m' → CallDoes m c (answerOutcome nothing r) m' → Step m c (answerOutcome nothing r) m')
+    (there : (WellFormed m) × (refusals.firstRefusal checks ≡ 0) → Reached (settingOf m) (nextOf (settingOf m) c (viewOf m))) where
   pub goes : Goes m c (answerOf m c)
-  goes = go (numberOf (onMemory m checks nothing)) refl
+  goes = go (refusalNumber (onMemory m checks nothing)) refl
     where
       turned : {m' : Mem} {o : Outcome Value} → Does m (onMemory m checks nothing) (settingOf m) (nextOf (settingOf m) c (viewOf m)) o m' → CallDoes m c o m'
       turned {m'} {o} d = subst (λ (x : Outcome Value). Does m x (settingOf m) (nextOf (settingOf m) c (viewOf m)) o m') (sym is) d
 
-      go : (n : ℕ) → n ≡ numberOf (onMemory m checks nothing) → Goes m c (answerOf m c)
+      go : (n : ℕ) → n ≡ refusalNumber (onMemory m checks nothing) → Goes m c (answerOf m c)
       go zero e =
           let f = passed-formed m checks (settingOf m) (viewOf m) (sym e) in
           let t = there f in
@@ -413,7 +412,7 @@ module _ (p a : ℕ) (page : p ≤ 4294967295) (address : a ≤ 4294967295) wher
   can-write-word n m =
       goes m (WriteWord p a n) (wordWriteChecks (settingOf m) (viewOf m) p a) (next (room-refusals (settingOf m) (viewOf m) p a 32 1)) refl
       (λ r m' l d.
-      subst (λ (x : ℕ). Step m (WriteWord p a x) (told r) m') (value-is n)
+      subst (λ (x : ℕ). Step m (WriteWord p a x) (answerOutcome nothing r) m') (value-is n)
       (did-write-word
       (record {
         lifetimes = ([], ([], ([], ([], tt))));
@@ -422,7 +421,7 @@ module _ (p a : ℕ) (page : p ≤ 4294967295) (address : a ≤ 4294967295) wher
         last = (m' .bytes, (m' .keys, (m' .order, (m' .words, (tt, (tt, (tt, tt)))))));
         asked = tt;
         kept = (l .bytes, (l .keys, (l .order, (l .words, (tt, (tt, (tt, tt)))))));
-        ensures = subst (λ (x : ℕ). CallDoes m (WriteWord p a x) (told r) m') (sym (value-is n)) d;
+        ensures = subst (λ (x : ℕ). CallDoes m (WriteWord p a x) (answerOutcome nothing r) m') (sym (value-is n)) d;
       })))
       (word-there m p a page address n)
 
@@ -481,19 +480,19 @@ module _ (s : Setting) (calldata : List ℕ) (narrow : Narrow s) (m : Mem) where
   abbrev result : Outcome Value
   result = openingOutcome s m (length calldata)
 
-  number-is : answered (numberOf result) nothing ≡ result
+  number-is : answered (refusalNumber result) nothing ≡ result
   number-is = go (badLayout (s .layout)) (countsRight s && lengthsRight s m) (ltb (s .chunks) (touchedCount 0 (length calldata)))
     where
       out : Bool → Bool → Bool → Outcome Value
       out x y z = cond x (refused 1) (cond (not y) (refused 2) (cond z (refused 10) (done nothing)))
 
-      go : (x y z : Bool) → answered (numberOf (out x y z)) nothing ≡ out x y z
+      go : (x y z : Bool) → answered (refusalNumber (out x y z)) nothing ≡ out x y z
       go true y z = refl
       go false false z = refl
       go false true true = refl
       go false true false = refl
 
-  opens : (r : Answer) (m' : Mem) → Same m m' → OpenDoes m s calldata (told r) m' → Step m (Open s calldata) (told r) m'
+  opens : (r : Answer) (m' : Mem) → Same m m' → OpenDoes m s calldata (answerOutcome nothing r) m' → Step m (Open s calldata) (answerOutcome nothing r) m'
   opens r m' l d =
       did-open
       (record {
@@ -523,7 +522,7 @@ module _ (s : Setting) (calldata : List ℕ) (narrow : Narrow s) (m : Mem) where
       record { bytes = omega arith; keys = omega arith; order = omega arith; words = omega arith }
 
   pub can-open : Goes m (Open s calldata) result
-  can-open = go (numberOf result) number-is
+  can-open = go (refusalNumber result) number-is
     where
       go : (n : ℕ) → answered n nothing ≡ result → Goes m (Open s calldata) result
       go zero e =

@@ -19,9 +19,9 @@ use Rattle.formed.proofs.Meaning.{well-formed-means}
 use Rattle.view.specs.View.{View, Setting, settingOf, viewOf}
 use Rattle.view.specs.Checks.{Check, wordWriteChecks}
 use Rattle.view.specs.Instructions as view
-use Rattle.view.specs.Instructions.{Given, Stop, running, onHook, heapOf, staticOf, frameAlone, hooked, accessChecks, loaded, pointerChecks, pointed, staticChecks, staticLoaded, storeChecks, stored, staticStoreChecks, staticStored}
-use Rattle.view.specs.Calls.{Call, Value, Load, Store, LoadPointer, LoadStatic, StoreStatic, given, outcomeOf, nextOf, answerOf, CallDoes}
-use Rattle.room.specs.Refusals.{number}
+use Rattle.view.specs.Instructions.{InstructionResult, Stop, running, onHook, heapOf, staticOf, frameAlone, hooked, accessChecks, loaded, pointerChecks, pointed, staticChecks, staticLoaded, storeChecks, stored, staticStoreChecks, staticStored}
+use Rattle.view.specs.Calls.{Call, Value, Load, Store, LoadPointer, LoadStatic, StoreStatic, instructionResult, outcomeOf, nextOf, answerOf, CallDoes}
+use Rattle.room.specs.Refusals.{firstRefusal}
 use Rattle.reads.proofs.Calls.{only-reads}
 use Rattle.plain.proofs.Tests.{Clear, clear}
 use Rattle.instructions.specs.declared.Operand.{Operand}
@@ -29,7 +29,7 @@ use Rattle.instructions.specs.declared.Hook.{Hook}
 use Rattle.instructions.specs.declared.Execution.{Execution}
 use Rattle.instructions.specs.declared.ExecutionStatus.{ExecutionStatus}
 use Rattle.instructions.specs.declared.ExecutionStatus.the-variants.{Running, SuspendedOnHook, Panicked, Refused}
-use Rattle.instructions.specs.Executions.{operandOf, hookOf, stopOf, givenBy, toldBy, told, Runs}
+use Rattle.instructions.specs.Executions.{operandOf, hookOf, stopOf, resultOf, statusOutcome, executionOutcome, Runs}
 use Rattle.lists.specs.Steps.{Step, did-load, did-store, did-load-pointer, did-load-static, did-store-static}
 use Rattle.lists.proofs.Reach.{Reached}
 use Rattle.lists.proofs.Writing.{word-there}
@@ -39,8 +39,8 @@ use Rattle.lists.proofs.Inhabited.{Answers, Same, same, setting-same, r
 -- ---- an answer for each outcome that an instruction can have; a panic stops nothing
 data Ran : Outcome Value → Type 0 where
   is-refused : (n : ℕ) → Ran (refused n)
-  is-panicked : (g : Given) → running ≡ g .stop → Ran (panicked (given g))
-  is-done : (g : Given) → Ran (done (given g))
+  is-panicked : (g : InstructionResult) → running ≡ g .stop → Ran (panicked (instructionResult g))
+  is-done : (g : InstructionResult) → Ran (done (instructionResult g))
 
 abbrev AllRan : List (Check Value) → Type 0
 AllRan [] = Unit {0}
@@ -58,7 +58,7 @@ answer-ran m c r = first-ran ((not (wellFormed m), refused 3) ∷ []) (is-refuse
 write-ran : (s : Setting) (v : View) (p a : ℕ) (rest : List (Check Value)) → AllRan rest → AllRan (wordWriteChecks s v p a ++ rest)
 write-ran s v p a rest r = (is-refused 4, (is-refused 9, (is-refused 10, (is-refused 11, r))))
 
--- words by their number
+-- words by their firstRefusal
 abbrev wordFor : ℕ → Word
 wordFor n = record { limbs = limbs n }
 
@@ -76,14 +76,14 @@ stop-again : (s : Stop) → stopOf (statusFor s) ≡ s
 stop-again running = refl
 stop-again (onHook n) = refl
 
-told-again : (s : Stop) (g : Given) → toldBy (statusFor s) g ≡ done (given g)
+told-again : (s : Stop) (g : InstructionResult) → statusOutcome (statusFor s) g ≡ done (instructionResult g)
 told-again running g = refl
 told-again (onHook n) g = refl
 
-abbrev execution : ExecutionStatus → Given → Execution
+abbrev execution : ExecutionStatus → InstructionResult → Execution
 execution s g = record { status = s; word = wordFor (g .word); operand = operandFor (g .operand); frame = g .frame }
 
-given-again : (s : ExecutionStatus) (g : Given) → stopOf s ≡ g .stop → givenBy (execution s g) ≡ g
+given-again : (s : ExecutionStatus) (g : InstructionResult) → stopOf s ≡ g .stop → resultOf (execution s g) ≡ g
 given-again s g e = λ i. record { word = value-is (g .word) i; operand = operand-is (g .operand) i; frame = g .frame; stop = e i }
 
 module _ (f : Frame) where
@@ -92,12 +92,12 @@ module _ (f : Frame) where
   execute (is-panicked g e) = execution Panicked g
   execute (is-done g) = execution (statusFor (g .stop)) g
 
-  told-execute : {o : Outcome Value} (r : Ran o) → told (execute r) ≡ o
+  told-execute : {o : Outcome Value} (r : Ran o) → executionOutcome (execute r) ≡ o
   told-execute (is-refused n) = refl
-  told-execute (is-panicked g e) = ap (λ (x : Given). panicked (given x)) (given-again Panicked g e)
-  told-execute (is-done g) = told-again (g .stop) _ ∙ ap (λ (x : Given). done (given x)) (given-again (statusFor (g .stop)) g (stop-again (g .stop)))
+  told-execute (is-panicked g e) = ap (λ (x : InstructionResult). panicked (instructionResult x)) (given-again Panicked g e)
+  told-execute (is-done g) = told-again (g .stop) _ ∙ ap (λ (x : InstructionResult). done (instructionResult x)) (given-again (statusFor (g .stop)) g (stop-again (g .stop)))
 
-  alone : {o : Outcome Value} (r : Ran o) (n : ℕ) → told (execute r) ≡ refused n → givenBy (execute r) ≡ frameAlone f
+  alone : {o : Outcome Value} (r : Ran o) (n : ℕ) → executionOutcome (execute r) ≡ refused n → resultOf (execute r) ≡ frameAlone f
   alone (is-refused k) n e = given-again (Refused k) (frameAlone f) refl
   alone (is-panicked g q) n e = absurd (let z : _≡_ {A = ℕ} 0 1 = cc (told-execute (is-panicked g q)) in omega arith)
   alone (is-done g) n e = absurd (let z : _≡_ {A = ℕ} 0 1 = cc (told-execute (is-done g)) in omega arith)
@@ -127,8 +127,8 @@ module _ (f : Frame) (m : Mem) where
       ran : Ran (answerOf m (Load area f (operandOf x)))
       ran =
           answer-ran m c
-          (first-ran (accessChecks given area f (operandOf x .word)) (is-panicked _ refl, tt)
-          (done (given (loaded (viewOf m) area f (operandOf x)))) (is-done (loaded (viewOf m) area f (operandOf x))))
+          (first-ran (accessChecks instructionResult area f (operandOf x .word)) (is-panicked _ refl, tt)
+          (done (instructionResult (loaded (viewOf m) area f (operandOf x)))) (is-done (loaded (viewOf m) area f (operandOf x))))
 
   pointer-step : (x : Operand) → Step m (LoadPointer f (operandOf x)) (answerOf m (LoadPointer f (operandOf x))) m
   pointer-step x =
@@ -150,8 +150,8 @@ module _ (f : Frame) (m : Mem) where
       ran : Ran (answerOf m (LoadPointer f (operandOf x)))
       ran =
           answer-ran m c
-          (first-ran (pointerChecks given f (operandOf x)) (is-panicked _ refl, (is-panicked _ refl, (is-refused 14, tt)))
-          (done (given (pointed (viewOf m) f (operandOf x)))) (is-done (pointed (viewOf m) f (operandOf x))))
+          (first-ran (pointerChecks instructionResult f (operandOf x)) (is-panicked _ refl, (is-panicked _ refl, (is-refused 14, tt)))
+          (done (instructionResult (pointed (viewOf m) f (operandOf x)))) (is-done (pointed (viewOf m) f (operandOf x))))
 
   static-step : (x : Operand) → Step m (LoadStatic f (operandOf x)) (answerOf m (LoadStatic f (operandOf x))) m
   static-step x =
@@ -173,8 +173,8 @@ module _ (f : Frame) (m : Mem) where
       ran : Ran (answerOf m (LoadStatic f (operandOf x)))
       ran =
           answer-ran m c
-          (first-ran (staticChecks given f (operandOf x .word)) (is-panicked _ refl, tt)
-          (done (given (staticLoaded (settingOf m) (viewOf m) f (operandOf x)))) (is-done (staticLoaded (settingOf m) (viewOf m) f (operandOf x))))
+          (first-ran (staticChecks instructionResult f (operandOf x .word)) (is-panicked _ refl, tt)
+          (done (instructionResult (staticLoaded (settingOf m) (viewOf m) f (operandOf x)))) (is-done (staticLoaded (settingOf m) (viewOf m) f (operandOf x))))
 
 pub can-load : (area : Area) (f : Frame) (x : view.Operand) → Answers (Load area f x)
 can-load area f x m = subst (λ (y : view.Operand). Step m (Load area f y) (answerOf m (Load area f y)) m) (operand-is x) (load-step f m area (operandFor x))
@@ -188,7 +188,7 @@ can-load-static f x m = subst (λ (y : view.Operand). Step m (LoadStatic f y) (a
 -- ---- stores
 -- a store that has passed its checks has passed those of a word write
 module _ (s : Setting) (v : View) (p a : ℕ) (rest : List (Check Value)) where
-  write-clear : Clear (wordWriteChecks s v p a ++ rest) → number (wordWriteChecks s v p a) ≡ 0
+  write-clear : Clear (wordWriteChecks s v p a ++ rest) → firstRefusal (wordWriteChecks s v p a) ≡ 0
   write-clear c = rw (c .0, c .1 .0, c .1 .1 .0, c .1 .1 .1 .0) refl
 
 -- a call that is carried out, on a memory that is well formed
@@ -199,7 +199,7 @@ carried-formed m o e = go (wellFormed m) refl e
     go true q e = (q, e)
     go false q e = absurd (false≢true e)
 
-module _ (m : Mem) (f : Frame) (c : Call) (ran : Ran (answerOf m c)) (step : (r : Execution) (m' : Mem) → Same m m' → Runs m c f r m' → Step m c (told r) m')
+module _ (m : Mem) (f : Frame) (c : Call) (ran : Ran (answerOf m c)) (step : (r : Execution) (m' : Mem) → Same m m' → Runs m c f r m' → Step m c (executionOutcome r) m')
     (there : wellFormed m ≡ true → carriedOut (outcomeOf (settingOf m) c (viewOf m)) ≡ true → Reached (settingOf m) (nextOf (settingOf m) c (viewOf m))) where
   stores : Goes m c (answerOf m c)
   stores = go (carriedOut (answerOf m c)) refl
@@ -219,7 +219,7 @@ module _ (f : Frame) (x : view.Operand) (n : ℕ) where
     store-there : wellFormed m ≡ true → carriedOut (outcomeOf (settingOf m) (Store area f x n h) (viewOf m)) ≡ true
         → Reached (settingOf m) (nextOf (settingOf m) (Store area f x n h) (viewOf m))
     store-there w e =
-        let c = clear (storeChecks given (settingOf m) (viewOf m) area f (x .word) n h) (given (stored area f x n h)) e in
+        let c = clear (storeChecks instructionResult (settingOf m) (viewOf m) area f (x .word) n h) (instructionResult (stored area f x n h)) e in
         let l : x .word ≤ lastAddress = frame-within f area (x .word) (not-false _ (c .0)) in
         word-there m (heapOf f area) (x .word) page (omega arith) n (well-formed-means m w, write-clear (settingOf m) (viewOf m) (heapOf f area) (x .word) ((hooked h (x .word) && ltb 4294967295 n, refused 15) ∷ []) (c .1))
 
@@ -227,7 +227,7 @@ module _ (f : Frame) (x : view.Operand) (n : ℕ) where
     static-there : wellFormed m ≡ true → carriedOut (outcomeOf (settingOf m) (StoreStatic f x n) (viewOf m)) ≡ true
         → Reached (settingOf m) (nextOf (settingOf m) (StoreStatic f x n) (viewOf m))
     static-there w e =
-        let c = clear (staticStoreChecks given (settingOf m) (viewOf m) f (x .word)) (given (staticStored f x)) e in
+        let c = clear (staticStoreChecks instructionResult (settingOf m) (viewOf m) f (x .word)) (instructionResult (staticStored f x)) e in
         let l : x .word ≤ lastAddress = ltb-false lastAddress (x .word) (c .0) in
         let g = well-formed-means m w in
         word-there m (staticOf (settingOf m .layout)) (x .word) (g .encoded .layout-width 0 (omega arith)) (omega arith) n
@@ -235,7 +235,7 @@ module _ (f : Frame) (x : view.Operand) (n : ℕ) where
 
 module _ (f : Frame) (m : Mem) where
   store-step : (area : Area) (x : Operand) (w : Word) (h : Hook) (r : Execution) (m' : Mem) → Same m m' → Runs m (Store area f (operandOf x) (value (w .limbs)) (hookOf h)) f r m'
-      → Step m (Store area f (operandOf x) (value (w .limbs)) (hookOf h)) (told r) m'
+      → Step m (Store area f (operandOf x) (value (w .limbs)) (hookOf h)) (executionOutcome r) m'
   store-step area x w h r m' l d =
       did-store
       (record {
@@ -249,7 +249,7 @@ module _ (f : Frame) (m : Mem) where
       })
 
   store-static-step : (x : Operand) (w : Word) (r : Execution) (m' : Mem) → Same m m' → Runs m (StoreStatic f (operandOf x) (value (w .limbs))) f r m'
-      → Step m (StoreStatic f (operandOf x) (value (w .limbs))) (told r) m'
+      → Step m (StoreStatic f (operandOf x) (value (w .limbs))) (executionOutcome r) m'
   store-static-step x w r m' l d =
       did-store-static
       (record {
@@ -265,16 +265,16 @@ module _ (f : Frame) (m : Mem) where
 store-ran : (area : Area) (f : Frame) (x : view.Operand) (n : ℕ) (h : view.Hook) (m : Mem) → Ran (answerOf m (Store area f x n h))
 store-ran area f x n h m =
     answer-ran m (Store area f x n h)
-    (first-ran (storeChecks given (settingOf m) (viewOf m) area f (x .word) n h)
+    (first-ran (storeChecks instructionResult (settingOf m) (viewOf m) area f (x .word) n h)
     (is-panicked _ refl, write-ran (settingOf m) (viewOf m) (heapOf f area) (x .word) ((hooked h (x .word) && ltb 4294967295 n, refused 15) ∷ []) (is-refused 15, tt))
-    (done (given (stored area f x n h))) (is-done (stored area f x n h)))
+    (done (instructionResult (stored area f x n h))) (is-done (stored area f x n h)))
 
 static-ran : (f : Frame) (x : view.Operand) (n : ℕ) (m : Mem) → Ran (answerOf m (StoreStatic f x n))
 static-ran f x n m =
     answer-ran m (StoreStatic f x n)
-    (first-ran (staticStoreChecks given (settingOf m) (viewOf m) f (x .word))
+    (first-ran (staticStoreChecks instructionResult (settingOf m) (viewOf m) f (x .word))
     (is-panicked _ refl, write-ran (settingOf m) (viewOf m) (staticOf (settingOf m .layout)) (x .word) [] tt)
-    (done (given (staticStored f x))) (is-done (staticStored f x)))
+    (done (instructionResult (staticStored f x))) (is-done (staticStored f x)))
 
 pub can-store : (area : Area) (f : Frame) (x : view.Operand) (n : ℕ) (h : view.Hook) → heapOf f area ≤ 4294967295 → (m : Mem) → Goes m (Store area f x n h) (answerOf m (Store area f x n h))
 can-store area f x n h page m =

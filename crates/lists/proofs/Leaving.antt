@@ -13,7 +13,7 @@ use Rattle.formed.specs.Formed.{wellFormed}
 use Rattle.view.specs.View.{settingOf, viewOf}
 use Rattle.view.specs.Checks.{Check}
 use Rattle.view.specs.Instructions.{Operand, Hook, heapOf, panic, loaded, storeChecks, stored}
-use Rattle.view.specs.Calls.{Value, Load, Store, given, answerOf}
+use Rattle.view.specs.Calls.{Value, Load, Store, instructionResult, answerOf}
 use Rattle.growth.specs.Charges.{LoadOrStore, by-load, by-store}
 use Rattle.growth.proofs.Carried.{is-done}
 use Rattle.lists.specs.Steps.{Step}
@@ -24,7 +24,7 @@ use Rattle.lists.proofs.Instructions.{can-load, can-store}
 module _ (m : Mem) (w : wellFormed m ≡ true) (area : Area) where
   -- a load's answer, by whether its access is paid
   abbrev pub answer : Frame → ℕ → Bool → Outcome Value
-  answer f x p = cond (not p) (panicked (given (panic (frameAccessed f area x .frame)))) (done (given (loaded (viewOf m) area f (at x))))
+  answer f x p = cond (not p) (panicked (instructionResult (panic (frameAccessed f area x .frame)))) (done (instructionResult (loaded (viewOf m) area f (at x))))
 
   pub load-is : (f : Frame) (x : ℕ) → answerOf m (Load area f (at x)) ≡ answer f x (frameAccessed f area x .paid)
   load-is f x = ap (λ (b : Bool). cond (not b) (refused 3) (answer f x (frameAccessed f area x .paid))) w
@@ -36,10 +36,10 @@ module _ (m : Mem) (w : wellFormed m ≡ true) (area : Area) where
   load-leaves f x p = record { result = loaded (viewOf m) area f (at x); step = load-step f x (load-is f x ∙ ap (answer f x) p); frame = refl }
 
 pub store-goes : (m : Mem) (area : Area) (f : Frame) (x : Operand) (n : ℕ) (h : Hook) → heapOf f area ≤ 4294967295
-    → carriedOut (answerOf m (Store area f x n h)) ≡ true → Goes m (Store area f x n h) (done (given (stored area f x n h)))
+    → carriedOut (answerOf m (Store area f x n h)) ≡ true → Goes m (Store area f x n h) (done (instructionResult (stored area f x n h)))
 store-goes m area f x n h page c =
-    let checks : List (Check Value) = (not (wellFormed m), refused 3) ∷ storeChecks given (settingOf m) (viewOf m) area f (x .word) n h in
-    subst (λ (o : Outcome Value). Goes m (Store area f x n h) o) (is-done checks (given (stored area f x n h)) tt c) (can-store area f x n h page m)
+    let checks : List (Check Value) = (not (wellFormed m), refused 3) ∷ storeChecks instructionResult (settingOf m) (viewOf m) area f (x .word) n h in
+    subst (λ (o : Outcome Value). Goes m (Store area f x n h) o) (is-done checks (instructionResult (stored area f x n h)) tt c) (can-store area f x n h page m)
 
 -- ---- of a run
 pub leaves-load : {m m' : Mem} {area : Area} {f g : Frame} {x : Operand} → Leaves m (Load area f x) g m' → LoadOrStore Step area (x .word) f g

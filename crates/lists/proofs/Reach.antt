@@ -20,7 +20,7 @@ use Rattle.store.proofs.Parts.{rest-part}
 use Rattle.formed.specs.Pages.{group, journalCount, journalPlace, journalPage}
 use Rattle.formed.specs.Parts.{keyOf, entryOf, tab}
 use Rattle.view.specs.View.{View, Setting, settingOf, viewOf}
-use Rattle.view.specs.Steps.{wordNotes, marks, rolledBack, fresh, opened}
+use Rattle.view.specs.Steps.{wordNotes, marks, rolledBack, emptyView, opened}
 use Rattle.view.specs.Does.{Shows}
 use Rattle.view.specs.Inner.{listing, holding, putting, ListAsks, HoldAsks, PutAsks, noting, NoteAsks}
 use Rattle.bodies.specs.Words.{placeIn, Spread, InSlots}
@@ -29,7 +29,7 @@ use Rattle.bodies.proofs.Puts.{put-none, put-slot, put-in, put-more, put-done}
 use Rattle.chunks.proofs.Turns.{After, after-none, turn-room, turn-after}
 use Rattle.pages.proofs.Taking as taking
 use Rattle.pages.proofs.Listing.{listed-already, entry-asks, listed-now}
-use Rattle.journal.specs.Words.{numberOf, oldPlace, noteSet}
+use Rattle.journal.specs.Words.{wordNumber, oldPlace, noteSet}
 use Rattle.journal.specs.Steps.{alignedFrom, AlignedAsks, restoring, undoing, UndoAsks, RollBackAsks}
 use Rattle.journal.proofs.Numbers.{number-lt}
 use Rattle.journal.proofs.Notes.{note-slots, note-room, note-shows}
@@ -206,7 +206,7 @@ module _ (m : Mem) (j a : ℕ) (asks : NoteAsks m j a) where
       let b = r .long .in-bytes in
       let t = copy (oldPlace (m .words) j (journalLength (m .words) j)) 32 (λ k. getD (m .bytes) (placeIn first last (a % 256) k) 0) (m .bytes) (omega arith) in
       record {
-        memory = mem (t .now) (m .keys) (m .order) (noteSet (m .words) (12 + j) (numberOf (m .words) j (journalLength (m .words) j)) a first last);
+        memory = mem (t .now) (m .keys) (m .order) (noteSet (m .words) (12 + j) (wordNumber (m .words) j (journalLength (m .words) j)) a first last);
         shows = note-shows (m .bytes) (m .keys) (m .order) (m .words) j a asks first last slots (t .now) _ (t .long) (record { words-are = refl; old = t .spread });
       }
 
@@ -279,7 +279,7 @@ module _ (m : Mem) (j n : ℕ) (asks : UndoAsks m j n) where
       let w = t .shown .formed in
       let l : i < journalLength (m .words) j = omega arith in
       let a = back-asks (t .now) (m .keys) (m .order) (m .words) w j i (asks .which) l in
-      let p = spread (t .now) _ _ _ (back-slots (t .now) (m .words) j i (numberOf (m .words) j i) a refl) (λ k. getD (t .now) (oldPlace (m .words) j i + k) 0) in
+      let p = spread (t .now) _ _ _ (back-slots (t .now) (m .words) j i (wordNumber (m .words) j i) a refl) (λ k. getD (t .now) (oldPlace (m .words) j i + k) 0) in
       record {
         now = p .now;
         shown = back-more (t .now) (m .keys) (m .order) (m .words) w j i (asks .which) l (p .now) (p .long) (p .spread) (settingOf m) (viewOf m) (i + 1) refl (t .shown);
@@ -333,7 +333,7 @@ first-pages ws ks os asks (suc n) l =
     }
 
 module _ (s : Setting) (m : Mem) (asks : OpenAsks s m) (width : (i : ℕ) → i < 6 → getD (headed s (m .words)) i 0 ≤ 4294967295) where
-  pub started-there : Reached s (fresh s)
+  pub started-there : Reached s (emptyView s)
   started-there =
       let k₁ : List ℕ = replicate (length (m .keys)) 0 in
       let w₁ = headed s (m .words) in

@@ -18,9 +18,9 @@ use Rattle.formed.proofs.Meaning.{well-formed-passes}
 use Rattle.view.specs.Steps.{missing}
 use Rattle.view.specs.Checks.{undecodable, overfull}
 use Rattle.view.specs.Does.{Shows}
-use Rattle.view.specs.Instructions.{Hook, Given, heapOf, stored}
-use Rattle.view.specs.Calls.{Call, Load, Store, given, outcomeOf, answerOf}
-use Rattle.plain.specs.Plain.{Plain, has, hold, member, fresh, follow, seen}
+use Rattle.view.specs.Instructions.{Hook, InstructionResult, heapOf, stored}
+use Rattle.view.specs.Calls.{Call, Load, Store, instructionResult, outcomeOf, answerOf}
+use Rattle.plain.specs.Plain.{Plain, has, hold, member, freshPlain, follow, seen}
 use Rattle.plain.specs.Claim.{Run, Any, none, more}
 use Rattle.plain.proofs.Good.{never}
 use Rattle.growth.specs.Charges as growth
@@ -36,7 +36,7 @@ abbrev pub m₀ : Mem
 m₀ = small-begins .start
 
 abbrev p₀ : Plain
-p₀ = fresh small []
+p₀ = freshPlain small []
 
 pub begun : Run Step Any small m₀ p₀ m₀ p₀
 begun = none
@@ -52,10 +52,10 @@ module _ {m : Mem} {p : Plain} (r : Run Step Any small m₀ p₀ m p) where
   loads area f x e = load-leaves m formed area f x e
 
   stores : (area : Area) (f : Frame) (x : ℕ) (h : Hook) → heapOf f area ≤ 4294967295 → carriedOut (outcomeOf small (Store area f (at x) 7 h) (seen small p)) ≡ true
-      → Goes m (Store area f (at x) 7 h) (done (given (stored area f (at x) 7 h)))
+      → Goes m (Store area f (at x) 7 h) (done (instructionResult (stored area f (at x) 7 h)))
   stores area f x h page e = store-goes m area f (at x) 7 h page (ap carriedOut (answer-is shows (Store area f (at x) 7 h)) ∙ e)
 
-abbrev leaves : {m : Mem} {c : Call} {r : Given} (g : Goes m c (done (given r))) → Leaves m c (r .frame) (g .after)
+abbrev leaves : {m : Mem} {c : Call} {r : InstructionResult} (g : Goes m c (done (instructionResult r))) → Leaves m c (r .frame) (g .after)
 leaves {r = r} g = record { result = r; step = g .step; frame = refl }
 
 -- ---- the first store
@@ -69,7 +69,7 @@ room-0 : carriedOut (outcomeOf small store-0 (seen small p₀)) ≡ true
 unfolding fixed dynamic missing undecodable overfull has hold member
 room-0 = refl
 
-stored-0 : Goes m₀ store-0 (done (given (stored Aux (frame 1000 4096 0) (at 0) 7 noHook)))
+stored-0 : Goes m₀ store-0 (done (instructionResult (stored Aux (frame 1000 4096 0) (at 0) 7 noHook)))
 stored-0 = stores begun Aux (frame 1000 4096 0) 0 noHook (omega arith) room-0
 
 after-0 : Run Step Any small m₀ p₀ (stored-0 .after) p₁
@@ -83,7 +83,7 @@ room-10 : carriedOut (outcomeOf small store-10 (seen small p₁)) ≡ true
 unfolding digits fixed dynamic missing undecodable overfull has hold member
 room-10 = refl
 
-stored-10 : Goes (stored-0 .after) store-10 (done (given (stored Heap (frame 967 4097 32) (at 10) 7 (hookAt 10))))
+stored-10 : Goes (stored-0 .after) store-10 (done (instructionResult (stored Heap (frame 967 4097 32) (at 10) 7 (hookAt 10))))
 stored-10 = stores after-0 Heap (frame 967 4097 32) 10 (hookAt 10) (omega arith) room-10
 
 after-10 : Run Step Any small m₀ p₀ (stored-10 .after) (follow (small .layout) store-10 p₁)

@@ -17,7 +17,7 @@ use Rattle.view.specs.View.{View, settingOf, viewOf}
 use Rattle.view.specs.Steps.{touchedCount, alignedCount, wordNotes, alignedNotes, written, wordWritten, bytesWritten, contentsAllocated}
 use Rattle.view.specs.Checks.{wordWriteChecks, byteWriteChecks, allocateChecks}
 use Rattle.view.specs.Inner.{listing, holding, noting, journalling, putting}
-use Rattle.room.specs.Refusals.{number}
+use Rattle.room.specs.Refusals.{firstRefusal}
 use Rattle.refusals.proofs.Passed.{bytes-passed}
 use Rattle.writes.specs.Asks.{JournalAsks}
 use Rattle.bodies.proofs.Puts.{shows-then}
@@ -63,14 +63,14 @@ module _ (m : Mem) (p a : ℕ) (bs : List ℕ) (w : ℕ) (c : Cleared m p a (len
       record { memory = t .memory; shows = write-done m p a bs w k c (h .memory) (h .shows) (λ v. notes v p) same (t .memory) (shows-then (putting p a bs) (j .shows) (t .shows)) }
 
 module _ (m : Mem) (p a : ℕ) (page : p ≤ 4294967295) (address : a ≤ 4294967295) where
-  pub word-there : (n : ℕ) → (WellFormed m) × (number (wordWriteChecks (settingOf m) (viewOf m) p a) ≡ 0) → Reached (settingOf m) (wordWritten (layoutOf (m .words)) p a (wordBytes n) (viewOf m))
+  pub word-there : (n : ℕ) → (WellFormed m) × (firstRefusal (wordWriteChecks (settingOf m) (viewOf m) p a) ≡ 0) → Reached (settingOf m) (wordWritten (layoutOf (m .words)) p a (wordBytes n) (viewOf m))
   word-there n asks =
       written-there m p a (wordBytes n) 1
       (word-cleared m p a (touchedCount a (length (wordBytes n))) page address asks (ap (touchedCount a) (digits-long 32 n)) (length (wordBytes n)) (digits-long 32 n))
       (λ v q. wordNotes v q a) (λ u v. word-notes-same u v p a)
       (λ m₂ q j l e. noted-there m₂ j a (note-asks m₂ p a address (subst (λ (x : ℕ). JournalAsks m₂ p a x 1) (digits-long 32 n) q) j l e))
 
-  pub bytes-there : (bs : List ℕ) → (WellFormed m) × (number (byteWriteChecks (settingOf m) (viewOf m) p a (length bs)) ≡ 0) → Reached (settingOf m) (bytesWritten (layoutOf (m .words)) p a bs (viewOf m))
+  pub bytes-there : (bs : List ℕ) → (WellFormed m) × (firstRefusal (byteWriteChecks (settingOf m) (viewOf m) p a (length bs)) ≡ 0) → Reached (settingOf m) (bytesWritten (layoutOf (m .words)) p a bs (viewOf m))
   bytes-there bs asks =
       let top = bytes-passed (settingOf m) (viewOf m) p a (length bs) (asks .1) .1 in
       written-there m p a bs (alignedCount a (length bs)) (bytes-cleared m p a (touchedCount a (length bs)) page (length bs) asks refl)
@@ -78,7 +78,7 @@ module _ (m : Mem) (p a : ℕ) (page : p ≤ 4294967295) (address : a ≤ 429496
       (λ m₂ q j l e. aligned-there m₂ j (a / 32) (alignedCount a (length bs)) (aligned-asks m₂ p a (length bs) top q j l e (alignedCount a (length bs)) refl))
 
 -- an allocation
-pub contents-there : (m : Mem) (p : ℕ) → p ≤ 4294967295 → (bs : List ℕ) → (WellFormed m) × (number (allocateChecks (settingOf m) (viewOf m) p (length bs)) ≡ 0)
+pub contents-there : (m : Mem) (p : ℕ) → p ≤ 4294967295 → (bs : List ℕ) → (WellFormed m) × (firstRefusal (allocateChecks (settingOf m) (viewOf m) p (length bs)) ≡ 0)
     → Reached (settingOf m) (contentsAllocated (layoutOf (m .words)) p bs (viewOf m))
 contents-there m p page bs asks =
     let k = touchedCount 0 (length bs) in

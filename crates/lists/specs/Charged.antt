@@ -11,7 +11,7 @@ use Rattle.outcome.specs.Outcome.{done, carriedOut}
 use Rattle.state.specs.declared.Frame.{Frame}
 use Rattle.state.specs.declared.Area.{Area}
 use Rattle.state.specs.Access.{boundOf, frameAccessed}
-use Rattle.state.specs.Quote.{endOf, told}
+use Rattle.state.specs.Quote.{endOf, quoteOutcome}
 use Rattle.state.proofs.quote.quote.Kinds as quote-kinds
 use Rattle.state.proofs.quote.quote.Reads as quote-reads
 use Rattle.state.proofs.quote.quote.Statement as quote-says
@@ -20,7 +20,7 @@ use Rattle.instructions.proofs.store.Statement as store-says
 use Rattle.store.specs.Mem.{Mem}
 use Rattle.formed.specs.Formed.{wellFormed}
 use Rattle.view.specs.Instructions.{Operand, Hook, heapOf, stored}
-use Rattle.view.specs.Calls.{Load, Store, given, answerOf}
+use Rattle.view.specs.Calls.{Load, Store, instructionResult, answerOf}
 use Rattle.growth.specs.Quotes.{Loads, QuoteOfLoads}
 use Rattle.growth.specs.Charges.{GrowthAddsUp}
 use Rattle.lists.specs.Steps.{Went, Step}
@@ -63,7 +63,7 @@ pub record Charged : Type 2 where
   -- A call of the code's `quote` of at most 4,096 addresses, with the gas and the area's bound of f, answers what loads from f on spend, the bound that
   -- they reach, and where they end
   pub equals : (q : Quote) → length (listOf q) ≤ 4096 → {area : Area} {f g : Frame} {n : ℕ} → gasOf q ≡ f .gas → firstBound q ≡ boundOf f area
-      → Loads Step area f (listOf q) n g → told (q .result) ≡ done (endOf (f .gas) (g .gas) (boundOf g area) n)
+      → Loads Step area f (listOf q) n g → quoteOutcome (q .result) ≡ done (endOf (f .gas) (g .gas) (boundOf g area) n)
   -- there are such loads, of every area, frame and list
   pub loaded : (area : Area) (f : Frame) (list : List ℕ) → LoadsExist area f list
   -- there are such quotes
@@ -75,7 +75,7 @@ pub record Charged : Type 2 where
       → Leaves m (Load area f (at x)) (frameAccessed f area x .frame) m
   -- and so can every store that the definition carries out, to a page whose number has 32 bits
   pub store-next : (m : Mem) (area : Area) (f : Frame) (x : Operand) (n : ℕ) (h : Hook) → heapOf f area ≤ 4294967295
-      → carriedOut (answerOf m (Store area f x n h)) ≡ true → Goes m (Store area f x n h) (done (given (stored area f x n h)))
+      → carriedOut (answerOf m (Store area f x n h)) ≡ true → Goes m (Store area f x n h) (done (instructionResult (stored area f x n h)))
   -- there is a well-formed memory
   pub formed : (m : Mem) × (wellFormed m ≡ true)
   -- a run worked out by hand

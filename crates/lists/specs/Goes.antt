@@ -9,7 +9,7 @@ use Rattle.view.specs.View.{Setting}
 use Rattle.view.specs.Calls.{Call, Value, Open, Allocate, ReadWord, ReadPartial, ReadRange, ReadByte, DynamicLength, WriteWord, WriteBytes, Lookup, LookupCheck, Free, Window, Truncate, CompareLeft, CompareRight, CompareBoth, Snapshot, Rollback, DeleteHistory, nothing, outcomeOf, Load, Store, LoadPointer, LoadStatic, StoreStatic}
 use Rattle.view.specs.Instructions.{heapOf}
 use Rattle.opening.specs.Opening.{OpenAsks}
-use Rattle.plain.specs.Plain.{Plain, fresh, seen}
+use Rattle.plain.specs.Plain.{Plain, freshPlain, seen}
 use Rattle.plain.specs.Claim.{Started, Run, Any}
 use Rattle.lists.specs.Steps.{Step}
 
@@ -60,7 +60,7 @@ pub record Goes (m : Mem) (c : Call) (o : Outcome Value) : Type 0 where
 pub record Begins (m : Mem) (s : Setting) (calldata : List ℕ) : Type 0 where
   pub start : Mem
   pub step : Step m (Open s calldata) (done nothing) start
-  pub started : Started Step s start (fresh s calldata)
+  pub started : Started Step s start (freshPlain s calldata)
 
 pub record NotEmpty : Type 0 where
   -- lists begin: with every setting and calldata that no condition of an opening refuses, on buffers of the right lengths, whatever these hold

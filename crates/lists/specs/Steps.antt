@@ -11,13 +11,12 @@ use contract.Lifetimes.{Lfts}
 use denote.Triple.Clauses.{Lasts, AtExit, atExit}
 use denote.Triple.Walked.{Fit}
 use denote.Ref.{RefT, now}
-use Rattle.outcome.specs.Outcome as outcomes
-use Rattle.outcome.specs.Outcome.{Outcome, done, mapped}
+use Rattle.outcome.specs.Outcome.{Outcome, done, mapped, answerOutcome}
 use Rattle.store.specs.Mem.{Mem, mem}
 use Rattle.word.specs.Value.{value}
-use Rattle.view.specs.Calls.{Call, Value, Open, Allocate, WriteWord, WriteBytes, ReadWord, ReadPartial, ReadRange, ReadByte, DynamicLength, Lookup, LookupCheck, Free, Window, Truncate, CompareLeft, CompareRight, CompareBoth, Snapshot, Rollback, DeleteHistory, nothing, number, bytes, told, Load, Store, LoadPointer, LoadStatic, StoreStatic}
+use Rattle.view.specs.Calls.{Call, Value, Open, Allocate, WriteWord, WriteBytes, ReadWord, ReadPartial, ReadRange, ReadByte, DynamicLength, Lookup, LookupCheck, Free, Window, Truncate, CompareLeft, CompareRight, CompareBoth, Snapshot, Rollback, DeleteHistory, nothing, number, bytes, Load, Store, LoadPointer, LoadStatic, StoreStatic}
 use Rattle.opening.specs.Opening.{setting}
-use Rattle.reads.specs.Calls.{toldByte, toldLength, toldMarks, marked}
+use Rattle.reads.specs.Calls.{byteOutcome, lengthOutcome, snapshotOutcome, lengthsValue}
 use Rattle.reads.specs.Calls as reads
 use Rattle.compare.specs.Verdict as compares
 use Rattle.opening.proofs.open.Kinds as open-kinds
@@ -106,21 +105,21 @@ pub data Step : Mem → Call → Outcome Value → Mem → Type 0 where
       Step
       (lent (w .args))
       (Open (setting (rest (w .args) .0) (rest (w .args) .1 .0) (rest (w .args) .1 .1 .0) (rest (w .args) .1 .1 .1 .0)) (now (rest (w .args) .1 .1 .1 .1 .0)))
-      (told (w .result))
+      (answerOutcome nothing (w .result))
       (lent (exits w))
   did-read-word :
       (w : Went word-kinds.ps word-kinds.r word-reads.Asked word-reads.Learnt) →
       Step
       (lent (w .args))
       (ReadWord (rest (w .args) .0 .0) (rest (w .args) .1 .0 .0))
-      (mapped number (reads.told (w .result)))
+      (mapped number (reads.wordOutcome (w .result)))
       (lent (exits w))
   did-read-partial :
       (w : Went partial-kinds.ps partial-kinds.r partial-reads.Asked partial-reads.Learnt) →
       Step
       (lent (w .args))
       (ReadPartial (rest (w .args) .0 .0) (rest (w .args) .1 .0 .0) (rest (w .args) .1 .1 .0 .0))
-      (mapped number (reads.told (w .result)))
+      (mapped number (reads.wordOutcome (w .result)))
       (lent (exits w))
   -- the value is what the output holds after the call
   did-read-range :
@@ -128,21 +127,21 @@ pub data Step : Mem → Call → Outcome Value → Mem → Type 0 where
       Step
       (lent (w .args))
       (ReadRange (rest (w .args) .0 .0) (rest (w .args) .1 .0 .0) (rest (w .args) .1 .1 .0 .0) (length (now (rest (w .args) .1 .1 .1 .0))))
-      (mapped (λ _. bytes (now (rest (exits w) .1 .1 .1 .0))) (outcomes.told (w .result)))
+      (mapped (λ _. bytes (now (rest (exits w) .1 .1 .1 .0))) (answerOutcome tt (w .result)))
       (lent (exits w))
   did-read-byte :
       (w : Went byte-kinds.ps byte-kinds.r byte-reads.Asked byte-reads.Learnt) →
       Step
       (lent (w .args))
       (ReadByte (rest (w .args) .0 .0) (rest (w .args) .1 .0 .0))
-      (mapped number (toldByte (w .result)))
+      (mapped number (byteOutcome (w .result)))
       (lent (exits w))
   did-dynamic-length :
       (w : Went length-kinds.ps length-kinds.r length-reads.Asked length-reads.Learnt) →
       Step
       (lent (w .args))
       DynamicLength
-      (mapped number (toldLength (w .result)))
+      (mapped number (lengthOutcome (w .result)))
       (lent (exits w))
   -- a lookup shows a part, and its check says whether it is refused
   did-lookup :
@@ -157,63 +156,63 @@ pub data Step : Mem → Call → Outcome Value → Mem → Type 0 where
       Step
       (lent (w .args))
       (LookupCheck (rest (w .args) .0 .0) (rest (w .args) .1 .0) (now (rest (w .args) .1 .1 .0)))
-      (mapped (λ _. nothing) (outcomes.told (w .result)))
+      (mapped (λ _. nothing) (answerOutcome tt (w .result)))
       (lent (exits w))
   did-snapshot :
       (w : Went snapshot-kinds.ps snapshot-kinds.r snapshot-reads.Asked snapshot-reads.Learnt) →
       Step
       (lent (w .args))
       Snapshot
-      (mapped marked (toldMarks (w .result)))
+      (mapped lengthsValue (snapshotOutcome (w .result)))
       (lent (exits w))
   did-write-word :
       (w : Went write-kinds.ps write-kinds.r write-reads.Asked write-reads.Learnt) →
       Step
       (lent (w .args))
       (WriteWord (rest (w .args) .0 .0) (rest (w .args) .1 .0 .0) (value (rest (w .args) .1 .1 .0 .limbs)))
-      (told (w .result))
+      (answerOutcome nothing (w .result))
       (lent (exits w))
   did-write-bytes :
       (w : Went put-kinds.ps put-kinds.r put-reads.Asked put-reads.Learnt) →
       Step
       (lent (w .args))
       (WriteBytes (rest (w .args) .0 .0) (rest (w .args) .1 .0 .0) (now (rest (w .args) .1 .1 .0)))
-      (told (w .result))
+      (answerOutcome nothing (w .result))
       (lent (exits w))
   did-allocate :
       (w : Went allocate-kinds.ps allocate-kinds.r allocate-reads.Asked allocate-reads.Learnt) →
       Step
       (lent (w .args))
       (Allocate (rest (w .args) .0 .0) [])
-      (told (w .result))
+      (answerOutcome nothing (w .result))
       (lent (exits w))
   did-allocate-with :
       (w : Went fill-kinds.ps fill-kinds.r fill-reads.Asked fill-reads.Learnt) →
       Step
       (lent (w .args))
       (Allocate (rest (w .args) .0 .0) (now (rest (w .args) .1 .0)))
-      (told (w .result))
+      (answerOutcome nothing (w .result))
       (lent (exits w))
   did-free :
       (w : Went free-kinds.ps free-kinds.r free-reads.Asked free-reads.Learnt) →
       Step
       (lent (w .args))
       (Free (rest (w .args) .0 .0))
-      (told (w .result))
+      (answerOutcome nothing (w .result))
       (lent (exits w))
   did-window :
       (w : Went window-kinds.ps window-kinds.r window-reads.Asked window-reads.Learnt) →
       Step
       (lent (w .args))
       (Window (rest (w .args) .0 .0) (rest (w .args) .1 .0 .0) (rest (w .args) .1 .1 .0))
-      (told (w .result))
+      (answerOutcome nothing (w .result))
       (lent (exits w))
   did-truncate :
       (w : Went truncate-kinds.ps truncate-kinds.r truncate-reads.Asked truncate-reads.Learnt) →
       Step
       (lent (w .args))
       (Truncate (rest (w .args) .0))
-      (told (w .result))
+      (answerOutcome nothing (w .result))
       (lent (exits w))
   -- a comparison is lent two memories; this one is the left, the right, or both
   did-compare-left :
@@ -221,14 +220,14 @@ pub data Step : Mem → Call → Outcome Value → Mem → Type 0 where
       Step
       (lent (w .args))
       (CompareLeft (lent (rest (w .args))))
-      (compares.told (w .result))
+      (compares.comparisonOutcome (w .result))
       (lent (exits w))
   did-compare-right :
       (w : Went compare-kinds.ps compare-kinds.r compare-reads.Asked compare-reads.Learnt) →
       Step
       (lent (rest (w .args)))
       (CompareRight (lent (w .args)))
-      (compares.told (w .result))
+      (compares.comparisonOutcome (w .result))
       (lent (rest (exits w)))
   did-compare-both :
       (w : Went compare-kinds.ps compare-kinds.r compare-reads.Asked compare-reads.Learnt) →
@@ -236,21 +235,21 @@ pub data Step : Mem → Call → Outcome Value → Mem → Type 0 where
       Step
       (lent (w .args))
       CompareBoth
-      (compares.told (w .result))
+      (compares.comparisonOutcome (w .result))
       (lent (exits w))
   did-rollback :
       (w : Went rollback-kinds.ps rollback-kinds.r rollback-reads.Asked rollback-reads.Learnt) →
       Step
       (lent (w .args))
       (Rollback (rest (w .args) .0) (rest (w .args) .1 .0))
-      (told (w .result))
+      (answerOutcome nothing (w .result))
       (lent (exits w))
   did-delete-history :
       (w : Went delete-kinds.ps delete-kinds.r delete-reads.Asked delete-reads.Learnt) →
       Step
       (lent (w .args))
       DeleteHistory
-      (told (w .result))
+      (answerOutcome nothing (w .result))
       (lent (exits w))
   -- the frame is an argument, and a part of the answer
   did-load :
@@ -258,7 +257,7 @@ pub data Step : Mem → Call → Outcome Value → Mem → Type 0 where
       Step
       (lent (w .args))
       (Load (rest (w .args) .1 .0) (rest (w .args) .0) (operandOf (rest (w .args) .1 .1 .0)))
-      (executions.told (w .result))
+      (executions.executionOutcome (w .result))
       (lent (exits w))
   did-store :
       (w : Went store-kinds.ps store-kinds.r store-reads.Asked store-reads.Learnt) →
@@ -270,26 +269,26 @@ pub data Step : Mem → Call → Outcome Value → Mem → Type 0 where
       (operandOf (rest (w .args) .1 .1 .0))
       (value (rest (w .args) .1 .1 .1 .0 .limbs))
       (hookOf (rest (w .args) .1 .1 .1 .1 .0)))
-      (executions.told (w .result))
+      (executions.executionOutcome (w .result))
       (lent (exits w))
   did-load-pointer :
       (w : Went pointer-kinds.ps pointer-kinds.r pointer-reads.Asked pointer-reads.Learnt) →
       Step
       (lent (w .args))
       (LoadPointer (rest (w .args) .0) (operandOf (rest (w .args) .1 .0)))
-      (executions.told (w .result))
+      (executions.executionOutcome (w .result))
       (lent (exits w))
   did-load-static :
       (w : Went load-static-kinds.ps load-static-kinds.r load-static-reads.Asked load-static-reads.Learnt) →
       Step
       (lent (w .args))
       (LoadStatic (rest (w .args) .0) (operandOf (rest (w .args) .1 .0)))
-      (executions.told (w .result))
+      (executions.executionOutcome (w .result))
       (lent (exits w))
   did-store-static :
       (w : Went store-static-kinds.ps store-static-kinds.r store-static-reads.Asked store-static-reads.Learnt) →
       Step
       (lent (w .args))
       (StoreStatic (rest (w .args) .0) (operandOf (rest (w .args) .1 .0)) (value (rest (w .args) .1 .1 .0 .limbs)))
-      (executions.told (w .result))
+      (executions.executionOutcome (w .result))
       (lent (exits w))

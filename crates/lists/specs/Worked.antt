@@ -1,4 +1,4 @@
--- A RUN WORKED OUT BY HAND: six loads and stores on one memory, each given the frame and the memory that the last one left.
+-- A RUN WORKED OUT BY HAND: six loads and stores on one memory, each instructionResult the frame and the memory that the last one left.
 -- Assumes nothing.
 use mathlib.Core.Path.{_≡_}
 use mathlib.Core.Bool.{true, false}
@@ -8,15 +8,15 @@ use Rattle.outcome.specs.Outcome.{done}
 use Rattle.state.specs.declared.Frame.{Frame}
 use Rattle.state.specs.declared.Area.the-variants.{Heap, Aux}
 use Rattle.store.specs.Mem.{Mem}
-use Rattle.view.specs.Instructions.{Operand, Hook, Given, onHook}
-use Rattle.view.specs.Calls.{Call, Load, Store, given}
+use Rattle.view.specs.Instructions.{Operand, Hook, InstructionResult, onHook}
+use Rattle.view.specs.Calls.{Call, Load, Store, instructionResult}
 use Rattle.growth.specs.Charges.{Charge, LoadsAndStores}
 use Rattle.lists.specs.Steps.{Step}
 
 -- a call that is carried out and leaves the frame g
 pub record Leaves (m : Mem) (c : Call) (g : Frame) (m' : Mem) : Type 0 where
-  pub result : Given
-  pub step : Step m c (done (given result)) m'
+  pub result : InstructionResult
+  pub step : Step m c (done (instructionResult result)) m'
   pub frame : result .frame ≡ g
 
 -- an operand without a tag

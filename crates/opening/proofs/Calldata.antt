@@ -14,7 +14,7 @@ use Rattle.formed.specs.Pages.{LayoutRule, fixed, group, journalCount, journalP
 use Rattle.formed.specs.Parts.{Note}
 use Rattle.formed.proofs.Pages.{is-fixed}
 use Rattle.view.specs.View.{View, Setting, viewOf, settingOf}
-use Rattle.view.specs.Steps.{over, touches, touchedCount, missing, journalled, written, fresh, opened}
+use Rattle.view.specs.Steps.{over, touches, touchedCount, missing, journalled, written, emptyView, opened}
 use Rattle.view.specs.Inner.{holding, putting, HoldAsks, PutAsks}
 use Rattle.view.specs.Does.{Shows}
 use Rattle.view.proofs.Equal.{view-by}
@@ -66,9 +66,9 @@ module _ (s : Setting) (p : ℕ) (f : fixed (s .layout) p ≡ true) where
   no-notes : (j : ℕ) → _≡_ {A = List Note} (cond (journalled (s .layout) p j) ([] ++ []) []) []
   no-notes j = either (journalled (s .layout) p j) []
 
-  fresh-listed : written (s .layout) p 0 [] [] (fresh s) ≡ fresh s
+  fresh-listed : written (s .layout) p 0 [] [] (emptyView s) ≡ emptyView s
   fresh-listed =
-      view-by (written (s .layout) p 0 [] [] (fresh s)) (fresh s) no-bytes none-held pool-kept fixed-kept
+      view-by (written (s .layout) p 0 [] [] (emptyView s)) (emptyView s) no-bytes none-held pool-kept fixed-kept
       (ap (λ (b : Bool). cond b (s .pages) (s .pages - 1)) f)
       (ap (λ (b : Bool). cond b (max 0 (group (s .layout) p + 1)) 0) (fixed-only (s .layout) p f))
       no-notes
@@ -120,9 +120,9 @@ module _ (m : Mem) (p n : ℕ) (asks : CalldataAsks m p n) where
       view-is =
           ap (putting p 0 calldata)
           (h .view ∙ ap (holding p 0 ((n + 255) / 256)) (asks .started .view ∙ sym (fresh-listed (settingOf m) p is-fixed-page))
-          ∙ ap (λ (k : ℕ). holding p 0 k (written (layoutOf (m .words)) p 0 [] [] (fresh (settingOf m)))) (touched-is n ∙ ap (touchedCount 0) long))
-          ∙ subst (λ (q : ℕ). putting q 0 calldata (holding q 0 (touchedCount 0 (length calldata)) (written (layoutOf (m .words)) q 0 [] [] (fresh (settingOf m)))) ≡ opened (settingOf m) calldata) (sym (asks .page))
-          (plain-write (layoutOf (m .words)) (layoutOf (m .words) .calldata .0) (fresh (settingOf m)) 0 calldata [] (calldata-plain (layoutOf (m .words)) (asks .started .formed .layout)))
+          ∙ ap (λ (k : ℕ). holding p 0 k (written (layoutOf (m .words)) p 0 [] [] (emptyView (settingOf m)))) (touched-is n ∙ ap (touchedCount 0) long))
+          ∙ subst (λ (q : ℕ). putting q 0 calldata (holding q 0 (touchedCount 0 (length calldata)) (written (layoutOf (m .words)) q 0 [] [] (emptyView (settingOf m)))) ≡ opened (settingOf m) calldata) (sym (asks .page))
+          (plain-write (layoutOf (m .words)) (layoutOf (m .words) .calldata .0) (emptyView (settingOf m)) 0 calldata [] (calldata-plain (layoutOf (m .words)) (asks .started .formed .layout)))
 
       pub calldata-put : (m₂ : Mem) → Shows (settingOf m₁) (putting p 0 calldata (viewOf m₁)) m₂ → Shows (settingOf m) (opened (settingOf m) calldata) m₂
       calldata-put m₂ g = record { formed = g .formed; setting = g .setting ∙ h .setting; view = g .view ∙ view-is }

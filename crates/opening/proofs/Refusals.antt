@@ -14,7 +14,7 @@ use Rattle.store.specs.Mem.{Mem}
 use Rattle.formed.specs.Buffers.{lengthsFit}
 use Rattle.formed.proofs.Sizes.{fit-are, fit-test}
 use Rattle.view.specs.View.{Setting, settingOf}
-use Rattle.view.specs.Steps.{touchedCount, fresh, opened}
+use Rattle.view.specs.Steps.{touchedCount, emptyView, opened}
 use Rattle.view.specs.Checks.{lengthsRight, openingChecks}
 use Rattle.view.specs.Does.{Shows, Does}
 use Rattle.opening.specs.Opening.{sizesRight, Sizes, OpenAsks, CalldataAsks}
@@ -130,11 +130,11 @@ module _ {A : Type 0} (a : A) where
       pub open-asks : OpenAsks s m
       open-asks = record { layout = passed .0; sizes = sizes-are s m (not-off (sizesRight s m) (passed .1)) }
 
-      pub calldata-asks : (m₁ : Mem) → Shows s (fresh s) m₁ → CalldataAsks m₁ (s .layout .calldata .0) n
+      pub calldata-asks : (m₁ : Mem) → Shows s (emptyView s) m₁ → CalldataAsks m₁ (s .layout .calldata .0) n
       calldata-asks m₁ h =
           let w = touched-within (s .chunks) n (ltb-false (s .chunks) (touchedCount 0 n) (passed .2)) in
           record {
-            started = subst (λ (t : Setting). Shows t (fresh t) m₁) (sym (h .setting)) h;
+            started = subst (λ (t : Setting). Shows t (emptyView t) m₁) (sym (h .setting)) h;
             page = ap (λ (t : Setting). t .layout .calldata .0) (sym (h .setting));
             room = subst (λ (t : Setting). n ≤ 256 * t .chunks) (sym (h .setting)) w;
           }
@@ -146,7 +146,7 @@ module _ {A : Type 0} (a : A) where
         let q : refused i ≡ outcome s m (length calldata) = number-refused i h ∙ e in
         record { answer = q; kept = λ _. refl; changed = λ y. absurd (false≢true (ap carriedOut q ∙ y)) }
 
-    pub open-done : i ≡ 0 → (m₁ m₂ : Mem) → Shows s (fresh s) m₁ → Shows (settingOf m₁) (opened (settingOf m₁) calldata) m₂
+    pub open-done : i ≡ 0 → (m₁ m₂ : Mem) → Shows s (emptyView s) m₁ → Shows (settingOf m₁) (opened (settingOf m₁) calldata) m₂
         → Does m (outcome s m (length calldata)) s (opened s calldata) (done a) m₂
     open-done z m₁ m₂ h g =
         let q : done a ≡ outcome s m (length calldata) = ap (λ (n : ℕ). answered n a) (sym z) ∙ e in

@@ -22,7 +22,7 @@ use Rattle.formed.proofs.Facts.{Facts}
 use Rattle.formed.proofs.Meaning.{formed-by}
 use Rattle.formed.proofs.Sense.{pool-is, left-is, holds-held, allocated-is, fixed-allocated}
 use Rattle.view.specs.View.{Setting, viewOf}
-use Rattle.view.specs.Steps.{fresh}
+use Rattle.view.specs.Steps.{emptyView}
 use Rattle.view.specs.Does.{Shows}
 use Rattle.view.proofs.Equal.{view-by}
 use Rattle.opening.specs.Opening.{headed, OpenAsks, FixedAsks, FirstPages}
@@ -119,12 +119,12 @@ module _ (s : Setting) (b k o w : List ℕ) (asks : OpenAsks s (mem b k o w)) (w
   no-notes (suc zero) = refl
   no-notes (suc (suc j)) = rw (le-ltb (suc (suc j)) 2 (omega arith)) refl
 
-  pub new-memory : Shows s (fresh s) m
+  pub new-memory : Shows s (emptyView s) m
   new-memory = record {
     formed = formed;
     setting = refl;
     view =
-        view-by (viewOf m) (fresh s) no-byte none-held (let h = pool-is m formed in omega arith) fixed-alone (let h = left-is m formed in omega arith) refl no-notes;
+        view-by (viewOf m) (emptyView s) no-byte none-held (let h = pool-is m formed in omega arith) fixed-alone (let h = left-is m formed in omega arith) refl no-notes;
   }
 
 -- ---- the head's widths
@@ -226,7 +226,7 @@ module _ (s : Setting) (bytes keys order words : List ℕ) (asks : OpenAsks s (m
     four : FirstPages (headed s words) (drop (s .chunks) (take (s .chunks) k₁ ++ e₂)) (drop (s .chunks) (take (s .chunks) order ++ e₃)) 4
     four = rw (drop-front (take (s .chunks) k₁) e₂ (s .chunks) cut-keys, drop-front (take (s .chunks) order) e₃ (s .chunks) cut-order, ← head) first
 
-    pub started : Shows s (fresh s)
+    pub started : Shows s (emptyView s)
         (mem (e₁ ++ drop (256 * s .chunks - 0) bytes) (take (s .chunks) k₁ ++ (e₂ ++ drop (length k₁ - s .chunks) (drop (s .chunks) k₁)))
         (take (s .chunks) order ++ (e₃ ++ drop (length order - s .chunks) (drop (s .chunks) order))) w₁)
     started =

@@ -11,7 +11,7 @@ use Rattle.page_ids.specs.Decode.{badLayout}
 use Rattle.outcome.specs.Outcome.{Outcome, done, firstOf}
 use Rattle.store.specs.Mem.{Mem, layoutOf, slotCount}
 use Rattle.view.specs.View.{Setting, settingOf}
-use Rattle.view.specs.Steps.{fresh}
+use Rattle.view.specs.Steps.{emptyView}
 use Rattle.view.specs.Checks.{countsRight, lengthsRight, openingChecks, bytesLength, keysLength, orderLength, wordsLength}
 use Rattle.view.specs.Does.{Shows}
 use Rattle.view.specs.Calls.{Value, nothing}
@@ -79,6 +79,6 @@ openingOutcome s m n = firstOf (openingChecks s (lengthsRight s m) n) (done noth
 
 -- what n bytes of calldata ask: a memory just started, its calldata page, and chunks for them all
 pub record CalldataAsks (m : Mem) (p n : ℕ) : Type 0 where
-  pub started : Shows (settingOf m) (fresh (settingOf m)) m
+  pub started : Shows (settingOf m) (emptyView (settingOf m)) m
   pub page : p ≡ layoutOf (m .words) .calldata .0
   pub room : n ≤ 256 * slotCount (m .words)

@@ -2,11 +2,11 @@
 ghost use mathlib.Core.Path.{_≡_};
 ghost use Prim.Native.Nat.{_≤_};
 ghost use lib.ListN.{length, replicate};
-ghost use Rattle.outcome.specs.Outcome.{answered};
+ghost use Rattle.outcome.specs.Outcome.{answered, answerOutcome};
 ghost use Rattle.store.specs.Mem.{mem, headLength};
 ghost use Rattle.view.specs.View.{settingOf};
-ghost use Rattle.view.specs.Steps.{fresh, opened};
-ghost use Rattle.view.specs.Calls.{nothing, told, OpenDoes};
+ghost use Rattle.view.specs.Steps.{emptyView, opened};
+ghost use Rattle.view.specs.Calls.{nothing, OpenDoes};
 ghost use Rattle.view.specs.Does.{Shows};
 ghost use Rattle.page_ids.specs.declared.Layout.{Layout};
 ghost use Rattle.opening.specs.Opening.{layoutFrom, setting, headed, sizesRight, OpenAsks, FixedAsks, FirstPages, openingOutcome, CalldataAsks};
@@ -97,7 +97,7 @@ fn start_with(
     room: u32,
 )
     requires { ⌜ OpenAsks (setting (layoutFrom statics calldata heap aux base stride) chunks pages room) (mem (now bytes) (now keys) (now order) (now words)) ⌝ }
-    ensures { λ _. let s = setting (layoutFrom statics calldata heap aux base stride) chunks pages room in ⌜ Shows s (fresh s) (mem (now (bytes .exit)) (now (keys .exit)) (now (order .exit)) (now (words .exit))) ⌝ }
+    ensures { λ _. let s = setting (layoutFrom statics calldata heap aux base stride) chunks pages room in ⌜ Shows s (emptyView s) (mem (now (bytes .exit)) (now (keys .exit)) (now (order .exit)) (now (words .exit))) ⌝ }
 {
     let c = chunks as usize;
     let end = 256 * c;
@@ -130,7 +130,7 @@ pub fn start(
     room: u32,
 )
     requires { ⌜ OpenAsks (setting layout chunks pages room) (mem (now bytes) (now keys) (now order) (now words)) ⌝ }
-    ensures { λ _. let s = setting layout chunks pages room in ⌜ Shows s (fresh s) (mem (now (bytes .exit)) (now (keys .exit)) (now (order .exit)) (now (words .exit))) ⌝ }
+    ensures { λ _. let s = setting layout chunks pages room in ⌜ Shows s (emptyView s) (mem (now (bytes .exit)) (now (keys .exit)) (now (order .exit)) (now (words .exit))) ⌝ }
 {
     let statics = layout.static_memory.0;
     let calldata = layout.calldata.0;
@@ -234,7 +234,7 @@ pub fn open(
     room: u32,
     calldata: &[u8],
 ) -> Answer
-    ensures { λ r. let s = setting layout chunks pages room in let m = mem (now (bytes .entry)) (now (keys .entry)) (now (order .entry)) (now (words .entry)) in ⌜ OpenDoes m s (now (calldata .entry)) (told r) (mem (now (bytes .exit)) (now (keys .exit)) (now (order .exit)) (now (words .exit))) ⌝ }
+    ensures { λ r. let s = setting layout chunks pages room in let m = mem (now (bytes .entry)) (now (keys .entry)) (now (order .entry)) (now (words .entry)) in ⌜ OpenDoes m s (now (calldata .entry)) (answerOutcome nothing r) (mem (now (bytes .exit)) (now (keys .exit)) (now (order .exit)) (now (words .exit))) ⌝ }
 {
     let n = open_refusal(
         bytes,

@@ -25,10 +25,10 @@ mapped f (panicked a) = panicked (f a)
 mapped f (done a) = done (f a)
 
 -- the number of a refusal, 0 where there is none; and back, beside an answer
-abbrev pub numberOf : {A : Type 0} → Outcome A → ℕ
-numberOf (refused n) = n
-numberOf (panicked a) = 0
-numberOf (done a) = 0
+abbrev pub refusalNumber : {A : Type 0} → Outcome A → ℕ
+refusalNumber (refused n) = n
+refusalNumber (panicked a) = 0
+refusalNumber (done a) = 0
 
 abbrev pub answered : {A : Type 0} → ℕ → A → Outcome A
 answered zero a = done a
@@ -40,7 +40,12 @@ abbrev pub firstOf : {A : Type 0} → List (Bool × A) → A → A
 firstOf [] otherwise = otherwise
 firstOf ((holds, value) ∷ rest) otherwise = cond holds value (firstOf rest otherwise)
 
--- 01's number of an answer that gives no value
-abbrev pub told : Answer → Outcome (Unit {0})
-told Done = done tt
-told (Refused n) = refused n
+-- the outcome that an answer reports: 01's number of a refusal, or the value a where the call was carried out
+abbrev pub answerOutcome : {A : Type 0} → A → Answer → Outcome A
+answerOutcome a Done = done a
+answerOutcome a (Refused n) = refused n
+
+-- the status of an answer: 0, or the number of the refusal
+abbrev pub statusOf : Answer → ℕ
+statusOf Done = 0
+statusOf (Refused n) = n

@@ -11,14 +11,14 @@ use Rattle.page_ids.specs.declared.BaseAnswer.{BaseAnswer}
 use Rattle.page_ids.specs.declared.BaseAnswer.the-variants as base
 
 -- 01's number, or the page id, of an answer
-abbrev pub toldPage : PageAnswer → Outcome ℕ
-toldPage (page.Refused n) = refused n
-toldPage (page.Page p) = done (p .0)
+abbrev pub pageOutcome : PageAnswer → Outcome ℕ
+pageOutcome (page.Refused n) = refused n
+pageOutcome (page.Page p) = done (p .0)
 
 -- 01's number, or the base page, of an answer
-abbrev pub toldBase : BaseAnswer → Outcome ℕ
-toldBase (base.Refused n) = refused n
-toldBase (base.Base b) = done (b .0)
+abbrev pub baseOutcome : BaseAnswer → Outcome ℕ
+baseOutcome (base.Refused n) = refused n
+baseOutcome (base.Base b) = done (b .0)
 
 -- the code page of a base page has the base's own number
 abbrev pub codePage : ℕ → ℕ

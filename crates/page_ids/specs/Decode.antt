@@ -1,9 +1,9 @@
 -- The rule of a layout, and what a page id stands for in it.
 -- Assumes nothing.
-use mathlib.Core.Bool.{Bool, _||_}
+use mathlib.Core.Bool.{Bool, true, false, _||_}
 use mathlib.Core.List.{[], _∷_}
 use Prim.Native.Nat.{ℕ, _-_, _/_, _%_}
-use lib.Dec.{eqb, ltb}
+use lib.Dec.{eqb, ltb, leb}
 use Rattle.outcome.specs.Outcome.{Outcome, refused, done, firstOf}
 use Rattle.page_ids.specs.declared.Layout.{Layout}
 use Rattle.page_ids.specs.declared.DynamicPageKind.the-variants.{Code, Heap, Aux}
@@ -40,10 +40,33 @@ pageOf BootloaderHeap = page 5 0
 pageOf BootloaderAuxHeap = page 6 0
 pageOf Undecodable = none
 
+-- the number of a page's kind, 7 where it is undecodable
+abbrev pub kindNumber : Page → ℕ
+kindNumber none = 7
+kindNumber (page kind group) = kind
+
+-- its group, 0 where it has none
+abbrev pub groupNumber : Page → ℕ
+groupNumber none = 0
+groupNumber (page kind group) = group
+
+abbrev pub isNone : Page → Bool
+isNone none = true
+isNone (page kind group) = false
+
+-- kinds 0 to 2 are dynamic, 3 to 6 fixed
+abbrev pub isDynamic : Page → Bool
+isDynamic none = false
+isDynamic (page kind group) = ltb kind 3
+
+abbrev pub isFixed : Page → Bool
+isFixed none = false
+isFixed (page kind group) = leb 3 kind
+
 -- 01's number, or the page, of a decoding
-abbrev pub told : Decoding → Outcome Page
-told (Refused n) = refused n
-told (Decoded p) = done (pageOf p)
+abbrev pub decodingOutcome : Decoding → Outcome Page
+decodingOutcome (Refused n) = refused n
+decodingOutcome (Decoded p) = done (pageOf p)
 
 -- remainder 0 means code, 2 heap, 3 aux, any other is undecodable
 abbrev pub byRemainder : ℕ → ℕ → Page

@@ -1,8 +1,8 @@
 // Page ids, base pages and byte addresses, and what a page id stands for.
 // vm2: page_ids.rs, and `DecodedPage` of heap.rs. Its constants are the six numbers of a `Layout` here.
 ghost use mathlib.Core.Path.{_≡_};
-ghost use Rattle.page_ids.specs.Arithmetic.{toldPage, toldBase, codePage, firstBase, sum, difference};
-ghost use Rattle.page_ids.specs.Decode.{badLayout, pageOf, told, byRemainder, decoded, decoding};
+ghost use Rattle.page_ids.specs.Arithmetic.{pageOutcome, baseOutcome, codePage, firstBase, sum, difference};
+ghost use Rattle.page_ids.specs.Decode.{badLayout, pageOf, kindNumber, groupNumber, isNone, isFixed, decodingOutcome, byRemainder, decoded, decoding};
 
 pub struct PageId(pub u32);
 
@@ -96,6 +96,61 @@ fn by_remainder(remainder: u32, group: u32) -> DecodedPage
     }
 }
 
+// The number of a dynamic page's kind.
+fn dynamic_kind(kind: DynamicPageKind) -> u32
+    ensures { λ r. ⌜ r ≡ kindNumber (pageOf (DecodedPage.Dynamic kind 0)) ⌝ }
+{
+    match kind {
+        DynamicPageKind::Code => 0,
+        DynamicPageKind::Heap => 1,
+        DynamicPageKind::Aux => 2,
+    }
+}
+
+// The number of a page's kind, 7 where it is undecodable.
+pub fn kind_number(page: DecodedPage) -> u32
+    ensures { λ r. ⌜ r ≡ kindNumber (pageOf page) ⌝ }
+{
+    match page {
+        DecodedPage::Dynamic(kind, _) => dynamic_kind(kind),
+        DecodedPage::Static => 3,
+        DecodedPage::BootloaderCalldata => 4,
+        DecodedPage::BootloaderHeap => 5,
+        DecodedPage::BootloaderAuxHeap => 6,
+        DecodedPage::Undecodable => 7,
+    }
+}
+
+// The group of a page, 0 where it has none.
+pub fn group_number(page: DecodedPage) -> u32
+    ensures { λ r. ⌜ r ≡ groupNumber (pageOf page) ⌝ }
+{
+    match page {
+        DecodedPage::Dynamic(_, group) => group,
+        _ => 0,
+    }
+}
+
+pub fn is_undecodable(page: DecodedPage) -> bool
+    ensures { λ r. ⌜ r ≡ isNone (pageOf page) ⌝ }
+{
+    match page {
+        DecodedPage::Undecodable => true,
+        _ => false,
+    }
+}
+
+// vm2: `is_always_allocated`.
+pub fn is_fixed(page: DecodedPage) -> bool
+    ensures { λ r. ⌜ r ≡ isFixed (pageOf page) ⌝ }
+{
+    match page {
+        DecodedPage::Dynamic(_, _) => false,
+        DecodedPage::Undecodable => false,
+        _ => true,
+    }
+}
+
 // What a page id stands for. A layout that opened a memory has been tested; of any other only the stride 0 is excluded here.
 pub fn decode_page(layout: Layout, page: PageId) -> DecodedPage
     ensures { λ r. ⌜ pageOf r ≡ decoded layout (page .0) ⌝ }
@@ -131,7 +186,7 @@ pub fn decode_page(layout: Layout, page: PageId) -> DecodedPage
 
 // The same for a layout that may be bad: refusal 1.
 pub fn decode(layout: Layout, page: PageId) -> Decoding
-    ensures { λ r. ⌜ told r ≡ decoding layout (page .0) ⌝ }
+    ensures { λ r. ⌜ decodingOutcome r ≡ decoding layout (page .0) ⌝ }
 {
     if bad_layout(layout) {
         return Decoding::Refused(1);
@@ -141,7 +196,7 @@ pub fn decode(layout: Layout, page: PageId) -> Decoding
 
 // The page `offset` past a base, or 4 where that leaves 32 bits.
 fn page_from_base(base: u32, offset: u32) -> PageAnswer
-    ensures { λ r. ⌜ toldPage r ≡ sum base offset ⌝ }
+    ensures { λ r. ⌜ pageOutcome r ≡ sum base offset ⌝ }
 {
     if base > 4294967295 - offset {
         return PageAnswer::Refused(4);
@@ -150,13 +205,13 @@ fn page_from_base(base: u32, offset: u32) -> PageAnswer
 }
 
 pub fn heap_page_from_base(base: BasePage) -> PageAnswer
-    ensures { λ r. ⌜ toldPage r ≡ sum (base .0) 2 ⌝ }
+    ensures { λ r. ⌜ pageOutcome r ≡ sum (base .0) 2 ⌝ }
 {
     page_from_base(base.0, 2)
 }
 
 pub fn aux_heap_page_from_base(base: BasePage) -> PageAnswer
-    ensures { λ r. ⌜ toldPage r ≡ sum (base .0) 3 ⌝ }
+    ensures { λ r. ⌜ pageOutcome r ≡ sum (base .0) 3 ⌝ }
 {
     page_from_base(base.0, 3)
 }
@@ -168,7 +223,7 @@ pub fn code_page_from_base(base: BasePage) -> PageId
 }
 
 pub fn base_page_from_heap(heap: PageId) -> BaseAnswer
-    ensures { λ r. ⌜ toldBase r ≡ difference (heap .0) 2 ⌝ }
+    ensures { λ r. ⌜ baseOutcome r ≡ difference (heap .0) 2 ⌝ }
 {
     let raw = heap.0;
     if raw < 2 {
@@ -185,7 +240,7 @@ pub fn first_dynamic_base_page(layout: Layout) -> BasePage
 
 // The next far call's base page.
 pub fn next_page_group(page: BasePage, stride: u32) -> BaseAnswer
-    ensures { λ r. ⌜ toldBase r ≡ sum (page .0) stride ⌝ }
+    ensures { λ r. ⌜ baseOutcome r ≡ sum (page .0) stride ⌝ }
 {
     let raw = page.0;
     if raw > 4294967295 - stride {

@@ -16,16 +16,16 @@ use Rattle.word.proofs.Digits.{digits-long}
 use Rattle.page_ids.specs.declared.Layout.{Layout}
 use Rattle.state.specs.declared.Frame.{Frame}
 use Rattle.state.specs.declared.Area.{Area}
-use Rattle.page_ids.specs.Decode.{Page, none, page, decoded}
-use Rattle.formed.specs.Pages.{fixedId, isFixed, isDynamic, fixed, dynamic}
+use Rattle.page_ids.specs.Decode.{Page, none, page, decoded, isNone, isDynamic, isFixed}
+use Rattle.formed.specs.Pages.{fixedId, fixed, dynamic}
 use Rattle.formed.specs.Parts.{Note}
 use Rattle.view.specs.View.{View, Setting}
-use Rattle.view.specs.Steps.{touchedCount, needs, written, count, pairs, without, shortened, opened, fresh as blank, fromGroup}
-use Rattle.view.specs.Checks.{Check, isNone, undecodable, wordWriteChecks, byteWriteChecks, allocateChecks, freeChecks}
+use Rattle.view.specs.Steps.{touchedCount, needs, written, count, pairs, without, shortened, opened, freshPlain as blank, fromGroup}
+use Rattle.view.specs.Checks.{Check, undecodable, wordWriteChecks, byteWriteChecks, allocateChecks, freeChecks}
 use Rattle.view.specs.Instructions.{Operand, Hook, heapOf, staticOf, hooked, storeChecks, stored, staticStoreChecks, staticStored}
-use Rattle.view.specs.Calls.{Call, Open, Allocate, ReadWord, ReadPartial, ReadRange, ReadByte, DynamicLength, WriteWord, WriteBytes, Lookup, LookupCheck, Free, Window, Truncate, CompareLeft, CompareRight, CompareBoth, Snapshot, Rollback, DeleteHistory, Load, Store, LoadPointer, LoadStatic, StoreStatic, Value, nothing, given, outcomeOf, nextOf}
+use Rattle.view.specs.Calls.{Call, Open, Allocate, ReadWord, ReadPartial, ReadRange, ReadByte, DynamicLength, WriteWord, WriteBytes, Lookup, LookupCheck, Free, Window, Truncate, CompareLeft, CompareRight, CompareBoth, Snapshot, Rollback, DeleteHistory, Load, Store, LoadPointer, LoadStatic, StoreStatic, Value, nothing, instructionResult, outcomeOf, nextOf}
 use Rattle.view.proofs.Counts.{fixed-only}
-use Rattle.plain.specs.Plain.{Plain, has, member, put, putWord, dropping, follow, fresh, seen}
+use Rattle.plain.specs.Plain.{Plain, has, member, put, putWord, dropping, follow, freshPlain, seen}
 use Rattle.plain.proofs.Tests.{Clear, clear}
 use Rattle.plain.proofs.Held.{has-hold, length-hold, missing-le, has-list, length-list, list-fits}
 use Rattle.plain.proofs.Others.{length-others, has-others, allocated-others, pairs-left, listedDynamic, pages-left}
@@ -164,12 +164,12 @@ module _ (s : Setting) (v : View) where
 
   store-passed : (area : Area) (f : Frame) (x : Operand) (n : ℕ) (h : Hook) → carriedOut (outcomeOf s (Store area f x n h) v) ≡ true → Written s v (heapOf f area) (x .word) 32
   store-passed area f x n h e =
-      let c = clear (storeChecks given s v area f (x .word) n h) (given (stored area f x n h)) e in
+      let c = clear (storeChecks instructionResult s v area f (x .word) n h) (instructionResult (stored area f x n h)) e in
       write-clear (heapOf f area) (x .word) ((hooked h (x .word) && ltb 4294967295 n, refused 15) ∷ []) (c .1)
 
   static-passed : (f : Frame) (x : Operand) (n : ℕ) → carriedOut (outcomeOf s (StoreStatic f x n) v) ≡ true → Written s v (staticOf (s .layout)) (x .word) 32
   static-passed f x n e =
-      let c = clear (staticStoreChecks given s v f (x .word)) (given (staticStored f x)) e in
+      let c = clear (staticStoreChecks instructionResult s v f (x .word)) (instructionResult (staticStored f x)) e in
       write-clear (staticOf (s .layout)) (x .word) [] (c .1)
 
 -- a window and a truncation name dynamic pages alone
@@ -262,12 +262,12 @@ seen-empty s =
     }
 
 module _ (s : Setting) (calldata : List ℕ) where
-  pub seen-fresh : seen s (fresh s calldata) ≡ opened s calldata
+  pub seen-fresh : seen s (freshPlain s calldata) ≡ opened s calldata
   seen-fresh =
       seen-put s (fixedId (s .layout) 1) 0 calldata [] empty (fixed-known s (fixedId (s .layout) 1) (fixed-id (s .layout) 1))
       ∙ ap (written (s .layout) (fixedId (s .layout) 1) 0 calldata []) (seen-empty s)
 
-  pub fits-fresh : touchedCount 0 (length calldata) ≤ s .chunks → Fits s (fresh s calldata)
+  pub fits-fresh : touchedCount 0 (length calldata) ≤ s .chunks → Fits s (freshPlain s calldata)
   fits-fresh r =
       let y = fixed-id (s .layout) 1 in
       record {

@@ -75,12 +75,12 @@ put l p a bs notes m = record {
 }
 
 -- the word at an address, as the map has it now
-abbrev pub noteOf : Plain → ℕ → ℕ → Note
-noteOf m p a = record { address = a; old = tab 32 (λ i. m .bytes p (a + i)) }
+abbrev pub oldWord : Plain → ℕ → ℕ → Note
+oldWord m p a = record { address = a; old = tab 32 (λ i. m .bytes p (a + i)) }
 
 -- a word write journals it
 abbrev pub putWord : Layout → ℕ → ℕ → ℕ → Plain → Plain
-putWord l p a n m = put l p a (wordBytes n) (noteOf m p a ∷ []) m
+putWord l p a n m = put l p a (wordBytes n) (oldWord m p a ∷ []) m
 
 -- a chunk that `dropped` names is zero and no longer held, a page that `free` names no longer allocated; the dynamic length becomes n
 abbrev pub dropping : (ℕ → ℕ → Bool) → (ℕ → Bool) → ℕ → Plain → Plain
@@ -97,7 +97,7 @@ follow l (ReadRange p x y n) m = m
 follow l (ReadByte p a) m = m
 follow l DynamicLength m = m
 follow l (WriteWord p a n) m = putWord l p a n m
-follow l (WriteBytes p a bs) m = put l p a bs (tab (alignedCount a (length bs)) (λ i. noteOf m p (32 * (a / 32 + i)))) m
+follow l (WriteBytes p a bs) m = put l p a bs (tab (alignedCount a (length bs)) (λ i. oldWord m p (32 * (a / 32 + i)))) m
 follow l (Lookup p k z) m = m
 follow l (LookupCheck p k z) m = m
 -- free drops its page's chunks, a window those of its dynamic page that it does not overlap, truncation to n those of dynamic pages of groups from n up
@@ -123,8 +123,8 @@ abbrev pub feed : Layout → Call → Outcome Value → Plain → Plain
 feed l c o m = cond (carriedOut o) (follow l c m) m
 
 -- an accepted opening zeroes the bytes and the dynamic length, empties the rest, and puts calldata on its page
-abbrev pub fresh : Setting → List ℕ → Plain
-fresh s calldata = put (s .layout) (s .layout .calldata .0) 0 calldata [] (record { bytes = λ p a. 0; held = []; pages = []; dynamicLength = 0; journal = λ j. [] })
+abbrev pub freshPlain : Setting → List ℕ → Plain
+freshPlain s calldata = put (s .layout) (s .layout .calldata .0) 0 calldata [] (record { bytes = λ p a. 0; held = []; pages = []; dynamicLength = 0; journal = λ j. [] })
 
 -- ---- the view that the plain map stands for
 abbrev pub seen : Setting → Plain → View

@@ -56,7 +56,7 @@ fn paid(bytes: &[u8], keys: &[u64], order: &[u32], words: &[u64]) {
 
 // Addresses at the operand limit, with the lowest bound and with the highest.
 fn limit(bytes: &[u8], keys: &[u64], order: &[u32], words: &[u64]) {
-    let last = [4294967263u32];
+    let last = [word::LAST_ADDRESS];
     line(bytes, keys, order, words, &last, 4294967295, 0);
     line(bytes, keys, order, words, &last, 0, 4294967295);
     let past = [4294967264u32];

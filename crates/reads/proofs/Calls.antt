@@ -15,7 +15,7 @@ use Rattle.view.specs.View.{settingOf, viewOf}
 use Rattle.view.specs.Steps.{run, padded}
 use Rattle.view.specs.Checks.{onMemory, partialChecks, rangeChecks, lookupChecks}
 use Rattle.view.specs.Calls.{Call, Value, ReadWord, ReadPartial, ReadRange, ReadByte, DynamicLength, Lookup, LookupCheck, Snapshot, nothing, number, bytes, shown, outcomeOf, nextOf, answerOf, CallDoes}
-use Rattle.reads.specs.Calls.{marked, RangeDoes}
+use Rattle.reads.specs.Calls.{lengthsValue, RangeDoes}
 
 module _ {A : Type 0} (f : A → Value) (m : Mem) (a : A) where
   valued-plain : mapped f (onMemory m [] a) ≡ firstOf ((not (wellFormed m), refused 3) ∷ []) (done (f a))
@@ -86,5 +86,5 @@ module _ (m : Mem) where
   pub length-call : (t : Outcome ℕ) → t ≡ onMemory m [] (viewOf m .dynamicLength) → CallDoes m DynamicLength (mapped number t) m
   length-call t e = only-reads m DynamicLength (mapped number t) refl (ap (mapped number) e ∙ valued-plain number m (viewOf m .dynamicLength))
 
-  pub marks-call : (t : Outcome (ℕ × ℕ)) → t ≡ onMemory m [] (length (viewOf m .journal 0), length (viewOf m .journal 1)) → CallDoes m Snapshot (mapped marked t) m
-  marks-call t e = only-reads m Snapshot (mapped marked t) refl (ap (mapped marked) e ∙ valued-plain marked m (length (viewOf m .journal 0), length (viewOf m .journal 1)))
+  pub marks-call : (t : Outcome (ℕ × ℕ)) → t ≡ onMemory m [] (length (viewOf m .journal 0), length (viewOf m .journal 1)) → CallDoes m Snapshot (mapped lengthsValue t) m
+  marks-call t e = only-reads m Snapshot (mapped lengthsValue t) refl (ap (mapped lengthsValue) e ∙ valued-plain lengthsValue m (length (viewOf m .journal 0), length (viewOf m .journal 1)))

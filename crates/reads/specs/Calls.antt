@@ -14,30 +14,30 @@ use Rattle.reads.specs.declared.Marks.{Marks}
 
 -- A read gives a number of 01's table beside its value; 0 is none, and says that it was carried out
 -- the number of the word
-abbrev pub told : WordRead → Outcome ℕ
-told r = answered (r .refusal) (value (r .word .limbs))
+abbrev pub wordOutcome : WordRead → Outcome ℕ
+wordOutcome r = answered (r .refusal) (value (r .word .limbs))
 
-abbrev pub toldByte : ByteRead → Outcome ℕ
-toldByte r = answered (r .refusal) (r .byte)
+abbrev pub byteOutcome : ByteRead → Outcome ℕ
+byteOutcome r = answered (r .refusal) (r .byte)
 
-abbrev pub toldLength : LengthRead → Outcome ℕ
-toldLength r = answered (r .refusal) (r .length)
+abbrev pub lengthOutcome : LengthRead → Outcome ℕ
+lengthOutcome r = answered (r .refusal) (r .length)
 
 -- the lengths of the two journals
-abbrev pub toldMarks : Marks → Outcome (ℕ × ℕ)
-toldMarks r = answered (r .refusal) (r .heap, r .aux)
+abbrev pub snapshotOutcome : Marks → Outcome (ℕ × ℕ)
+snapshotOutcome r = answered (r .refusal) (r .heap, r .aux)
 
 -- a read that tells its outcome and gives a value, which is `none` where it is refused
-pub record ReadDoes {A : Type 0} (outcome told : Outcome A) (value none : A) : Type 0 where
-  pub answer : told ≡ outcome
+pub record ReadDoes {A : Type 0} (outcome wordOutcome : Outcome A) (value none : A) : Type 0 where
+  pub answer : wordOutcome ≡ outcome
   pub zero : carriedOut outcome ≡ false → value ≡ none
 
 -- a read into an output: it is d after the call, and was o; `bytes` are those of the range
-pub record RangeDoes {A : Type 0} (outcome told : Outcome A) (bytes o d : List ℕ) : Type 0 where
-  pub answer : told ≡ outcome
+pub record RangeDoes {A : Type 0} (outcome wordOutcome : Outcome A) (bytes o d : List ℕ) : Type 0 where
+  pub answer : wordOutcome ≡ outcome
   pub kept : carriedOut outcome ≡ false → d ≡ o
   pub read : carriedOut outcome ≡ true → d ≡ bytes
 
 -- the same, among the values of all calls
-abbrev pub marked : ℕ × ℕ → Value
-marked x = lengths (x .0) (x .1)
+abbrev pub lengthsValue : ℕ × ℕ → Value
+lengthsValue x = lengths (x .0) (x .1)

@@ -11,8 +11,7 @@ ghost use mathlib.Core.List.{[]};
 ghost use Prim.Native.Nat.{_-_};
 ghost use lib.Dec.{eqb};
 ghost use lib.ListN.{length};
-ghost use Rattle.outcome.specs.Outcome.{answered};
-ghost use Rattle.outcome.specs.Outcome as outcomes;
+ghost use Rattle.outcome.specs.Outcome.{answered, answerOutcome};
 ghost use Rattle.word.specs.Value.{value, bigEndian};
 ghost use Rattle.store.specs.Mem.{mem};
 ghost use Rattle.formed.specs.Formed.{zeros, wellFormed};
@@ -20,7 +19,7 @@ ghost use Rattle.view.specs.View.{viewOf};
 ghost use Rattle.view.specs.Steps.{run, padded};
 ghost use Rattle.view.specs.Checks.{onMemory, partialChecks, rangeChecks, lookupChecks};
 ghost use Rattle.view.specs.Calls.{shown};
-ghost use Rattle.reads.specs.Calls.{told, toldByte, toldLength, toldMarks, ReadDoes, RangeDoes};
+ghost use Rattle.reads.specs.Calls.{wordOutcome, byteOutcome, lengthOutcome, snapshotOutcome, ReadDoes, RangeDoes};
 
 pub mod steps;
 
@@ -69,7 +68,7 @@ fn is_zero_block(block: &[u8]) -> bool
 
 // A refused read of a word.
 fn no_word(refusal: u32) -> WordRead
-    ensures { λ r. ⌜ (told r ≡ answered refusal 0) × (value (r .word .limbs) ≡ 0) ⌝ }
+    ensures { λ r. ⌜ (wordOutcome r ≡ answered refusal 0) × (value (r .word .limbs) ≡ 0) ⌝ }
 {
     let limbs = [0u64; 4];
     WordRead {
@@ -88,7 +87,7 @@ pub fn read_u256(
     page: PageId,
     address: Address,
 ) -> WordRead
-    ensures { λ r. let m = mem (now (bytes .entry)) (now (keys .entry)) (now (order .entry)) (now (words .entry)) in ⌜ ReadDoes (onMemory m [] (bigEndian (run (viewOf m) (page .0) (address .0) 32))) (told r) (value (r .word .limbs)) 0 ⌝ }
+    ensures { λ r. let m = mem (now (bytes .entry)) (now (keys .entry)) (now (order .entry)) (now (words .entry)) in ⌜ ReadDoes (onMemory m [] (bigEndian (run (viewOf m) (page .0) (address .0) 32))) (wordOutcome r) (value (r .word .limbs)) 0 ⌝ }
 {
     if !formed::well_formed(bytes, keys, order, words) {
         return no_word(3);
@@ -110,7 +109,7 @@ pub fn read_u256_partially(
     start: Address,
     end: Address,
 ) -> WordRead
-    ensures { λ r. let m = mem (now (bytes .entry)) (now (keys .entry)) (now (order .entry)) (now (words .entry)) in ⌜ ReadDoes (onMemory m (partialChecks (start .0) (end .0)) (bigEndian (padded (run (viewOf m) (page .0) (start .0) (end .0 - start .0))))) (told r) (value (r .word .limbs)) 0 ⌝ }
+    ensures { λ r. let m = mem (now (bytes .entry)) (now (keys .entry)) (now (order .entry)) (now (words .entry)) in ⌜ ReadDoes (onMemory m (partialChecks (start .0) (end .0)) (bigEndian (padded (run (viewOf m) (page .0) (start .0) (end .0 - start .0))))) (wordOutcome r) (value (r .word .limbs)) 0 ⌝ }
 {
     if !formed::well_formed(bytes, keys, order, words) {
         return no_word(3);
@@ -137,7 +136,7 @@ pub fn read_range_big_endian(
     end: Address,
     output: &mut [u8],
 ) -> Answer
-    ensures { λ r. let m = mem (now (bytes .entry)) (now (keys .entry)) (now (order .entry)) (now (words .entry)) in ⌜ RangeDoes (onMemory m (rangeChecks (start .0) (end .0) (length (now (output .entry)))) tt) (outcomes.told r) (run (viewOf m) (page .0) (start .0) (end .0 - start .0)) (now (output .entry)) (now (output .exit)) ⌝ }
+    ensures { λ r. let m = mem (now (bytes .entry)) (now (keys .entry)) (now (order .entry)) (now (words .entry)) in ⌜ RangeDoes (onMemory m (rangeChecks (start .0) (end .0) (length (now (output .entry)))) tt) (answerOutcome tt r) (run (viewOf m) (page .0) (start .0) (end .0 - start .0)) (now (output .entry)) (now (output .exit)) ⌝ }
 {
     if !formed::well_formed(bytes, keys, order, words) {
         return Answer::Refused(3);
@@ -158,7 +157,7 @@ pub fn read_byte(
     page: PageId,
     address: Address,
 ) -> ByteRead
-    ensures { λ r. let m = mem (now (bytes .entry)) (now (keys .entry)) (now (order .entry)) (now (words .entry)) in ⌜ ReadDoes (onMemory m [] (viewOf m .bytes (page .0) (address .0))) (toldByte r) (r .byte) 0 ⌝ }
+    ensures { λ r. let m = mem (now (bytes .entry)) (now (keys .entry)) (now (order .entry)) (now (words .entry)) in ⌜ ReadDoes (onMemory m [] (viewOf m .bytes (page .0) (address .0))) (byteOutcome r) (r .byte) 0 ⌝ }
 {
     if !formed::well_formed(bytes, keys, order, words) {
         return ByteRead {
@@ -174,7 +173,7 @@ pub fn read_byte(
 
 // 01's dynamic length: above every group of an allocated page; a truncation alone lowers it.
 pub fn dynamic_len(bytes: &[u8], keys: &[u64], order: &[u32], words: &[u64]) -> LengthRead
-    ensures { λ r. let m = mem (now (bytes .entry)) (now (keys .entry)) (now (order .entry)) (now (words .entry)) in ⌜ ReadDoes (onMemory m [] (viewOf m .dynamicLength)) (toldLength r) (r .length) 0 ⌝ }
+    ensures { λ r. let m = mem (now (bytes .entry)) (now (keys .entry)) (now (order .entry)) (now (words .entry)) in ⌜ ReadDoes (onMemory m [] (viewOf m .dynamicLength)) (lengthOutcome r) (r .length) 0 ⌝ }
 {
     if !formed::well_formed(bytes, keys, order, words) {
         return LengthRead {
@@ -189,7 +188,7 @@ pub fn dynamic_len(bytes: &[u8], keys: &[u64], order: &[u32], words: &[u64]) -> 
 }
 
 pub fn snapshot(bytes: &[u8], keys: &[u64], order: &[u32], words: &[u64]) -> Marks
-    ensures { λ r. let m = mem (now (bytes .entry)) (now (keys .entry)) (now (order .entry)) (now (words .entry)) in ⌜ ReadDoes (onMemory m [] (length (viewOf m .journal 0), length (viewOf m .journal 1))) (toldMarks r) (r .heap, r .aux) (0, 0) ⌝ }
+    ensures { λ r. let m = mem (now (bytes .entry)) (now (keys .entry)) (now (order .entry)) (now (words .entry)) in ⌜ ReadDoes (onMemory m [] (length (viewOf m .journal 0), length (viewOf m .journal 1))) (snapshotOutcome r) (r .heap, r .aux) (0, 0) ⌝ }
 {
     if !formed::well_formed(bytes, keys, order, words) {
         return Marks {
@@ -235,7 +234,7 @@ pub fn chunk_check(
     number: u32,
     block: &[u8],
 ) -> Answer
-    ensures { λ r. let m = mem (now (bytes .entry)) (now (keys .entry)) (now (order .entry)) (now (words .entry)) in ⌜ outcomes.told r ≡ onMemory m (lookupChecks (now (block .entry))) tt ⌝ }
+    ensures { λ r. let m = mem (now (bytes .entry)) (now (keys .entry)) (now (order .entry)) (now (words .entry)) in ⌜ answerOutcome tt r ≡ onMemory m (lookupChecks (now (block .entry))) tt ⌝ }
 {
     if !formed::well_formed(bytes, keys, order, words) {
         return Answer::Refused(3);

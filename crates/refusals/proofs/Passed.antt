@@ -9,20 +9,20 @@ use native.Mathlib.Omega.{arith}
 use lib.Dec.{ltb, eqb}
 use lib.ListN.{length}
 use borrow.Author.Tests.{lt-ltb, lt-leb, le-leb, ltb-false, eq-eqb}
-use Rattle.outcome.specs.Outcome.{refused, done, carriedOut, firstOf, numberOf}
+use Rattle.outcome.specs.Outcome.{refused, done, carriedOut, firstOf, refusalNumber}
 use Rattle.index.proofs.Logic.{lt-or-ge}
-use Rattle.page_ids.specs.Decode.{Page, none, page, decoded}
+use Rattle.page_ids.specs.Decode.{Page, none, page, decoded, isNone, isDynamic, isFixed}
 use Rattle.store.specs.Mem.{Mem}
-use Rattle.formed.specs.Pages.{isFixed, isDynamic, fixed, dynamic, journalCount, journalPage}
+use Rattle.formed.specs.Pages.{fixed, dynamic, journalCount, journalPage}
 use Rattle.formed.specs.Formed.{wellFormed}
 use Rattle.formed.specs.WellFormed.{WellFormed}
 use Rattle.formed.proofs.Meaning.{well-formed-means}
 use Rattle.view.specs.View.{View, Setting}
 use Rattle.view.specs.Steps.{needs, alignedCount}
-use Rattle.view.specs.Checks.{Check, isNone, undecodable, overfull, room, onMemory, wordWriteChecks, byteWriteChecks, allocateChecks}
+use Rattle.view.specs.Checks.{Check, undecodable, overfull, capacityChecksAt, onMemory, wordWriteChecks, byteWriteChecks, allocateChecks}
 use Rattle.view.specs.Does.{Does, Shows}
 use Rattle.view.specs.Calls.{Value, nothing}
-use Rattle.room.specs.Refusals.{number}
+use Rattle.room.specs.Refusals.{firstRefusal}
 use Rattle.room.proofs.Numbers.{none-first, told-number}
 
 -- ---- a list of refusals
@@ -30,7 +30,7 @@ pub data Refusals : List (Check Value) → Type 0 where
   end : Refusals []
   next : {b : Bool} {n : ℕ} {rest : List (Check Value)} → Refusals rest → Refusals ((b, refused (suc n)) ∷ rest)
 
-pub none-done : {checks : List (Check Value)} → Refusals checks → number checks ≡ 0 → firstOf checks (done nothing) ≡ done nothing
+pub none-done : {checks : List (Check Value)} → Refusals checks → firstRefusal checks ≡ 0 → firstOf checks (done nothing) ≡ done nothing
 none-done end e = refl
 none-done (next {b} {n} {rest} r) e = let h = none-first b n rest e in rw (h .0) (none-done r (h .1))
 
@@ -57,8 +57,8 @@ or-rest : (a b : Bool) → (a || b) ≡ false → b ≡ false
 or-rest true b e = absurd (false≢true (sym e))
 or-rest false b e = e
 
-less-by : (own : Bool) (room n : ℕ) → (own && ltb room n) ≡ false → own ≡ true → n ≤ room
-less-by own room n e t = ltb-false room n (sym (ap (λ (b : Bool). b && ltb room n) t) ∙ e)
+less-by : (own : Bool) (capacityChecksAt n : ℕ) → (own && ltb capacityChecksAt n) ≡ false → own ≡ true → n ≤ capacityChecksAt
+less-by own capacityChecksAt n e t = ltb-false capacityChecksAt n (sym (ap (λ (b : Bool). b && ltb capacityChecksAt n) t) ∙ e)
 
 words-by : (s : Setting) (v : View) (p w : ℕ) → overfull s v p w journalCount ≡ false → (j : ℕ) → j < journalCount → p ≡ journalPage (s .layout) j → length (v .journal j) + w ≤ s .room
 unfolding overfull
@@ -75,10 +75,10 @@ pub record Room (s : Setting) (v : View) (p a n w : ℕ) : Type 0 where
   pub words : (j : ℕ) → j < journalCount → p ≡ journalPage (s .layout) j → length (v .journal j) + w ≤ s .room
 
 module _ (s : Setting) (v : View) (p a n w : ℕ) where
-  pub room-refusals : Refusals (room s v p a n w)
+  pub room-refusals : Refusals (capacityChecksAt s v p a n w)
   room-refusals = next (next (next end))
 
-  pub room-passed : number (room s v p a n w) ≡ 0 → Room s v p a n w
+  pub room-passed : firstRefusal (capacityChecksAt s v p a n w) ≡ 0 → Room s v p a n w
   room-passed e =
       let a₉ = none-first (not (v .allocated p) && eqb (v .entries) 0) 8 ((ltb (v .pool) (needs v p a n), refused 10) ∷ (overfull s v p w journalCount, refused 11) ∷ []) e in
       let a₁₀ = none-first (ltb (v .pool) (needs v p a n)) 9 ((overfull s v p w journalCount, refused 11) ∷ []) (a₉ .1) in
@@ -87,30 +87,30 @@ module _ (s : Setting) (v : View) (p a n w : ℕ) where
 
 -- a word write, a byte write, an allocation
 module _ (s : Setting) (v : View) (p a : ℕ) where
-  pub word-passed : number (wordWriteChecks s v p a) ≡ 0 → (undecodable s p ≡ false) × Room s v p a 32 1
-  word-passed e = let h = none-first (undecodable s p) 3 (room s v p a 32 1) e in (h .0, room-passed s v p a 32 1 (h .1))
+  pub word-passed : firstRefusal (wordWriteChecks s v p a) ≡ 0 → (undecodable s p ≡ false) × Room s v p a 32 1
+  word-passed e = let h = none-first (undecodable s p) 3 (capacityChecksAt s v p a 32 1) e in (h .0, room-passed s v p a 32 1 (h .1))
 
-  pub bytes-passed : (n : ℕ) → number (byteWriteChecks s v p a n) ≡ 0 → (undecodable s p ≡ false) × (a + n ≤ 2 ^ 32) × Room s v p a n (alignedCount a n)
+  pub bytes-passed : (n : ℕ) → firstRefusal (byteWriteChecks s v p a n) ≡ 0 → (undecodable s p ≡ false) × (a + n ≤ 2 ^ 32) × Room s v p a n (alignedCount a n)
   bytes-passed n e =
-      let h = none-first (undecodable s p) 3 ((ltb (2 ^ 32) (a + n), refused 8) ∷ room s v p a n (alignedCount a n)) e in
-      let k = none-first (ltb (2 ^ 32) (a + n)) 7 (room s v p a n (alignedCount a n)) (h .1) in
+      let h = none-first (undecodable s p) 3 ((ltb (2 ^ 32) (a + n), refused 8) ∷ capacityChecksAt s v p a n (alignedCount a n)) e in
+      let k = none-first (ltb (2 ^ 32) (a + n)) 7 (capacityChecksAt s v p a n (alignedCount a n)) (h .1) in
       (h .0, ltb-false (2 ^ 32) (a + n) (k .0), room-passed s v p a n (alignedCount a n) (k .1))
 
-  pub allocate-passed : (n : ℕ) → number (allocateChecks s v p n) ≡ 0 → (undecodable s p ≡ false) × (fixed (s .layout) p ≡ false) × (v .allocated p ≡ false) × Room s v p 0 n 0
+  pub allocate-passed : (n : ℕ) → firstRefusal (allocateChecks s v p n) ≡ 0 → (undecodable s p ≡ false) × (fixed (s .layout) p ≡ false) × (v .allocated p ≡ false) × Room s v p 0 n 0
   allocate-passed n e =
-      let h = none-first (undecodable s p) 3 ((fixed (s .layout) p, refused 5) ∷ (v .allocated p, refused 6) ∷ room s v p 0 n 0) e in
-      let k = none-first (fixed (s .layout) p) 4 ((v .allocated p, refused 6) ∷ room s v p 0 n 0) (h .1) in
-      let l = none-first (v .allocated p) 5 (room s v p 0 n 0) (k .1) in
+      let h = none-first (undecodable s p) 3 ((fixed (s .layout) p, refused 5) ∷ (v .allocated p, refused 6) ∷ capacityChecksAt s v p 0 n 0) e in
+      let k = none-first (fixed (s .layout) p) 4 ((v .allocated p, refused 6) ∷ capacityChecksAt s v p 0 n 0) (h .1) in
+      let l = none-first (v .allocated p) 5 (capacityChecksAt s v p 0 n 0) (k .1) in
       (h .0, k .0, l .0, room-passed s v p 0 n 0 (l .1))
 
 -- ---- the contract of a call, refused or done
 module _ (m : Mem) (checks : List (Check Value)) (s : Setting) (v : View) where
-  pub refused-does : (n : ℕ) → n ≡ numberOf (onMemory m checks nothing) → (n ≡ 0 → ⊥) → Does m (onMemory m checks nothing) s v (refused n) m
+  pub refused-does : (n : ℕ) → n ≡ refusalNumber (onMemory m checks nothing) → (n ≡ 0 → ⊥) → Does m (onMemory m checks nothing) s v (refused n) m
   refused-does n e z =
       let t = told-number (onMemory m checks nothing) n e z in
       record { answer = t; kept = λ _. refl; changed = λ c. absurd (false≢true (ap carriedOut t ∙ c)) }
 
-  pub passed-formed : numberOf (onMemory m checks nothing) ≡ 0 → WellFormed m × (number checks ≡ 0)
+  pub passed-formed : refusalNumber (onMemory m checks nothing) ≡ 0 → WellFormed m × (firstRefusal checks ≡ 0)
   passed-formed e =
       let h = none-first (not (wellFormed m)) 2 checks e in
       (well-formed-means m (flip (wellFormed m) (h .0)), h .1)
@@ -119,7 +119,7 @@ module _ (m : Mem) (checks : List (Check Value)) (s : Setting) (v : View) where
       flip true q = refl
       flip false q = absurd (false≢true (sym q))
 
-  pub done-does : Refusals checks → numberOf (onMemory m checks nothing) ≡ 0 → {m' : Mem} → Shows s v m' → Does m (onMemory m checks nothing) s v (done nothing) m'
+  pub done-does : Refusals checks → refusalNumber (onMemory m checks nothing) ≡ 0 → {m' : Mem} → Shows s v m' → Does m (onMemory m checks nothing) s v (done nothing) m'
   done-does r e shows =
       let t = none-done (next {b = not (wellFormed m)} {n = 2} {rest = checks} r) e in
       record { answer = sym t; kept = λ c. absurd (false≢true (sym c ∙ ap carriedOut t)); changed = λ _. shows }

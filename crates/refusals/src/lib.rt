@@ -1,13 +1,13 @@
 // Which refusal a write or an allocation gets, or 0: the tests in the order of 01's table.
 ghost use mathlib.Core.Path.{_≡_};
-ghost use Rattle.outcome.specs.Outcome.{numberOf};
+ghost use Rattle.outcome.specs.Outcome.{refusalNumber};
 ghost use Rattle.page_ids.specs.Decode.{pageOf, decoded};
 ghost use Rattle.store.specs.Mem.{mem, layoutOf};
 ghost use Rattle.formed.specs.WellFormed.{WellFormed};
 ghost use Rattle.view.specs.View.{settingOf, viewOf};
 ghost use Rattle.view.specs.Checks.{onMemory, wordWriteChecks, byteWriteChecks, allocateChecks};
 ghost use Rattle.view.specs.Calls.{nothing};
-ghost use Rattle.room.specs.Refusals.{number};
+ghost use Rattle.room.specs.Refusals.{firstRefusal};
 use page_ids::DecodedPage;
 use page_ids::PageId;
 
@@ -29,7 +29,7 @@ pub fn word_room(
     address: u32,
 ) -> u32
     requires { ⌜ WellFormed (mem (now bytes) (now keys) (now order) (now words)) ⌝ }
-    ensures { λ r. ⌜ r ≡ number (wordWriteChecks (settingOf (mem (now (bytes .entry)) (now (keys .entry)) (now (order .entry)) (now (words .entry)))) (viewOf (mem (now (bytes .entry)) (now (keys .entry)) (now (order .entry)) (now (words .entry)))) page address) ⌝ }
+    ensures { λ r. ⌜ r ≡ firstRefusal (wordWriteChecks (settingOf (mem (now (bytes .entry)) (now (keys .entry)) (now (order .entry)) (now (words .entry)))) (viewOf (mem (now (bytes .entry)) (now (keys .entry)) (now (order .entry)) (now (words .entry)))) page address) ⌝ }
 {
     if room::is_undecodable(decode(bytes, keys, order, words, page)) {
         return 4;
@@ -55,7 +55,7 @@ pub fn word_refusal(
     page: u32,
     address: u32,
 ) -> u32
-    ensures { λ r. ⌜ r ≡ numberOf (onMemory (mem (now (bytes .entry)) (now (keys .entry)) (now (order .entry)) (now (words .entry))) (wordWriteChecks (settingOf (mem (now (bytes .entry)) (now (keys .entry)) (now (order .entry)) (now (words .entry)))) (viewOf (mem (now (bytes .entry)) (now (keys .entry)) (now (order .entry)) (now (words .entry)))) page address) nothing) ⌝ }
+    ensures { λ r. ⌜ r ≡ refusalNumber (onMemory (mem (now (bytes .entry)) (now (keys .entry)) (now (order .entry)) (now (words .entry))) (wordWriteChecks (settingOf (mem (now (bytes .entry)) (now (keys .entry)) (now (order .entry)) (now (words .entry)))) (viewOf (mem (now (bytes .entry)) (now (keys .entry)) (now (order .entry)) (now (words .entry)))) page address) nothing) ⌝ }
 {
     if !formed::well_formed(bytes, keys, order, words) {
         return 3;
@@ -74,7 +74,7 @@ fn bytes_room(
     n: usize,
 ) -> u32
     requires { ⌜ WellFormed (mem (now bytes) (now keys) (now order) (now words)) ⌝ }
-    ensures { λ r. ⌜ r ≡ number (byteWriteChecks (settingOf (mem (now (bytes .entry)) (now (keys .entry)) (now (order .entry)) (now (words .entry)))) (viewOf (mem (now (bytes .entry)) (now (keys .entry)) (now (order .entry)) (now (words .entry)))) page start n) ⌝ }
+    ensures { λ r. ⌜ r ≡ firstRefusal (byteWriteChecks (settingOf (mem (now (bytes .entry)) (now (keys .entry)) (now (order .entry)) (now (words .entry)))) (viewOf (mem (now (bytes .entry)) (now (keys .entry)) (now (order .entry)) (now (words .entry)))) page start n) ⌝ }
 {
     if room::is_undecodable(decode(bytes, keys, order, words, page)) {
         return 4;
@@ -105,7 +105,7 @@ pub fn bytes_refusal(
     start: u32,
     n: usize,
 ) -> u32
-    ensures { λ r. ⌜ r ≡ numberOf (onMemory (mem (now (bytes .entry)) (now (keys .entry)) (now (order .entry)) (now (words .entry))) (byteWriteChecks (settingOf (mem (now (bytes .entry)) (now (keys .entry)) (now (order .entry)) (now (words .entry)))) (viewOf (mem (now (bytes .entry)) (now (keys .entry)) (now (order .entry)) (now (words .entry)))) page start n) nothing) ⌝ }
+    ensures { λ r. ⌜ r ≡ refusalNumber (onMemory (mem (now (bytes .entry)) (now (keys .entry)) (now (order .entry)) (now (words .entry))) (byteWriteChecks (settingOf (mem (now (bytes .entry)) (now (keys .entry)) (now (order .entry)) (now (words .entry)))) (viewOf (mem (now (bytes .entry)) (now (keys .entry)) (now (order .entry)) (now (words .entry)))) page start n) nothing) ⌝ }
 {
     if !formed::well_formed(bytes, keys, order, words) {
         return 3;
@@ -123,7 +123,7 @@ fn allocate_room(
     n: usize,
 ) -> u32
     requires { ⌜ WellFormed (mem (now bytes) (now keys) (now order) (now words)) ⌝ }
-    ensures { λ r. ⌜ r ≡ number (allocateChecks (settingOf (mem (now (bytes .entry)) (now (keys .entry)) (now (order .entry)) (now (words .entry)))) (viewOf (mem (now (bytes .entry)) (now (keys .entry)) (now (order .entry)) (now (words .entry)))) page n) ⌝ }
+    ensures { λ r. ⌜ r ≡ firstRefusal (allocateChecks (settingOf (mem (now (bytes .entry)) (now (keys .entry)) (now (order .entry)) (now (words .entry)))) (viewOf (mem (now (bytes .entry)) (now (keys .entry)) (now (order .entry)) (now (words .entry)))) page n) ⌝ }
 {
     let decoded = decode(bytes, keys, order, words, page);
     if room::is_undecodable(decoded) {
@@ -147,7 +147,7 @@ pub fn allocate_refusal(
     page: u32,
     n: usize,
 ) -> u32
-    ensures { λ r. ⌜ r ≡ numberOf (onMemory (mem (now (bytes .entry)) (now (keys .entry)) (now (order .entry)) (now (words .entry))) (allocateChecks (settingOf (mem (now (bytes .entry)) (now (keys .entry)) (now (order .entry)) (now (words .entry)))) (viewOf (mem (now (bytes .entry)) (now (keys .entry)) (now (order .entry)) (now (words .entry)))) page n) nothing) ⌝ }
+    ensures { λ r. ⌜ r ≡ refusalNumber (onMemory (mem (now (bytes .entry)) (now (keys .entry)) (now (order .entry)) (now (words .entry))) (allocateChecks (settingOf (mem (now (bytes .entry)) (now (keys .entry)) (now (order .entry)) (now (words .entry)))) (viewOf (mem (now (bytes .entry)) (now (keys .entry)) (now (order .entry)) (now (words .entry)))) page n) nothing) ⌝ }
 {
     if !formed::well_formed(bytes, keys, order, words) {
         return 3;

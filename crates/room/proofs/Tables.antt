@@ -12,13 +12,11 @@ use lib.ListN.{take}
 use borrow.Author.Tests.{eq-eqb, ne-eqb, lt-ltb, le-ltb, lt-leb, le-leb}
 use Rattle.index.specs.Index.{seek}
 use Rattle.index.proofs.Logic.{lt-or-ge}
-use Rattle.page_ids.specs.Decode.{pageOf}
+use Rattle.page_ids.specs.Decode.{pageOf, isNone, isFixed}
 use Rattle.page_ids.specs.declared.DynamicPageKind.{DynamicPageKind}
 use Rattle.page_ids.specs.declared.DynamicPageKind.the-variants.{Code, Heap, Aux}
 use Rattle.page_ids.specs.declared.DecodedPage.the-variants.{Dynamic}
 use Rattle.store.specs.Mem.{Mem, slotCount, pageCount, inUse}
-use Rattle.formed.specs.Pages.{isFixed}
-use Rattle.view.specs.Checks.{isNone}
 use Rattle.formed.specs.Parts.{keyOf, entryOf, allocated, entriesLeft, holds, slotOfChunk}
 use Rattle.formed.specs.WellFormed.{WellFormed}
 use Rattle.formed.proofs.Sizes.{entries-long}

@@ -7,14 +7,14 @@ use lib.Dec.{ltb, leb}
 use lib.ListN.{take}
 use Rattle.index.specs.Index.{seek}
 use Rattle.store.specs.Mem.{slotCount}
-use Rattle.outcome.specs.Outcome.{done, firstOf, numberOf}
+use Rattle.outcome.specs.Outcome.{done, firstOf, refusalNumber}
 use Rattle.formed.specs.Parts.{keyOf}
 use Rattle.view.specs.Checks.{Check}
 use Rattle.view.specs.Calls.{Value, nothing}
 
--- the number of the first refusal of a list, 0 where there is none
-abbrev pub number : List (Check Value) → ℕ
-number checks = numberOf (firstOf checks (done nothing))
+-- the firstRefusal of the first refusal of a list, 0 where there is none
+abbrev pub firstRefusal : List (Check Value) → ℕ
+firstRefusal checks = refusalNumber (firstOf checks (done nothing))
 
 -- the page at entry e does not hold chunk k
 abbrev pub lacksAt : List ℕ → List ℕ → ℕ → ℕ → Bool

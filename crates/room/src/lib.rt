@@ -3,15 +3,15 @@ ghost use mathlib.Core.Path.{_≡_};
 ghost use mathlib.Core.Bool.{not, _&&_};
 ghost use Prim.Native.Nat.{_+_, _<_, _≤_, _^_};
 ghost use lib.Dec.{eqb, ltb};
-ghost use Rattle.page_ids.specs.Decode.{pageOf};
+ghost use Rattle.page_ids.specs.Decode.{pageOf, isNone, isFixed};
 ghost use Rattle.store.specs.Mem.{mem};
 ghost use Rattle.store.specs.Hold.{Indexed};
-ghost use Rattle.formed.specs.Pages.{journalCount, isFixed};
+ghost use Rattle.formed.specs.Pages.{journalCount};
 ghost use Rattle.formed.specs.WellFormed.{WellFormed};
 ghost use Rattle.view.specs.View.{settingOf, viewOf};
 ghost use Rattle.view.specs.Steps.{missing, touchedCount, alignedCount};
-ghost use Rattle.view.specs.Checks.{isNone, overfull, roomFor};
-ghost use Rattle.room.specs.Refusals.{number, lacksAt};
+ghost use Rattle.view.specs.Checks.{overfull, capacityChecks};
+ghost use Rattle.room.specs.Refusals.{firstRefusal, lacksAt};
 use page_ids::DecodedPage;
 use store::head;
 
@@ -159,7 +159,7 @@ pub fn room_refusal(
     w: u64,
 ) -> u32
     requires { ⌜ (WellFormed (mem (now bytes) (now keys) (now order) (now words))) × (first + count < 2 ^ 64) × (w ≤ 2 ^ 60) ⌝ }
-    ensures { λ r. ⌜ r ≡ number (roomFor (settingOf (mem (now (bytes .entry)) (now (keys .entry)) (now (order .entry)) (now (words .entry)))) (viewOf (mem (now (bytes .entry)) (now (keys .entry)) (now (order .entry)) (now (words .entry)))) page first count w) ⌝ }
+    ensures { λ r. ⌜ r ≡ firstRefusal (capacityChecks (settingOf (mem (now (bytes .entry)) (now (keys .entry)) (now (order .entry)) (now (words .entry)))) (viewOf (mem (now (bytes .entry)) (now (keys .entry)) (now (order .entry)) (now (words .entry)))) page first count w) ⌝ }
 {
     if no_entry(bytes, keys, order, words, page) {
         return 9;

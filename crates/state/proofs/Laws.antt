@@ -10,7 +10,8 @@ use lib.Dec.{leb, ltb}
 use lib.ListN.{length, getD, drop}
 use lib.Seq.{drop-cons, drop-length}
 use borrow.Author.Tests.{ltb-false, leb-true, leb-false}
-use Rattle.state.specs.Access.{lastAddress, newBound, due, used, accessed, frameAccessed}
+use Rattle.word.specs.Value.{lastAddress}
+use Rattle.state.specs.Access.{newBound, due, used, accessed, frameAccessed}
 use Rattle.state.specs.Quote.{endOf, walked}
 use Rattle.state.specs.declared.Frame.{Frame}
 use Rattle.state.specs.declared.Area.{Area}

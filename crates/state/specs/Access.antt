@@ -4,6 +4,7 @@ use mathlib.Core.Bool.{Bool, true, false, cond}
 use mathlib.Core.List.{[], _∷_}
 use Prim.Native.Nat.{ℕ, _+_, _-_, _%_, _^_}
 use lib.Dec.{leb, ltb}
+use Rattle.word.specs.Value.{lastAddress}
 use Rattle.outcome.specs.Outcome.{firstOf}
 use Rattle.state.specs.declared.Frame.{Frame}
 use Rattle.state.specs.declared.Gas.{Gas}
@@ -11,11 +12,6 @@ use Rattle.state.specs.declared.Growth.{Growth}
 use Rattle.state.specs.declared.Step.{Step}
 use Rattle.state.specs.declared.Area.{Area}
 use Rattle.state.specs.declared.Area.the-variants.{Heap, Aux}
-
--- the last address to which 32 can be added within 32 bits: the operand limit
--- (word/specs/Value.antt has it for words; neither crate depends on the other)
-abbrev pub lastAddress : ℕ
-lastAddress = 4294967263
 
 -- the new bound is the address plus 32, taken as a wrapping sum
 abbrev pub newBound : ℕ → ℕ

@@ -24,9 +24,9 @@ walked given (x ∷ list) gas bound position =
     cond (g .paid) (walked given list (g .gas) (g .bound) (suc position)) (endOf given (g .gas) (g .bound) position)
 
 -- 01's number of an answer, or where the run ends
-abbrev pub told : Quoted → Outcome RunEnd
-told (Refused n) = refused n
-told (Ended end) = done end
+abbrev pub quoteOutcome : Quoted → Outcome RunEnd
+quoteOutcome (Refused n) = refused n
+quoteOutcome (Ended end) = done end
 
 -- a list over 4,096 is refused with 8
 abbrev pub quoted : List ℕ → (gas bound : ℕ) → Outcome RunEnd

@@ -7,9 +7,6 @@ use page_ids::PageId;
 
 pub mod quote;
 
-// The last address to which 32 can be added without overflow.
-const LAST_ADDRESS: u32 = 4294967263;
-
 pub struct Frame {
     pub gas: u32,
     pub heap: PageId,
@@ -97,7 +94,7 @@ pub fn grow(gas: u32, bound: u32, new: u32) -> Growth
 pub fn access(gas: u32, bound: u32, address: Address) -> Growth
     ensures { λ r. ⌜ r ≡ accessed gas bound (address .0) ⌝ }
 {
-    if address.0 > LAST_ADDRESS {
+    if address.0 > word::LAST_ADDRESS {
         return Growth {
             gas: 0,
             bound,

@@ -2,7 +2,7 @@
 ghost use mathlib.Core.Path.{_≡_};
 ghost use Prim.Native.Nat.{_≤_};
 ghost use lib.ListN.{length};
-ghost use Rattle.state.specs.Quote.{walked, told, quoted};
+ghost use Rattle.state.specs.Quote.{walked, quoteOutcome, quoted};
 use crate::access;
 use page_ids::Address;
 
@@ -51,7 +51,7 @@ fn walk(list: &[u32], gas: u32, bound: u32) -> RunEnd
 
 // What loads at these addresses, one after another, spend of the gas, which bound they reach, and where they end.
 pub fn quote(list: &[u32], gas: u32, bound: u32) -> Quoted
-    ensures { λ r. ⌜ told r ≡ quoted (now (list .entry)) gas bound ⌝ }
+    ensures { λ r. ⌜ quoteOutcome r ≡ quoted (now (list .entry)) gas bound ⌝ }
 {
     if list.len() > MOST_ADDRESSES {
         return Quoted::Refused(8);

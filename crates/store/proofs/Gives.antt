@@ -16,7 +16,7 @@ use Rattle.index.proofs.Orders.{slot-lt, index-rises}
 use Rattle.index.proofs.Removes.{ranks-order, rank-within, rank-outside}
 use Rattle.store.specs.Mem.{slotCount, heldNow}
 use Rattle.store.specs.Hold.{Indexed}
-use Rattle.store.specs.Give.{Zeroed, Wiped, within, Given}
+use Rattle.store.specs.Give.{Zeroed, Wiped, within, Released}
 use Rattle.store.proofs.Parts.{sub-zero, take-front, drop-front, put-long}
 use Rattle.store.proofs.Holds.{cut-keys, cut-order}
 
@@ -148,7 +148,7 @@ module _ (bytes keys order words : List ℕ) (ix : Indexed keys order words) (lo
         (λ a b. let q = rank-within ks os (heldNow words) lo hi from to (ix .index) low high s pos a b in ap (λ (x : ℕ). getD bytes' (256 * x + r) 0) (sym (q .is)) ∙ w .gone (q .rank) r (q .from-le) (q .to-lt) h)
         (λ o. w .kept (256 * s + r) (λ i a b q. rank-outside ks os (heldNow words) lo hi from to (ix .index) low high s o i a b (q ∙ e)))
 
-    pub given : Given lo hi bytes keys order words bytes' (e₁ ++ drop (slotCount words - 0) keys) (e₂ ++ drop (slotCount words - 0) order) (set words 9 (heldNow words - (to - from)))
+    pub given : Released lo hi bytes keys order words bytes' (e₁ ++ drop (slotCount words - 0) keys) (e₂ ++ drop (slotCount words - 0) order) (set words 9 (heldNow words - (to - from)))
     given =
         let six : getD (set words 9 (heldNow words - (to - from))) 6 0 ≡ slotCount words = getD-set-other words 9 6 (heldNow words - (to - from)) 0 (λ z. omega arith) in
         let nine : getD (set words 9 (heldNow words - (to - from))) 9 0 ≡ heldNow words - (to - from) = getD-set-same words 9 (heldNow words - (to - from)) 0 (let h = ix .head in omega arith) in

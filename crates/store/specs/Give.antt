@@ -27,7 +27,7 @@ abbrev pub within : ℕ → ℕ → ℕ → Bool
 within lo hi k = leb lo k && ltb k hi
 
 -- the slots with such keys are pooled, their chunks zero, and the rest is as it was
-pub record Given (lo hi : ℕ) (bytes keys order words bytes' keys' order' words' : List ℕ) : Type 0 where
+pub record Released (lo hi : ℕ) (bytes keys order words bytes' keys' order' words' : List ℕ) : Type 0 where
   pub slot-keys : (s : ℕ) → s < slotCount words → getD keys' s 0 ≡ cond (within lo hi (getD keys s 0)) 0 (getD keys s 0)
   pub chunk-bytes : (s r : ℕ) → s < slotCount words → r < 256 → getD bytes' (256 * s + r) 0 ≡ cond (within lo hi (getD keys s 0)) 0 (getD bytes (256 * s + r) 0)
   pub bytes-rest : (x : ℕ) → 256 * slotCount words ≤ x → getD bytes' x 0 ≡ getD bytes x 0

@@ -7,7 +7,7 @@ ghost use Rattle.index.specs.Index.{seek, usedCount, freeCount};
 ghost use Rattle.store.specs.Find.{slotFor, Findable, Names, Learnt};
 ghost use Rattle.store.specs.Mem.{headLength, slotCount, pageCount, heldNow};
 ghost use Rattle.store.specs.Hold.{lacks, Indexed, PagesIndexed, Taken, Held};
-ghost use Rattle.store.specs.Give.{Zeroed, Wiped, Given};
+ghost use Rattle.store.specs.Give.{Zeroed, Wiped, Released};
 
 pub mod head;
 
@@ -249,7 +249,7 @@ pub fn give(
 )
     requires { ⌜ Indexed (now keys) (now order) (now words) ⌝ }
     requires { ⌜ (256 * slotCount (now words) ≤ length (now bytes)) × (0 < lo) × (lo ≤ hi) ⌝ }
-    ensures { λ _. ⌜ Given lo hi (now (bytes .entry)) (now (keys .entry)) (now (order .entry)) (now (words .entry)) (now (bytes .exit)) (now (keys .exit)) (now (order .exit)) (now (words .exit)) ⌝ }
+    ensures { λ _. ⌜ Released lo hi (now (bytes .entry)) (now (keys .entry)) (now (order .entry)) (now (words .entry)) (now (bytes .exit)) (now (keys .exit)) (now (order .exit)) (now (words .exit)) ⌝ }
 {
     let c = words[head::CHUNKS] as usize;
     let n = words[head::HELD] as usize;

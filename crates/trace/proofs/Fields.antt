@@ -13,7 +13,7 @@ use lib.Dec.{eqb, leb, leb·suc-suc}
 use lib.ListN.{length, getD, take, drop, length-drop}
 use lib.Seq.{drop-cons, drop-drop, drop-length}
 use borrow.Author.Tests.{eq-eqb, ne-eqb, le-leb, lt-leb}
-use Rattle.trace.specs.Language.{fields, onFirst, same}
+use Rattle.trace.specs.Language.{fields, onFirst, sameBytes}
 use Rattle.trace.specs.Reading.{spaceAt, fieldsFrom}
 
 split : {a b : ℕ} → Dec (a ≡ b) → (a ≡ b) ⊎ (a ≡ b → ⊥)
@@ -110,7 +110,7 @@ from-moved s at k l =
     ∙ ap (λ (t : Bool). cond t (fields (drop (suc k) (drop at s))) []) (leb-moved k (length s) at l)
     ∙ ap (λ (r : List ℕ). cond (leb (at + k + 1) (length s)) (fields r) []) (drop-drop (suc k) at s ∙ ap (λ (n : ℕ). drop n s) e)
 
--- the same from place `at` on
+-- the sameBytes from place `at` on
 pub field-at : (s : List ℕ) (at : ℕ) → at ≤ length s → fieldsFrom s at ≡ take (spaceAt (drop at s)) (drop at s) ∷ fieldsFrom s (at + spaceAt (drop at s) + 1)
 field-at s at l =
     ap (λ (t : Bool). cond t (fields (drop at s)) []) (le-leb at (length s) l)
@@ -120,21 +120,21 @@ field-at s at l =
 pub from-past : (s : List ℕ) (at : ℕ) → length s < at → fieldsFrom s at ≡ []
 from-past s at l = rw (lt-leb at (length s) l)
 
--- ---- the same bytes
-pub same-lengths : (a b : List ℕ) → (length a ≡ length b → ⊥) → false ≡ same a b
+-- ---- the sameBytes bytes
+pub same-lengths : (a b : List ℕ) → (length a ≡ length b → ⊥) → false ≡ sameBytes a b
 same-lengths [] [] n = absurd (n refl)
 same-lengths [] (c ∷ cs) n = refl
 same-lengths (b ∷ bs) [] n = refl
 same-lengths (b ∷ bs) (c ∷ cs) n = rw (sym (same-lengths bs cs (λ e. n (ap suc e)))) (sym (and-false (eqb b c)))
 
-same-cons : (a b : List ℕ) (i : ℕ) → i < length a → i < length b → same (drop i a) (drop i b) ≡ (eqb (getD a i 0) (getD b i 0) && same (drop (suc i) a) (drop (suc i) b))
+same-cons : (a b : List ℕ) (i : ℕ) → i < length a → i < length b → sameBytes (drop i a) (drop i b) ≡ (eqb (getD a i 0) (getD b i 0) && sameBytes (drop (suc i) a) (drop (suc i) b))
 same-cons a b i l m = rw (drop-cons a i 0 l, drop-cons b i 0 m)
 
-pub same-step : (a b : List ℕ) (i : ℕ) → i < length a → i < length b → getD a i 0 ≡ getD b i 0 → same (drop (i + 1) a) (drop (i + 1) b) ≡ same (drop i a) (drop i b)
+pub same-step : (a b : List ℕ) (i : ℕ) → i < length a → i < length b → getD a i 0 ≡ getD b i 0 → sameBytes (drop (i + 1) a) (drop (i + 1) b) ≡ sameBytes (drop i a) (drop i b)
 same-step a b i l m e = rw (add-one i, same-cons a b i l m, eq-eqb (getD a i 0) (getD b i 0) e)
 
-pub same-stop : (a b : List ℕ) (i : ℕ) → i < length a → i < length b → (getD a i 0 ≡ getD b i 0 → ⊥) → false ≡ same (drop i a) (drop i b)
+pub same-stop : (a b : List ℕ) (i : ℕ) → i < length a → i < length b → (getD a i 0 ≡ getD b i 0 → ⊥) → false ≡ sameBytes (drop i a) (drop i b)
 same-stop a b i l m n = rw (same-cons a b i l m, ne-eqb (getD a i 0) (getD b i 0) n)
 
-pub same-done : (a b : List ℕ) (i : ℕ) → length a ≡ i → length b ≡ i → true ≡ same (drop i a) (drop i b)
+pub same-done : (a b : List ℕ) (i : ℕ) → length a ≡ i → length b ≡ i → true ≡ sameBytes (drop i a) (drop i b)
 same-done a b i e f = rw (sym e, drop-length a) (rw (e ∙ sym f, drop-length b))

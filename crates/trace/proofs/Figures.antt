@@ -12,7 +12,7 @@ use lib.Dec.{eqb}
 use lib.ListN.{length, getD, drop}
 use lib.Seq.{drop-cons, drop-length}
 use borrow.Author.Tests.{lt-ltb, le-ltb, le-leb, lt-leb}
-use Rattle.trace.specs.Language.{digit, digital, numberAfter, numberOf, ledWell, decimal, hexadecimal}
+use Rattle.trace.specs.Language.{digit, digital, numberAfter, numeralValue, ledWell, decimal, hexadecimal}
 
 -- ---- a digit
 pub digit-low : (b : ℕ) → b < 48 → 16 ≡ digit b
@@ -93,11 +93,11 @@ pub decimal-digit : (f : List ℕ) → digital 10 f ≡ false → none ≡ decim
 unfolding decimal
 decimal-digit f e = rw (e, and-false (ledWell f))
 
-pub decimal-wide : (f : List ℕ) → 4294967295 < numberOf 10 f → none ≡ decimal f
+pub decimal-wide : (f : List ℕ) → 4294967295 < numeralValue 10 f → none ≡ decimal f
 unfolding decimal
-decimal-wide f l = rw (lt-leb (numberOf 10 f) 4294967295 l, and-false (digital 10 f), and-false (ledWell f))
+decimal-wide f l = rw (lt-leb (numeralValue 10 f) 4294967295 l, and-false (digital 10 f), and-false (ledWell f))
 
-pub decimal-is : (f : List ℕ) (n : ℕ) → ledWell f ≡ true → digital 10 f ≡ true → numberOf 10 f ≡ n → n ≤ 4294967295 → some n ≡ decimal f
+pub decimal-is : (f : List ℕ) (n : ℕ) → ledWell f ≡ true → digital 10 f ≡ true → numeralValue 10 f ≡ n → n ≤ 4294967295 → some n ≡ decimal f
 unfolding decimal
 decimal-is f n e d q l = rw (e, d, q, le-leb n 4294967295 l)
 
@@ -113,7 +113,7 @@ pub hexadecimal-long : (f : List ℕ) → 64 < length f → none ≡ hexadecimal
 unfolding hexadecimal
 hexadecimal-long f l = rw (lt-leb (length f) 64 l, and-false (digital 16 f), and-false (ledWell f))
 
-pub hexadecimal-is : (f : List ℕ) (n : ℕ) → ledWell f ≡ true → digital 16 f ≡ true → numberOf 16 f ≡ n → length f ≤ 64 → some n ≡ hexadecimal f
+pub hexadecimal-is : (f : List ℕ) (n : ℕ) → ledWell f ≡ true → digital 16 f ≡ true → numeralValue 16 f ≡ n → length f ≤ 64 → some n ≡ hexadecimal f
 unfolding hexadecimal
 hexadecimal-is f n e d q l = rw (e, d, q, le-leb (length f) 64 l)
 

@@ -11,7 +11,7 @@ use lib.ListN.{length, getD, take, drop, set, replicate, length-drop, List·getD
 use lib.Seq.{take-suc-set, getD-take, take-all, length-take-le, getD-at}
 use Rattle.trace.specs.declared.Kind.{Kind}
 use Rattle.trace.specs.declared.Kind.the-variants.{Unread, Open, Write, Read, Snapshot, Rollback}
-use Rattle.trace.specs.Language.{unread, writes, decimal, hexadecimal, same, kindOf, numbers, also, lineOf, lineIf, commandLine, formOf, lineOfFields, meaning}
+use Rattle.trace.specs.Language.{unread, writes, decimal, hexadecimal, sameBytes, lineKind, numbers, also, lineOf, lineIf, commandLine, formOf, lineOfFields, meaning}
 use Rattle.trace.specs.Reading.{spaceAt, fieldsFrom, ahead, numberIf, countOf, afterOf}
 use Rattle.trace.proofs.Fields.{field-at, first-field, from-past}
 
@@ -29,28 +29,28 @@ numbers-one form forms s at l = ap (numbers (form ∷ forms)) (field-at s at l)
 
 -- ---- the names
 module _ (n : List ℕ) where
-  pub kind-open : same n (111 ∷ 112 ∷ 101 ∷ 110 ∷ []) ≡ true → Open ≡ kindOf n
-  unfolding kindOf
+  pub kind-open : sameBytes n (111 ∷ 112 ∷ 101 ∷ 110 ∷ []) ≡ true → Open ≡ lineKind n
+  unfolding lineKind
   kind-open a = rw a
 
-  pub kind-write : same n (111 ∷ 112 ∷ 101 ∷ 110 ∷ []) ≡ false → same n (119 ∷ []) ≡ true → Write ≡ kindOf n
-  unfolding kindOf
+  pub kind-write : sameBytes n (111 ∷ 112 ∷ 101 ∷ 110 ∷ []) ≡ false → sameBytes n (119 ∷ []) ≡ true → Write ≡ lineKind n
+  unfolding lineKind
   kind-write a b = rw (a, b)
 
-  pub kind-read : same n (111 ∷ 112 ∷ 101 ∷ 110 ∷ []) ≡ false → same n (119 ∷ []) ≡ false → same n (114 ∷ []) ≡ true → Read ≡ kindOf n
-  unfolding kindOf
+  pub kind-read : sameBytes n (111 ∷ 112 ∷ 101 ∷ 110 ∷ []) ≡ false → sameBytes n (119 ∷ []) ≡ false → sameBytes n (114 ∷ []) ≡ true → Read ≡ lineKind n
+  unfolding lineKind
   kind-read a b c = rw (a, b, c)
 
-  pub kind-snapshot : same n (111 ∷ 112 ∷ 101 ∷ 110 ∷ []) ≡ false → same n (119 ∷ []) ≡ false → same n (114 ∷ []) ≡ false → same n (115 ∷ []) ≡ true → Snapshot ≡ kindOf n
-  unfolding kindOf
+  pub kind-snapshot : sameBytes n (111 ∷ 112 ∷ 101 ∷ 110 ∷ []) ≡ false → sameBytes n (119 ∷ []) ≡ false → sameBytes n (114 ∷ []) ≡ false → sameBytes n (115 ∷ []) ≡ true → Snapshot ≡ lineKind n
+  unfolding lineKind
   kind-snapshot a b c d = rw (a, b, c, d)
 
-  pub kind-rollback : same n (111 ∷ 112 ∷ 101 ∷ 110 ∷ []) ≡ false → same n (119 ∷ []) ≡ false → same n (114 ∷ []) ≡ false → same n (115 ∷ []) ≡ false → same n (98 ∷ []) ≡ true → Rollback ≡ kindOf n
-  unfolding kindOf
+  pub kind-rollback : sameBytes n (111 ∷ 112 ∷ 101 ∷ 110 ∷ []) ≡ false → sameBytes n (119 ∷ []) ≡ false → sameBytes n (114 ∷ []) ≡ false → sameBytes n (115 ∷ []) ≡ false → sameBytes n (98 ∷ []) ≡ true → Rollback ≡ lineKind n
+  unfolding lineKind
   kind-rollback a b c d e = rw (a, b, c, d, e)
 
-  pub kind-none : same n (111 ∷ 112 ∷ 101 ∷ 110 ∷ []) ≡ false → same n (119 ∷ []) ≡ false → same n (114 ∷ []) ≡ false → same n (115 ∷ []) ≡ false → same n (98 ∷ []) ≡ false → Unread ≡ kindOf n
-  unfolding kindOf
+  pub kind-none : sameBytes n (111 ∷ 112 ∷ 101 ∷ 110 ∷ []) ≡ false → sameBytes n (119 ∷ []) ≡ false → sameBytes n (114 ∷ []) ≡ false → sameBytes n (115 ∷ []) ≡ false → sameBytes n (98 ∷ []) ≡ false → Unread ≡ lineKind n
+  unfolding lineKind
   kind-none a b c d e = rw (a, b, c, d, e)
 
 -- ---- the loop over decimals
@@ -170,15 +170,15 @@ module _ (line : List ℕ) where
   abbrev name : List ℕ
   name = take (spaceAt line) line
 
-  line-is : meaning line ≡ lineIf (kindOf name) (numbers (replicate (countOf (kindOf name)) decimal ++ afterOf (kindOf name)) (fieldsFrom line (suc (spaceAt line))))
-  line-is = ap lineOfFields (first-field line) ∙ ap (λ (f : List Form). lineIf (kindOf name) (numbers f (fieldsFrom line (suc (spaceAt line))))) (form-split (kindOf name))
+  line-is : meaning line ≡ lineIf (lineKind name) (numbers (replicate (countOf (lineKind name)) decimal ++ afterOf (lineKind name)) (fieldsFrom line (suc (spaceAt line))))
+  line-is = ap lineOfFields (first-field line) ∙ ap (λ (f : List Form). lineIf (lineKind name) (numbers f (fieldsFrom line (suc (spaceAt line))))) (form-split (lineKind name))
 
-  module _ (k : Kind) (end n : ℕ) (ends : end ≡ 0 + spaceAt line) (named : k ≡ kindOf (take (end - 0) line)) (counted : n ≡ countOf k) where
+  module _ (k : Kind) (end n : ℕ) (ends : end ≡ 0 + spaceAt line) (named : k ≡ lineKind (take (end - 0) line)) (counted : n ≡ countOf k) where
     at-space : end ≡ spaceAt line
     at-space = omega arith
 
-    kind-is : k ≡ kindOf name
-    kind-is = let z : end - 0 ≡ spaceAt line = omega arith in named ∙ ap (λ (m : ℕ). kindOf (take m line)) z
+    kind-is : k ≡ lineKind name
+    kind-is = let z : end - 0 ≡ spaceAt line = omega arith in named ∙ ap (λ (m : ℕ). lineKind (take m line)) z
 
     same-reading : (forms : List Form) → numbers (replicate (countOf k) decimal ++ forms) (fieldsFrom line (suc (spaceAt line))) ≡ toRead line (end + 1) n forms
     same-reading forms = rw (sym counted, sym at-space, sym (add-one end))

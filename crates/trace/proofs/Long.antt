@@ -13,7 +13,7 @@ use lib.Seq.{take-all, length-take-le}
 use borrow.Author.Tests.{eq-eqb, ne-eqb}
 use Rattle.trace.specs.declared.Kind.{Kind}
 use Rattle.trace.specs.declared.Kind.the-variants.{Unread, Open, Write, Read, Snapshot, Rollback}
-use Rattle.trace.specs.Language.{unread, fields, onFirst, digit, numberAfter, numberOf, ledWell, decimal, hexadecimal, kindOf, formOf, numbers, lineIf, lineOfFields, meaning}
+use Rattle.trace.specs.Language.{unread, fields, onFirst, digit, numberAfter, numeralValue, ledWell, decimal, hexadecimal, lineKind, formOf, numbers, lineIf, lineOfFields, meaning}
 use Rattle.trace.proofs.Fields.{same-or-not, lt-or-ge, same-lengths}
 use Rattle.trace.proofs.Figures.{decimal-led, decimal-wide, hexadecimal-long, digit-low, digit-figure, digit-gap, digit-letter, digit-high}
 use Rattle.trace.proofs.Lines.{kind-none, also-none}
@@ -43,7 +43,7 @@ first-positive : (b : ℕ) → (b ≡ 48 → ⊥) → 1 ≤ 0 * 10 + digit b
 first-positive b n = ⊎-elim (λ e. absurd (n (digit-zero b e))) (λ p. omega arith) (same-or-not (digit b) 0)
 
 -- eleven digits that are led well make a number above the limit
-wide-number : (b : ℕ) (bs : List ℕ) → 10 ≤ length bs → (b ≡ 48 → ⊥) → 4294967295 < numberOf 10 (b ∷ bs)
+wide-number : (b : ℕ) (bs : List ℕ) → 10 ≤ length bs → (b ≡ 48 → ⊥) → 4294967295 < numeralValue 10 (b ∷ bs)
 unfolding numberAfter
 wide-number b bs l n =
     let s = number-scale (0 * 10 + digit b) bs in
@@ -124,7 +124,7 @@ width-le Rollback = omega arith
 width-le Unread = omega arith
 
 -- ---- names
-long-name : (n : List ℕ) → 4 < length n → kindOf n ≡ Unread
+long-name : (n : List ℕ) → 4 < length n → lineKind n ≡ Unread
 long-name n l =
     sym
     (kind-none n (sym (same-lengths n (111 ∷ 112 ∷ 101 ∷ 110 ∷ []) (λ e. omega arith))) (sym (same-lengths n (119 ∷ []) (λ e. omega arith)))
@@ -139,7 +139,7 @@ unfolding spread
 wide-line [] l = absurd (omega arith)
 wide-line (name ∷ rest) l =
     ⊎-elim (λ g. rw (long-name name g) (no-kind (numbers [] rest)))
-    (λ g. rw (wide-none (form-fits (kindOf name)) rest (let h = width-le (kindOf name) in omega arith)))
+    (λ g. rw (wide-none (form-fits (lineKind name)) rest (let h = width-le (lineKind name) in omega arith)))
     (lt-or-ge 4 (length name))
 
 -- ---- THE LAWS

@@ -12,7 +12,7 @@ use lib.ListN.{length, getD, take, drop, set, length-append, length-drop}
 use lib.Seq.{drop-length, take-suc, take-suc-set, take-length, take-all}
 use borrow.Author.Tests.{lt-ltb, le-ltb, ne-eqb}
 use Rattle.word.specs.Value.{limbsValue}
-use Rattle.trace.specs.Text.{glyph, numeral, decimalText, Told, unread, done, word, marks, refused, textOf, Wrote}
+use Rattle.trace.specs.Text.{glyph, numeral, decimalText, Reported, unread, done, word, marks, refused, textOf, Wrote}
 use Rattle.trace.proofs.Fields.{lt-or-ge}
 
 -- ---- one digit
@@ -131,7 +131,7 @@ pub put-start : (o : List ℕ) (at : ℕ) → take (at + 0) o ≡ take at o ++ [
 put-start o at = let z : at + 0 ≡ at = omega arith in rw (z, append-nil (take at o))
 
 -- the longest answer
-pub reply-length : (t : Told) → length (textOf t) ≤ 134
+pub reply-length : (t : Reported) → length (textOf t) ≤ 134
 reply-length unread = omega arith
 reply-length done = omega arith
 reply-length (word n) = omega (arith, numeral-length 16 64 n)

@@ -10,7 +10,7 @@ use native.Mathlib.Nat.{zero-mul, pow-zero, pow-suc, div-lt-iff-lt-mul, div-add-
 use native.Mathlib.Omega.{arith}
 use lib.Dec.{ltb, lit<}
 use borrow.Author.Tests.{lt-ltb, ne-eqb}
-use Rattle.trace.specs.Language.{digit, digital, numberAfter, numberOf, ledWell, decimal, hexadecimal}
+use Rattle.trace.specs.Language.{digit, digital, numberAfter, numeralValue, ledWell, decimal, hexadecimal}
 use Rattle.trace.specs.Text.{glyph, numeral, decimalText, hexadecimalText}
 use Rattle.trace.proofs.Fields.{lt-or-ge, same-or-not}
 use Rattle.trace.proofs.Figures.{digit-figure, digit-letter, decimal-is, hexadecimal-is}
@@ -78,7 +78,7 @@ module _ (b : ℕ) (two : 1 < b) (small : b ≤ 16) where
   rest-positive : (n : ℕ) → b ≤ n → 0 < n / b
   rest-positive n l = ⊎-elim (λ z. absurd (let h = div-add-mod' n b in let r = low-digit n in let q : n / b * b ≡ 0 = rw z (zero-mul b) in omega arith)) (λ p. omega arith) (same-or-not (n / b) 0)
 
-  numeral-number : (m n : ℕ) → n < b ^ m → numberOf b (numeral b m n) ≡ n
+  numeral-number : (m n : ℕ) → n < b ^ m → numeralValue b (numeral b m n) ≡ n
   unfolding numberAfter numeral
   numeral-number zero n l = let z = pow-zero b in omega arith
   numeral-number (suc m) n l =

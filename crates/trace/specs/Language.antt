@@ -45,8 +45,8 @@ unfoldable pub numberAfter : ℕ → ℕ → List ℕ → ℕ
 numberAfter base n [] = n
 numberAfter base n (b ∷ bs) = numberAfter base (n * base + digit b) bs
 
-abbrev pub numberOf : ℕ → List ℕ → ℕ
-numberOf base f = numberAfter base 0 f
+abbrev pub numeralValue : ℕ → List ℕ → ℕ
+numeralValue base f = numberAfter base 0 f
 
 -- there is a digit, and a `0` leads no other
 unfoldable pub ledWell : List ℕ → Bool
@@ -55,26 +55,26 @@ ledWell (b ∷ []) = true
 ledWell (b ∷ c ∷ bs) = not (eqb b 48)
 
 unfoldable pub decimal : List ℕ → Option ℕ
-decimal f = cond (ledWell f && (digital 10 f && leb (numberOf 10 f) 4294967295)) (some (numberOf 10 f)) none
+decimal f = cond (ledWell f && (digital 10 f && leb (numeralValue 10 f) 4294967295)) (some (numeralValue 10 f)) none
 
 unfoldable pub hexadecimal : List ℕ → Option ℕ
-hexadecimal f = cond (ledWell f && (digital 16 f && leb (length f) 64)) (some (numberOf 16 f)) none
+hexadecimal f = cond (ledWell f && (digital 16 f && leb (length f) 64)) (some (numeralValue 16 f)) none
 
 -- ---- lines
-abbrev pub same : List ℕ → List ℕ → Bool
-same [] [] = true
-same [] (c ∷ cs) = false
-same (b ∷ bs) [] = false
-same (b ∷ bs) (c ∷ cs) = eqb b c && same bs cs
+abbrev pub sameBytes : List ℕ → List ℕ → Bool
+sameBytes [] [] = true
+sameBytes [] (c ∷ cs) = false
+sameBytes (b ∷ bs) [] = false
+sameBytes (b ∷ bs) (c ∷ cs) = eqb b c && sameBytes bs cs
 
 -- `open`, `w`, `r`, `s`, `b`
-unfoldable pub kindOf : List ℕ → Kind
-kindOf name =
-    cond (same name (111 ∷ 112 ∷ 101 ∷ 110 ∷ [])) Open
-    (cond (same name (119 ∷ [])) Write
-    (cond (same name (114 ∷ [])) Read
-    (cond (same name (115 ∷ [])) Snapshot
-    (cond (same name (98 ∷ [])) Rollback Unread))))
+unfoldable pub lineKind : List ℕ → Kind
+lineKind name =
+    cond (sameBytes name (111 ∷ 112 ∷ 101 ∷ 110 ∷ [])) Open
+    (cond (sameBytes name (119 ∷ [])) Write
+    (cond (sameBytes name (114 ∷ [])) Read
+    (cond (sameBytes name (115 ∷ [])) Snapshot
+    (cond (sameBytes name (98 ∷ [])) Rollback Unread))))
 
 -- what stands after the name, field by field
 abbrev pub formOf : Kind → List (List ℕ → Option ℕ)
@@ -113,7 +113,7 @@ lineIf k (some ns) = lineOf k ns
 
 abbrev pub lineOfFields : List (List ℕ) → Line
 lineOfFields [] = unread
-lineOfFields (name ∷ rest) = lineIf (kindOf name) (numbers (formOf (kindOf name)) rest)
+lineOfFields (name ∷ rest) = lineIf (lineKind name) (numbers (formOf (lineKind name)) rest)
 
 -- WHAT A LINE MEANS
 abbrev pub meaning : List ℕ → Line

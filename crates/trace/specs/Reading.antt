@@ -29,11 +29,11 @@ abbrev pub numberIf : Bool → ℕ → Option ℕ
 numberIf true n = some n
 numberIf false n = none
 
-abbrev pub told : Number → Option ℕ
-told r = numberIf (r .ok) (r .value)
+abbrev pub parsedNumber : Number → Option ℕ
+parsedNumber r = numberIf (r .ok) (r .value)
 
-abbrev pub toldWord : WordNumber → Option ℕ
-toldWord r = numberIf (r .ok) (value (r .word .limbs))
+abbrev pub parsedWord : WordNumber → Option ℕ
+parsedWord r = numberIf (r .ok) (value (r .word .limbs))
 
 abbrev pub ahead : List ℕ → Option (List ℕ) → Option (List ℕ)
 ahead ms none = none

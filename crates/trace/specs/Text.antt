@@ -12,13 +12,13 @@ use Rattle.trace.specs.declared.text.Answered.the-variants.{Unread, Done
 use Rattle.trace.specs.declared.text.Reply.{Reply}
 
 -- what a line is answered with
-pub data Told : Type 0 where
-  unread : Told
-  done : Told
-  word : (number : ℕ) → Told
+pub data Reported : Type 0 where
+  unread : Reported
+  done : Reported
+  word : (number : ℕ) → Reported
   -- the lengths of the heap journal and of the aux journal
-  marks : (heap aux : ℕ) → Told
-  refused : (number : ℕ) → Told
+  marks : (heap aux : ℕ) → Reported
+  refused : (number : ℕ) → Reported
 
 -- ---- numerals
 -- the byte of a digit: `0` to `9`, then `a` to `f`
@@ -38,7 +38,7 @@ hexadecimalText n = numeral 16 64 n
 
 -- ---- answers
 -- `unread`; `ok`; `word` and the word; `snap` and the two lengths; `refused` and the number
-abbrev pub textOf : Told → List ℕ
+abbrev pub textOf : Reported → List ℕ
 textOf unread = 117 ∷ 110 ∷ 114 ∷ 101 ∷ 97 ∷ 100 ∷ []
 textOf done = 111 ∷ 107 ∷ []
 textOf (word n) = (119 ∷ 111 ∷ 114 ∷ 100 ∷ 32 ∷ []) ++ hexadecimalText n
@@ -46,14 +46,14 @@ textOf (marks h a) = (115 ∷ 110 ∷ 97 ∷ 112 ∷ 32 ∷ []) ++ (decimalText 
 textOf (refused n) = (114 ∷ 101 ∷ 102 ∷ 117 ∷ 115 ∷ 101 ∷ 100 ∷ 32 ∷ []) ++ decimalText n
 
 -- ---- what the code has
-abbrev pub replyWith : Answered → ℕ → ℕ → ℕ → Told
+abbrev pub replyWith : Answered → ℕ → ℕ → ℕ → Reported
 replyWith Unread w x y = unread
 replyWith Done w x y = done
 replyWith Word w x y = word w
 replyWith Marks w x y = marks x y
 replyWith Refused w x y = refused x
 
-abbrev pub replyOf : Reply → Told
+abbrev pub replyOf : Reply → Reported
 replyOf r = replyWith (r .answered) (value (r .word .limbs)) (r .first) (r .second)
 
 -- a text stands in d from place `at` on, after what o has there, and the next place is `end`; what follows is open

@@ -6,8 +6,8 @@ ghost use Prim.Native.Nat.{_+_, _*_, _≤_, _<_, _^_};
 ghost use lib.ListN.{length, take, drop};
 ghost use Rattle.word.specs.Value.{value, limbsValue};
 ghost use Rattle.trace.specs.Language as language;
-ghost use Rattle.trace.specs.Language.{kindOf, ledWell, meaning, commandOf, lineIf, numbers, hexadecimal as hexadecimalOf};
-ghost use Rattle.trace.specs.Reading.{spaceAt, fieldsFrom, told, toldWord, ahead, Decimals, countOf};
+ghost use Rattle.trace.specs.Language.{lineKind, ledWell, meaning, commandOf, lineIf, numbers, hexadecimal as hexadecimalOf};
+ghost use Rattle.trace.specs.Reading.{spaceAt, fieldsFrom, parsedNumber, parsedWord, ahead, Decimals, countOf};
 use word::Word;
 
 pub mod text;
@@ -65,7 +65,7 @@ fn field_end(line: &[u8], from: usize) -> usize
 }
 
 fn same(a: &[u8], b: &[u8]) -> bool
-    ensures { λ r. ⌜ r ≡ language.same (now (a .entry)) (now (b .entry)) ⌝ }
+    ensures { λ r. ⌜ r ≡ language.sameBytes (now (a .entry)) (now (b .entry)) ⌝ }
 {
     if a.len() != b.len() {
         return false;
@@ -82,7 +82,7 @@ fn same(a: &[u8], b: &[u8]) -> bool
 
 // The kind that a name stands for.
 fn kind_of(name: &[u8]) -> Kind
-    ensures { λ r. ⌜ r ≡ kindOf (now (name .entry)) ⌝ }
+    ensures { λ r. ⌜ r ≡ lineKind (now (name .entry)) ⌝ }
 {
     if same(name, b"open") {
         return Kind::Open;
@@ -138,7 +138,7 @@ fn led_well(field: &[u8]) -> bool
 
 // A field as a decimal number of 32 bits.
 fn decimal(field: &[u8]) -> Number
-    ensures { λ r. ⌜ told r ≡ language.decimal (now (field .entry)) ⌝ }
+    ensures { λ r. ⌜ parsedNumber r ≡ language.decimal (now (field .entry)) ⌝ }
 {
     let no = Number {
         ok: false,
@@ -190,7 +190,7 @@ fn lengthened(w: Word, low: u64) -> Word
 
 // No word: 0, and not ok.
 fn no_word() -> WordNumber
-    ensures { λ r. ⌜ (toldWord r ≡ none) × (value (r .word .limbs) ≡ 0) ⌝ }
+    ensures { λ r. ⌜ (parsedWord r ≡ none) × (value (r .word .limbs) ≡ 0) ⌝ }
 {
     let limbs = [0u64; 4];
     WordNumber {
@@ -201,7 +201,7 @@ fn no_word() -> WordNumber
 
 // A field as a hexadecimal number of 256 bits.
 fn hexadecimal(field: &[u8]) -> WordNumber
-    ensures { λ r. ⌜ toldWord r ≡ hexadecimalOf (now (field .entry)) ⌝ }
+    ensures { λ r. ⌜ parsedWord r ≡ hexadecimalOf (now (field .entry)) ⌝ }
 {
     let no = no_word();
     if !led_well(field) {

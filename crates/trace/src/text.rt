@@ -5,7 +5,7 @@ ghost use Prim.Native.Nat.{_+_, _/_, _%_, _≤_, _<_};
 ghost use lib.Dec.{eqb};
 ghost use lib.ListN.{length, drop};
 ghost use Rattle.word.specs.Value.{value, limbsValue};
-ghost use Rattle.trace.specs.Text.{glyph as glyphOf, numeral, Told, replyOf, textOf, Wrote};
+ghost use Rattle.trace.specs.Text.{glyph as glyphOf, numeral, Reported, replyOf, textOf, Wrote};
 use word::Word;
 
 // What a line is answered with.
@@ -40,19 +40,19 @@ fn plain(answered: Answered, first: u32, second: u32) -> Reply
 }
 
 pub fn unread() -> Reply
-    ensures { λ r. ⌜ replyOf r ≡ Told.unread ⌝ }
+    ensures { λ r. ⌜ replyOf r ≡ Reported.unread ⌝ }
 {
     plain(Answered::Unread, 0, 0)
 }
 
 pub fn done() -> Reply
-    ensures { λ r. ⌜ replyOf r ≡ Told.done ⌝ }
+    ensures { λ r. ⌜ replyOf r ≡ Reported.done ⌝ }
 {
     plain(Answered::Done, 0, 0)
 }
 
 pub fn word(w: Word) -> Reply
-    ensures { λ r. ⌜ replyOf r ≡ Told.word (value (w .limbs)) ⌝ }
+    ensures { λ r. ⌜ replyOf r ≡ Reported.word (value (w .limbs)) ⌝ }
 {
     Reply {
         answered: Answered::Word,
@@ -63,13 +63,13 @@ pub fn word(w: Word) -> Reply
 }
 
 pub fn marks(heap: u32, aux: u32) -> Reply
-    ensures { λ r. ⌜ replyOf r ≡ Told.marks heap aux ⌝ }
+    ensures { λ r. ⌜ replyOf r ≡ Reported.marks heap aux ⌝ }
 {
     plain(Answered::Marks, heap, aux)
 }
 
 pub fn refused(number: u32) -> Reply
-    ensures { λ r. ⌜ replyOf r ≡ Told.refused number ⌝ }
+    ensures { λ r. ⌜ replyOf r ≡ Reported.refused number ⌝ }
 {
     plain(Answered::Refused, number, 0)
 }
@@ -226,7 +226,7 @@ fn put_word(out: &mut [u8], at: usize, word: Word) -> usize
 // `snap` and the two lengths.
 fn put_marks(out: &mut [u8], at: usize, heap: u32, aux: u32) -> usize
     requires { ⌜ at + 134 ≤ length (now out) ⌝ }
-    ensures { λ r. ⌜ Wrote (textOf (Told.marks heap aux)) at (now (out .entry)) (now (out .exit)) r ⌝ }
+    ensures { λ r. ⌜ Wrote (textOf (Reported.marks heap aux)) at (now (out .entry)) (now (out .exit)) r ⌝ }
 {
     let a = put(out, at, b"snap ");
     let b = put_decimal(out, a, heap);
@@ -236,7 +236,7 @@ fn put_marks(out: &mut [u8], at: usize, heap: u32, aux: u32) -> usize
 
 fn put_labelled_word(out: &mut [u8], at: usize, w: Word) -> usize
     requires { ⌜ at + 69 ≤ length (now out) ⌝ }
-    ensures { λ r. ⌜ Wrote (textOf (Told.word (value (w .limbs)))) at (now (out .entry)) (now (out .exit)) r ⌝ }
+    ensures { λ r. ⌜ Wrote (textOf (Reported.word (value (w .limbs)))) at (now (out .entry)) (now (out .exit)) r ⌝ }
 {
     let a = put(out, at, b"word ");
     put_word(out, a, w)
@@ -244,7 +244,7 @@ fn put_labelled_word(out: &mut [u8], at: usize, w: Word) -> usize
 
 fn put_refusal(out: &mut [u8], at: usize, number: u32) -> usize
     requires { ⌜ at + 72 ≤ length (now out) ⌝ }
-    ensures { λ r. ⌜ Wrote (textOf (Told.refused number)) at (now (out .entry)) (now (out .exit)) r ⌝ }
+    ensures { λ r. ⌜ Wrote (textOf (Reported.refused number)) at (now (out .entry)) (now (out .exit)) r ⌝ }
 {
     let a = put(out, at, b"refused ");
     put_decimal(out, a, number)

@@ -15,7 +15,7 @@ use Rattle.state.specs.Access.{withGrowth, frameAccessed}
 use Rattle.state.proofs.Laws.{accessed-short}
 use Rattle.view.specs.View.{View, Setting}
 use Rattle.view.specs.Instructions.{Operand, Hook, panic}
-use Rattle.view.specs.Calls.{Load, Store, LoadPointer, LoadStatic, StoreStatic, given, outcomeOf}
+use Rattle.view.specs.Calls.{Load, Store, LoadPointer, LoadStatic, StoreStatic, instructionResult, outcomeOf}
 
 abbrev pub emptied : Frame → Frame
 emptied f = record { gas = 0; heap = f .heap; aux = f .aux; «heap_bound» = f .«heap_bound»; «aux_bound» = f .«aux_bound»; panicked = f .panicked }
@@ -34,29 +34,29 @@ past f Aux x l = rw (lt-ltb lastAddress x l) refl
 module _ (s : Setting) (v : View) (f : Frame) (x : Operand) where
   module _ (area : Area) where
     module _ (e : frameAccessed f area (x .word) .paid ≡ false) where
-      pub load-unpaid : outcomeOf s (Load area f x) v ≡ panicked (given (panic (emptied f)))
-      load-unpaid = rw e (ap (λ (g : Frame). panicked (given (panic g))) (unpaid f area (x .word) e))
+      pub load-unpaid : outcomeOf s (Load area f x) v ≡ panicked (instructionResult (panic (emptied f)))
+      load-unpaid = rw e (ap (λ (g : Frame). panicked (instructionResult (panic g))) (unpaid f area (x .word) e))
 
-      pub store-unpaid : (n : ℕ) (h : Hook) → outcomeOf s (Store area f x n h) v ≡ panicked (given (panic (emptied f)))
-      store-unpaid n h = rw e (ap (λ (g : Frame). panicked (given (panic g))) (unpaid f area (x .word) e))
+      pub store-unpaid : (n : ℕ) (h : Hook) → outcomeOf s (Store area f x n h) v ≡ panicked (instructionResult (panic (emptied f)))
+      store-unpaid n h = rw e (ap (λ (g : Frame). panicked (instructionResult (panic g))) (unpaid f area (x .word) e))
 
     module _ (l : lastAddress < x .word) where
-      pub load-limit : outcomeOf s (Load area f x) v ≡ panicked (given (panic (emptied f)))
+      pub load-limit : outcomeOf s (Load area f x) v ≡ panicked (instructionResult (panic (emptied f)))
       load-limit = load-unpaid (past f area (x .word) l)
 
-      pub store-limit : (n : ℕ) (h : Hook) → outcomeOf s (Store area f x n h) v ≡ panicked (given (panic (emptied f)))
+      pub store-limit : (n : ℕ) (h : Hook) → outcomeOf s (Store area f x n h) v ≡ panicked (instructionResult (panic (emptied f)))
       store-limit = store-unpaid (past f area (x .word) l)
 
   -- without charge
   module _ (l : lastAddress < x .word) where
-    pub load-static-limit : outcomeOf s (LoadStatic f x) v ≡ panicked (given (panic f))
+    pub load-static-limit : outcomeOf s (LoadStatic f x) v ≡ panicked (instructionResult (panic f))
     load-static-limit = rw (lt-ltb lastAddress (x .word) l)
 
-    pub store-static-limit : (n : ℕ) → outcomeOf s (StoreStatic f x n) v ≡ panicked (given (panic f))
+    pub store-static-limit : (n : ℕ) → outcomeOf s (StoreStatic f x n) v ≡ panicked (instructionResult (panic f))
     store-static-limit n = rw (lt-ltb lastAddress (x .word) l)
 
-  pub untagged : x .tag ≡ false → outcomeOf s (LoadPointer f x) v ≡ panicked (given (panic f))
+  pub untagged : x .tag ≡ false → outcomeOf s (LoadPointer f x) v ≡ panicked (instructionResult (panic f))
   untagged e = rw e
 
-  pub offset-limit : x .tag ≡ true → lastAddress < pointerOf (x .word) .offset → outcomeOf s (LoadPointer f x) v ≡ panicked (given (panic f))
+  pub offset-limit : x .tag ≡ true → lastAddress < pointerOf (x .word) .offset → outcomeOf s (LoadPointer f x) v ≡ panicked (instructionResult (panic f))
   offset-limit e l = rw (e, lt-ltb lastAddress (pointerOf (x .word) .offset) l)

@@ -7,8 +7,6 @@ use lib.Dec.{eqb}
 use lib.ListN.{length}
 use Rattle.outcome.specs.Outcome.{Outcome, refused, done, firstOf}
 use Rattle.word.specs.Value.{bigEndian, wordBytes}
-use Rattle.outcome.specs.declared.Answer.{Answer}
-use Rattle.outcome.specs.declared.Answer.the-variants.{Done, Refused}
 use Rattle.state.specs.declared.Frame.{Frame}
 use Rattle.state.specs.declared.Area.{Area}
 use Rattle.store.specs.Mem.{Mem, layoutOf}
@@ -17,7 +15,7 @@ use Rattle.view.specs.View.{View, Setting, settingOf, viewOf}
 use Rattle.view.specs.Steps.{run, padded, wordWritten, bytesWritten, contentsAllocated, freed, windowed, truncated, alike, marks, rolledBack, forgotten, opened}
 use Rattle.view.specs.Does.{Does}
 use Rattle.view.specs.Checks.{ifFormed, wordWriteChecks, byteWriteChecks, allocateChecks, partialChecks, rangeChecks, lookupChecks, freeChecks, truncateChecks, compareChecks, rollbackChecks, openingChecks, lengthsRight, bytesLength, keysLength, orderLength, wordsLength}
-use Rattle.view.specs.Instructions.{Operand, Hook, Given, heapOf, staticOf, accessChecks, loaded, storeChecks, stored, pointerChecks, pointed, staticChecks, staticLoaded, staticStoreChecks, staticStored}
+use Rattle.view.specs.Instructions.{Operand, Hook, InstructionResult, heapOf, staticOf, accessChecks, loaded, storeChecks, stored, pointerChecks, pointed, staticChecks, staticLoaded, staticStoreChecks, staticStored}
 
 pub data Call : Type 0 where
   -- an opening with this setting and calldata
@@ -61,7 +59,7 @@ pub data Call : Type 0 where
 pub data Value : Type 0 where
   nothing : Value
   -- by an instruction
-  given : Given → Value
+  instructionResult : InstructionResult → Value
   number : ℕ → Value
   lengths : ℕ → ℕ → Value
   bytes : List ℕ → Value
@@ -98,11 +96,11 @@ outcomeOf s CompareBoth v = done (verdict (alike v v))
 outcomeOf s Snapshot v = done (lengths (length (v .journal 0)) (length (v .journal 1)))
 outcomeOf s (Rollback heap aux) v = firstOf (rollbackChecks v heap aux) (done nothing)
 outcomeOf s DeleteHistory v = done nothing
-outcomeOf s (Load area f x) v = firstOf (accessChecks given area f (x .word)) (done (given (loaded v area f x)))
-outcomeOf s (Store area f x n h) v = firstOf (storeChecks given s v area f (x .word) n h) (done (given (stored area f x n h)))
-outcomeOf s (LoadPointer f x) v = firstOf (pointerChecks given f x) (done (given (pointed v f x)))
-outcomeOf s (LoadStatic f x) v = firstOf (staticChecks given f (x .word)) (done (given (staticLoaded s v f x)))
-outcomeOf s (StoreStatic f x n) v = firstOf (staticStoreChecks given s v f (x .word)) (done (given (staticStored f x)))
+outcomeOf s (Load area f x) v = firstOf (accessChecks instructionResult area f (x .word)) (done (instructionResult (loaded v area f x)))
+outcomeOf s (Store area f x n h) v = firstOf (storeChecks instructionResult s v area f (x .word) n h) (done (instructionResult (stored area f x n h)))
+outcomeOf s (LoadPointer f x) v = firstOf (pointerChecks instructionResult f x) (done (instructionResult (pointed v f x)))
+outcomeOf s (LoadStatic f x) v = firstOf (staticChecks instructionResult f (x .word)) (done (instructionResult (staticLoaded s v f x)))
+outcomeOf s (StoreStatic f x n) v = firstOf (staticStoreChecks instructionResult s v f (x .word)) (done (instructionResult (staticStored f x)))
 
 -- WHAT IT DOES to the view where it is carried out (an accepted opening starts a list and stands in none)
 abbrev pub nextOf : Setting → Call → View → View
@@ -147,8 +145,3 @@ comparisonOf m n = ifFormed m (firstOf (compareChecks (layoutOf (m .words)) n) (
 -- an opening, on any buffers
 abbrev pub OpenDoes : Mem → Setting → List ℕ → Outcome Value → Mem → Type 0
 OpenDoes m s calldata o m' = Does m (firstOf (openingChecks s (lengthsRight s m) (length calldata)) (done nothing)) s (opened s calldata) o m'
-
--- 01's number of an answer that gives no value
-abbrev pub told : Answer → Outcome Value
-told Done = done nothing
-told (Refused n) = refused n

@@ -6,7 +6,7 @@ use Prim.Native.Nat.{ℕ, zero, suc, _+_, _-_, _/_, _^_}
 use lib.Dec.{ltb, leb, eqb}
 use lib.ListN.{length}
 use Rattle.outcome.specs.Outcome.{Outcome, refused, done, firstOf}
-use Rattle.page_ids.specs.Decode.{Page, none, page, badLayout, decoded}
+use Rattle.page_ids.specs.Decode.{badLayout, decoded, isNone}
 use Rattle.page_ids.specs.declared.Layout.{Layout}
 use Rattle.store.specs.Mem.{Mem, layoutOf}
 use Rattle.formed.specs.Pages.{fixed, journalCount}
@@ -27,10 +27,6 @@ abbrev pub onMemory : {A : Type 0} → Mem → List (Check A) → A → Outcome 
 onMemory m checks a = ifFormed m (firstOf checks (done a))
 
 -- 4: the page is undecodable
-abbrev pub isNone : Page → Bool
-isNone none = true
-isNone (page kind group) = false
-
 unfoldable pub undecodable : Setting → ℕ → Bool
 undecodable s p = isNone (decoded (s .layout) p)
 
@@ -39,27 +35,27 @@ unfoldable pub overfull : Setting → View → ℕ → ℕ → ℕ → Bool
 overfull s v p w zero = false
 overfull s v p w (suc n) = (journalled (s .layout) p n && ltb (s .room) (length (v .journal n) + w)) || overfull s v p w n
 
--- 9, 10, 11: room for `count` chunks of page p from number k on, and for w journal words
-abbrev pub roomFor : {A : Type 0} → Setting → View → ℕ → ℕ → ℕ → ℕ → List (Check A)
-roomFor s v p k count w =
+-- 9, 10, 11: capacityChecksAt for `count` chunks of page p from number k on, and for w journal words
+abbrev pub capacityChecks : {A : Type 0} → Setting → View → ℕ → ℕ → ℕ → ℕ → List (Check A)
+capacityChecks s v p k count w =
     (not (v .allocated p) && eqb (v .entries) 0, refused 9)
     ∷ (ltb (v .pool) (missing (v .held p) k count), refused 10)
     ∷ (overfull s v p w journalCount, refused 11)
     ∷ []
 
 -- for n bytes at address a
-abbrev pub room : {A : Type 0} → Setting → View → ℕ → ℕ → ℕ → ℕ → List (Check A)
-room s v p a n w = roomFor s v p (a / 256) (touchedCount a n) w
+abbrev pub capacityChecksAt : {A : Type 0} → Setting → View → ℕ → ℕ → ℕ → ℕ → List (Check A)
+capacityChecksAt s v p a n w = capacityChecks s v p (a / 256) (touchedCount a n) w
 
 abbrev pub wordWriteChecks : {A : Type 0} → Setting → View → ℕ → ℕ → List (Check A)
-wordWriteChecks s v p a = (undecodable s p, refused 4) ∷ room s v p a 32 1
+wordWriteChecks s v p a = (undecodable s p, refused 4) ∷ capacityChecksAt s v p a 32 1
 
 abbrev pub byteWriteChecks : {A : Type 0} → Setting → View → ℕ → ℕ → ℕ → List (Check A)
-byteWriteChecks s v p a n = (undecodable s p, refused 4) ∷ (ltb (2 ^ 32) (a + n), refused 8) ∷ room s v p a n (alignedCount a n)
+byteWriteChecks s v p a n = (undecodable s p, refused 4) ∷ (ltb (2 ^ 32) (a + n), refused 8) ∷ capacityChecksAt s v p a n (alignedCount a n)
 
 -- allocation of page p with n bytes of contents
 abbrev pub allocateChecks : {A : Type 0} → Setting → View → ℕ → ℕ → List (Check A)
-allocateChecks s v p n = (undecodable s p, refused 4) ∷ (fixed (s .layout) p, refused 5) ∷ (v .allocated p, refused 6) ∷ room s v p 0 n 0
+allocateChecks s v p n = (undecodable s p, refused 4) ∷ (fixed (s .layout) p, refused 5) ∷ (v .allocated p, refused 6) ∷ capacityChecksAt s v p 0 n 0
 
 -- a free of page p
 abbrev pub freeChecks : {A : Type 0} → Setting → View → ℕ → List (Check A)

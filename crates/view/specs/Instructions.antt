@@ -33,7 +33,7 @@ pub data Stop : Type 0 where
   onHook : ℕ → Stop
 
 -- what an instruction gives: the word that it read (0 where it reads none), the incremented operand with its tag, the frame, and the stop
-pub record Given : Type 0 where
+pub record InstructionResult : Type 0 where
   pub word : ℕ
   pub operand : Operand
   pub frame : Frame
@@ -49,16 +49,16 @@ heapOf f Aux = f .aux .0
 abbrev pub staticOf : Layout → ℕ
 staticOf l = l .«static_memory» .0
 
-abbrev pub marked : Frame → Frame
-marked f = record { gas = f .gas; heap = f .heap; aux = f .aux; «heap_bound» = f .«heap_bound»; «aux_bound» = f .«aux_bound»; panicked = true }
+abbrev pub withPanicked : Frame → Frame
+withPanicked f = record { gas = f .gas; heap = f .heap; aux = f .aux; «heap_bound» = f .«heap_bound»; «aux_bound» = f .«aux_bound»; panicked = true }
 
 -- no word and no operand are given, and the frame is f: what a refused instruction leaves, its frame being as it was
-abbrev pub frameAlone : Frame → Given
+abbrev pub frameAlone : Frame → InstructionResult
 frameAlone f = record { word = 0; operand = record { word = 0; tag = false }; frame = f; stop = running }
 
 -- a panic sets the mark, which no definition here reads and none clears; f has the gas that it leaves
-abbrev pub panic : Frame → Given
-panic f = frameAlone (marked f)
+abbrev pub panic : Frame → InstructionResult
+panic f = frameAlone (withPanicked f)
 
 -- the whole word plus 32, in 256 bits. The operand limits keep it from leaving them: instructions/proofs/Laws.antt
 abbrev pub incremented : ℕ → ℕ
@@ -66,11 +66,11 @@ incremented x = (x + 32) % 2 ^ 256
 
 -- ---- load and store, of the word at an operand's number
 -- an access that is not paid panics: an operand above 4,294,967,263, or a growth that the gas does not pay; it empties the gas and keeps the bound
-abbrev pub accessChecks : {A : Type 0} → (Given → A) → Area → Frame → ℕ → List (Check A)
+abbrev pub accessChecks : {A : Type 0} → (InstructionResult → A) → Area → Frame → ℕ → List (Check A)
 accessChecks give area f x = (not (frameAccessed f area x .paid), panicked (give (panic (frameAccessed f area x .frame)))) ∷ []
 
 -- a load keeps the operand's tag; of an undecodable page it reads zeros, and pays all the same
-abbrev pub loaded : View → Area → Frame → Operand → Given
+abbrev pub loaded : View → Area → Frame → Operand → InstructionResult
 loaded v area f x = record {
   word = bigEndian (run v (heapOf f area) (x .word) 32);
   operand = record { word = incremented (x .word); tag = x .tag };
@@ -83,11 +83,11 @@ abbrev pub hooked : Hook → ℕ → Bool
 hooked h x = h .on && eqb x (h .address)
 
 -- the panics, then the refusals of a word write, then 15: the hook address is hit by a value above 4,294,967,295
-abbrev pub storeChecks : {A : Type 0} → (Given → A) → Setting → View → Area → Frame → ℕ → ℕ → Hook → List (Check A)
+abbrev pub storeChecks : {A : Type 0} → (InstructionResult → A) → Setting → View → Area → Frame → ℕ → ℕ → Hook → List (Check A)
 storeChecks give s v area f x n h = accessChecks give area f x ++ (wordWriteChecks s v (heapOf f area) x ++ ((hooked h x && ltb 4294967295 n, refused 15) ∷ []))
 
 -- a store clears the tag, and stops with the value n where it is hooked
-abbrev pub stored : Area → Frame → Operand → ℕ → Hook → Given
+abbrev pub stored : Area → Frame → Operand → ℕ → Hook → InstructionResult
 stored area f x n h = record {
   word = 0;
   operand = record { word = incremented (x .word); tag = false };
@@ -96,10 +96,10 @@ stored area f x n h = record {
 }
 
 -- ---- static load and store: the same operand limit; panic without charge; no growth
-abbrev pub staticChecks : {A : Type 0} → (Given → A) → Frame → ℕ → List (Check A)
+abbrev pub staticChecks : {A : Type 0} → (InstructionResult → A) → Frame → ℕ → List (Check A)
 staticChecks give f x = (ltb lastAddress x, panicked (give (panic f))) ∷ []
 
-abbrev pub staticLoaded : Setting → View → Frame → Operand → Given
+abbrev pub staticLoaded : Setting → View → Frame → Operand → InstructionResult
 staticLoaded s v f x = record {
   word = bigEndian (run v (staticOf (s .layout)) (x .word) 32);
   operand = record { word = incremented (x .word); tag = x .tag };
@@ -107,15 +107,15 @@ staticLoaded s v f x = record {
   stop = running;
 }
 
-abbrev pub staticStoreChecks : {A : Type 0} → (Given → A) → Setting → View → Frame → ℕ → List (Check A)
+abbrev pub staticStoreChecks : {A : Type 0} → (InstructionResult → A) → Setting → View → Frame → ℕ → List (Check A)
 staticStoreChecks give s v f x = staticChecks give f x ++ wordWriteChecks s v (staticOf (s .layout)) x
 
-abbrev pub staticStored : Frame → Operand → Given
+abbrev pub staticStored : Frame → Operand → InstructionResult
 staticStored f x = record { word = 0; operand = record { word = incremented (x .word); tag = false }; frame = f; stop = running }
 
 -- ---- pointer read: panics without charge
 -- an untagged operand panics; so does an offset above 4,294,967,263; 14: start + length above 4,294,967,295
-abbrev pub pointerChecks : {A : Type 0} → (Given → A) → Frame → Operand → List (Check A)
+abbrev pub pointerChecks : {A : Type 0} → (InstructionResult → A) → Frame → Operand → List (Check A)
 pointerChecks give f x =
     let p = pointerOf (x .word) in
     (not (x .tag), panicked (give (panic f)))
@@ -132,7 +132,7 @@ abbrev pub readCount : FatPointer → ℕ
 readCount p = min 32 (p .start + p .length - readFrom p)
 
 -- they lead the word, and zeros follow; the incremented operand is tagged
-abbrev pub pointed : View → Frame → Operand → Given
+abbrev pub pointed : View → Frame → Operand → InstructionResult
 pointed v f x =
     let p = pointerOf (x .word) in
     record {

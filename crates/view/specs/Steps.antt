@@ -119,12 +119,12 @@ shortened n v = withDynamicLength n v
 abbrev pub truncated : Setting → ℕ → View → View
 truncated s n v = shortened n (without s (λ q k. fromGroup (s .layout) n q) (fromGroup (s .layout) n) v)
 
--- ---- comparison: two memories are equal when every page has equal bytes and the same dynamic pages are allocated (fixed ones always are)
-abbrev pub same : Bool → Bool → Bool
-same a b = cond a b (not b)
+-- ---- comparison: two memories are equal when every page has equal bytes and the sameBool dynamic pages are allocated (fixed ones always are)
+abbrev pub sameBool : Bool → Bool → Bool
+sameBool a b = cond a b (not b)
 
 unfoldable pub alike : View → View → Bool
-alike v w = all (λ p. same (v .allocated p) (w .allocated p) && all (λ a. eqb (v .bytes p a) (w .bytes p a)) 4294967327) 4294967296
+alike v w = all (λ p. sameBool (v .allocated p) (w .allocated p) && all (λ a. eqb (v .bytes p a) (w .bytes p a)) 4294967327) 4294967296
 
 -- ---- history
 -- the words put back, newest first
@@ -160,8 +160,8 @@ abbrev pub forgotten : View → View
 forgotten v = withJournal (λ j. []) v
 
 -- ---- opening: bytes and dynamic length are zero, the rest is empty
-abbrev pub fresh : Setting → View
-fresh s = record {
+abbrev pub emptyView : Setting → View
+emptyView s = record {
   bytes = λ p a. 0;
   held = λ p k. false;
   pool = s .chunks;
@@ -173,4 +173,4 @@ fresh s = record {
 
 -- and calldata is put on its page
 abbrev pub opened : Setting → List ℕ → View
-opened s calldata = written (s .layout) (s .layout .calldata .0) 0 calldata [] (fresh s)
+opened s calldata = written (s .layout) (s .layout .calldata .0) 0 calldata [] (emptyView s)

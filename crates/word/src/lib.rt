@@ -85,12 +85,15 @@ pub fn to_big_endian(w: Word) -> [u8; 32]
     b
 }
 
+// The last address to which 32 can be added within 32 bits: the operand limit of loads and stores.
+pub const LAST_ADDRESS: u32 = 4294967263;
+
 // Whether an operand lies past the last address to which 32 can be added within 32 bits, decided on limbs.
 pub fn bigger_than_last_address(w: Word) -> bool
     ensures { λ r. ⌜ r ≡ ltb lastAddress (value (w .limbs)) ⌝ }
 {
     let l = w.limbs;
-    if l[0] > 4294967263 {
+    if l[0] > LAST_ADDRESS as u64 {
         return true;
     }
     if l[1] != 0 {

@@ -29,7 +29,7 @@ use Rattle.writes.specs.Asks.{PrepareAsks, JournalAsks}
 use Rattle.index.proofs.Counts.{used-free}
 use Rattle.formed.proofs.Sizes.{holders-long}
 use Rattle.view.specs.Checks.{wordWriteChecks, byteWriteChecks, allocateChecks}
-use Rattle.room.specs.Refusals.{number}
+use Rattle.room.specs.Refusals.{firstRefusal}
 use Rattle.refusals.proofs.Passed.{Room, decodable, word-passed, bytes-passed, allocate-passed}
 
 -- ---- ranges
@@ -76,12 +76,12 @@ pub record Cleared (m : Mem) (p a n w k : ℕ) : Type 0 where
   pub count : k ≡ touchedCount a n
 
 module _ (m : Mem) (p a k : ℕ) (page : p ≤ 4294967295) where
-  pub word-cleared : a ≤ 4294967295 → (WellFormed m) × (number (wordWriteChecks (settingOf m) (viewOf m) p a) ≡ 0) → k ≡ touchedCount a 32 → (n : ℕ) → n ≡ 32 → Cleared m p a n 1 k
+  pub word-cleared : a ≤ 4294967295 → (WellFormed m) × (firstRefusal (wordWriteChecks (settingOf m) (viewOf m) p a) ≡ 0) → k ≡ touchedCount a 32 → (n : ℕ) → n ≡ 32 → Cleared m p a n 1 k
   word-cleared small asks e n is =
       let h = word-passed (settingOf m) (viewOf m) p a (asks .1) in
       subst (λ (x : ℕ). Cleared m p a x 1 k) (sym is) record { formed = asks .0; page = page; known = h .0; room = h .1; end = omega arith; count = e }
 
-  pub bytes-cleared : (n : ℕ) → (WellFormed m) × (number (byteWriteChecks (settingOf m) (viewOf m) p a n) ≡ 0) → k ≡ touchedCount a n → Cleared m p a n (alignedCount a n) k
+  pub bytes-cleared : (n : ℕ) → (WellFormed m) × (firstRefusal (byteWriteChecks (settingOf m) (viewOf m) p a n) ≡ 0) → k ≡ touchedCount a n → Cleared m p a n (alignedCount a n) k
   bytes-cleared n asks e =
       let h = bytes-passed (settingOf m) (viewOf m) p a n (asks .1) in
       let l = h .1 in
@@ -105,19 +105,19 @@ contents-end m f p n new room =
     short zero l = omega arith
     short (suc n) l = omega arith
 
-pub contents-cleared : (m : Mem) (p n k : ℕ) → p ≤ 4294967295 → (WellFormed m) × (number (allocateChecks (settingOf m) (viewOf m) p n) ≡ 0) → k ≡ touchedCount 0 n → Cleared m p 0 n 0 k
+pub contents-cleared : (m : Mem) (p n k : ℕ) → p ≤ 4294967295 → (WellFormed m) × (firstRefusal (allocateChecks (settingOf m) (viewOf m) p n) ≡ 0) → k ≡ touchedCount 0 n → Cleared m p 0 n 0 k
 contents-cleared m p n k page asks e =
     let h = allocate-passed (settingOf m) (viewOf m) p 0 n (asks .1) in
     record { formed = asks .0; page = page; known = h .0; room = h .3; end = contents-end m (asks .0) p n (h .2) (h .3 .chunks); count = e }
 
 -- an empty page
-pub allocate-asks : (m : Mem) (p : ℕ) → p ≤ 4294967295 → (WellFormed m) × (number (allocateChecks (settingOf m) (viewOf m) p 0) ≡ 0) → ListAsks m p
+pub allocate-asks : (m : Mem) (p : ℕ) → p ≤ 4294967295 → (WellFormed m) × (firstRefusal (allocateChecks (settingOf m) (viewOf m) p 0) ≡ 0) → ListAsks m p
 allocate-asks m p page asks =
     let h = allocate-passed (settingOf m) (viewOf m) p 0 0 (asks .1) in
     record { formed = asks .0; page = page; decodable = decodable (settingOf m) p (h .0); entry = h .3 .entry }
 
 -- a fixed page alone has a journal
-pub contents-unjournalled : (m : Mem) (p n : ℕ) → (WellFormed m) × (number (allocateChecks (settingOf m) (viewOf m) p n) ≡ 0) → (j : ℕ) → j < journalCount → p ≡ journalPage (layoutOf (m .words)) j → ⊥
+pub contents-unjournalled : (m : Mem) (p n : ℕ) → (WellFormed m) × (firstRefusal (allocateChecks (settingOf m) (viewOf m) p n) ≡ 0) → (j : ℕ) → j < journalCount → p ≡ journalPage (layoutOf (m .words)) j → ⊥
 contents-unjournalled m p n asks j k own =
     let h = allocate-passed (settingOf m) (viewOf m) p 0 n (asks .1) in
     false≢true (sym (h .1) ∙ is-fixed (layoutOf (m .words)) p (journalPlace j) (place-lt j k) own)

@@ -26,7 +26,7 @@ use Rattle.view.specs.Does.{Shows}
 use Rattle.view.specs.Inner.{listing, holding}
 use Rattle.view.proofs.Compose.{listed-held}
 use Rattle.view.proofs.Equal.{view-by}
-use Rattle.room.specs.Refusals.{number}
+use Rattle.room.specs.Refusals.{firstRefusal}
 use Rattle.pages.proofs.Listing.{listed-already}
 use Rattle.bodies.proofs.Pieces.{held-here}
 use Rattle.bodies.proofs.Puts.{shows-view}
@@ -70,7 +70,7 @@ entry-there m f s p k h =
     omega arith
 
 -- the slots s and t were found for the first and the last chunk of the word at address a of page p
-module _ (m : Mem) (p a : ℕ) (page : p ≤ 4294967295) (small : a ≤ 4294967295) (asks : (WellFormed m) × (number (wordWriteChecks (settingOf m) (viewOf m) p a) ≡ 0))
+module _ (m : Mem) (p a : ℕ) (page : p ≤ 4294967295) (small : a ≤ 4294967295) (asks : (WellFormed m) × (firstRefusal (wordWriteChecks (settingOf m) (viewOf m) p a) ≡ 0))
     (s t : ℕ) (ls : s < slotCount (m .words)) (lt : t < slotCount (m .words))
     (first : s ≡ slotFor (m .keys) (m .words) p (a / 256)) (last : t ≡ slotFor (m .keys) (m .words) p ((a + 31) / 256)) where
   f : WellFormed m
@@ -122,8 +122,8 @@ module _ (m : Mem) (p a : ℕ) where
   found-left ws = record { written = λ e. absurd (false≢true e); left = λ e. refl }
 
   module _ (m₁ : Mem) (e : m₁ ≡ m) where
-    pub left-asks : (WellFormed m) × (number (wordWriteChecks (settingOf m) (viewOf m) p a) ≡ 0) → (WellFormed m₁) × (number (wordWriteChecks (settingOf m₁) (viewOf m₁) p a) ≡ 0)
-    left-asks asks = subst (λ (x : Mem). (WellFormed x) × (number (wordWriteChecks (settingOf x) (viewOf x) p a) ≡ 0)) (sym e) asks
+    pub left-asks : (WellFormed m) × (firstRefusal (wordWriteChecks (settingOf m) (viewOf m) p a) ≡ 0) → (WellFormed m₁) × (firstRefusal (wordWriteChecks (settingOf m₁) (viewOf m₁) p a) ≡ 0)
+    left-asks asks = subst (λ (x : Mem). (WellFormed x) × (firstRefusal (wordWriteChecks (settingOf x) (viewOf x) p a) ≡ 0)) (sym e) asks
 
     pub left-shown : (ws : List ℕ) (m' : Mem) → Shows (settingOf m₁) (wordWritten (layoutOf (m₁ .words)) p a ws (viewOf m₁)) m' → Shows (settingOf m) (wordWritten (layoutOf (m .words)) p a ws (viewOf m)) m'
     left-shown ws m' shown = subst (λ (x : Mem). Shows (settingOf x) (wordWritten (layoutOf (x .words)) p a ws (viewOf x)) m') e shown

@@ -1,8 +1,9 @@
 // Writes and allocations: each call tests, and then refuses or does. vm2: the writing half of `Heaps`.
 ghost use mathlib.Core.List.{[]};
+ghost use Rattle.outcome.specs.Outcome.{answerOutcome};
 ghost use Rattle.word.specs.Value.{value};
 ghost use Rattle.store.specs.Mem.{mem};
-ghost use Rattle.view.specs.Calls.{Call, CallDoes, told};
+ghost use Rattle.view.specs.Calls.{Call, CallDoes, nothing};
 use outcome::Answer;
 use page_ids::Address;
 use page_ids::PageId;
@@ -20,7 +21,7 @@ pub fn write_u256(
     address: Address,
     word: Word,
 ) -> Answer
-    ensures { λ r. ⌜ CallDoes (mem (now (bytes .entry)) (now (keys .entry)) (now (order .entry)) (now (words .entry))) (Call.WriteWord (page .0) (address .0) (value (word .limbs))) (told r) (mem (now (bytes .exit)) (now (keys .exit)) (now (order .exit)) (now (words .exit))) ⌝ }
+    ensures { λ r. ⌜ CallDoes (mem (now (bytes .entry)) (now (keys .entry)) (now (order .entry)) (now (words .entry))) (Call.WriteWord (page .0) (address .0) (value (word .limbs))) (answerOutcome nothing r) (mem (now (bytes .exit)) (now (keys .exit)) (now (order .exit)) (now (words .exit))) ⌝ }
 {
     let refusal = refusals::word_refusal(bytes, keys, order, words, page.0, address.0);
     if refusal != 0 {
@@ -48,7 +49,7 @@ pub fn write_bytes(
     start: Address,
     src: &[u8],
 ) -> Answer
-    ensures { λ r. ⌜ CallDoes (mem (now (bytes .entry)) (now (keys .entry)) (now (order .entry)) (now (words .entry))) (Call.WriteBytes (page .0) (start .0) (now (src .entry))) (told r) (mem (now (bytes .exit)) (now (keys .exit)) (now (order .exit)) (now (words .exit))) ⌝ }
+    ensures { λ r. ⌜ CallDoes (mem (now (bytes .entry)) (now (keys .entry)) (now (order .entry)) (now (words .entry))) (Call.WriteBytes (page .0) (start .0) (now (src .entry))) (answerOutcome nothing r) (mem (now (bytes .exit)) (now (keys .exit)) (now (order .exit)) (now (words .exit))) ⌝ }
 {
     let refusal = refusals::bytes_refusal(bytes, keys, order, words, page.0, start.0, src.len());
     if refusal != 0 {
@@ -67,7 +68,7 @@ pub fn allocate_with_content_at(
     page: PageId,
     contents: &[u8],
 ) -> Answer
-    ensures { λ r. ⌜ CallDoes (mem (now (bytes .entry)) (now (keys .entry)) (now (order .entry)) (now (words .entry))) (Call.Allocate (page .0) (now (contents .entry))) (told r) (mem (now (bytes .exit)) (now (keys .exit)) (now (order .exit)) (now (words .exit))) ⌝ }
+    ensures { λ r. ⌜ CallDoes (mem (now (bytes .entry)) (now (keys .entry)) (now (order .entry)) (now (words .entry))) (Call.Allocate (page .0) (now (contents .entry))) (answerOutcome nothing r) (mem (now (bytes .exit)) (now (keys .exit)) (now (order .exit)) (now (words .exit))) ⌝ }
 {
     let refusal = refusals::allocate_refusal(bytes, keys, order, words, page.0, contents.len());
     if refusal != 0 {
@@ -85,7 +86,7 @@ pub fn allocate_at(
     words: &mut [u64],
     page: PageId,
 ) -> Answer
-    ensures { λ r. ⌜ CallDoes (mem (now (bytes .entry)) (now (keys .entry)) (now (order .entry)) (now (words .entry))) (Call.Allocate (page .0) []) (told r) (mem (now (bytes .exit)) (now (keys .exit)) (now (order .exit)) (now (words .exit))) ⌝ }
+    ensures { λ r. ⌜ CallDoes (mem (now (bytes .entry)) (now (keys .entry)) (now (order .entry)) (now (words .entry))) (Call.Allocate (page .0) []) (answerOutcome nothing r) (mem (now (bytes .exit)) (now (keys .exit)) (now (order .exit)) (now (words .exit))) ⌝ }
 {
     let refusal = refusals::allocate_refusal(bytes, keys, order, words, page.0, 0);
     if refusal != 0 {

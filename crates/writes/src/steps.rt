@@ -9,7 +9,7 @@ ghost use Rattle.view.specs.Steps.{alignedCount, wordNotes, alignedNotes, wordW
 ghost use Rattle.view.specs.Checks.{wordWriteChecks, byteWriteChecks, allocateChecks};
 ghost use Rattle.view.specs.Does.{Shows};
 ghost use Rattle.view.specs.Inner.{listing, holding, journalling};
-ghost use Rattle.room.specs.Refusals.{number};
+ghost use Rattle.room.specs.Refusals.{firstRefusal};
 ghost use Rattle.writes.specs.Asks.{PrepareAsks, JournalAsks, WordAsks, wordPut, WrittenOrLeft};
 use store::head;
 
@@ -107,7 +107,7 @@ fn write_found(
     address: u32,
     value: [u8; 32],
 ) -> bool
-    requires { ⌜ (WellFormed (mem (now bytes) (now keys) (now order) (now words))) × (number (wordWriteChecks (settingOf (mem (now bytes) (now keys) (now order) (now words))) (viewOf (mem (now bytes) (now keys) (now order) (now words))) page address) ≡ 0) ⌝ }
+    requires { ⌜ (WellFormed (mem (now bytes) (now keys) (now order) (now words))) × (firstRefusal (wordWriteChecks (settingOf (mem (now bytes) (now keys) (now order) (now words))) (viewOf (mem (now bytes) (now keys) (now order) (now words))) page address) ≡ 0) ⌝ }
     ensures { λ r. ⌜ WrittenOrLeft (mem (now (bytes .entry)) (now (keys .entry)) (now (order .entry)) (now (words .entry))) page address value r (mem (now (bytes .exit)) (now (keys .entry)) (now (order .entry)) (now (words .exit))) ⌝ }
 {
     let c = words[head::CHUNKS] as usize;
@@ -151,7 +151,7 @@ fn write_new(
     address: u32,
     value: [u8; 32],
 )
-    requires { ⌜ (WellFormed (mem (now bytes) (now keys) (now order) (now words))) × (number (wordWriteChecks (settingOf (mem (now bytes) (now keys) (now order) (now words))) (viewOf (mem (now bytes) (now keys) (now order) (now words))) page address) ≡ 0) ⌝ }
+    requires { ⌜ (WellFormed (mem (now bytes) (now keys) (now order) (now words))) × (firstRefusal (wordWriteChecks (settingOf (mem (now bytes) (now keys) (now order) (now words))) (viewOf (mem (now bytes) (now keys) (now order) (now words))) page address) ≡ 0) ⌝ }
     ensures { λ _. ⌜ Shows (settingOf (mem (now (bytes .entry)) (now (keys .entry)) (now (order .entry)) (now (words .entry)))) (wordWritten (layoutOf (now (words .entry))) page address value (viewOf (mem (now (bytes .entry)) (now (keys .entry)) (now (order .entry)) (now (words .entry))))) (mem (now (bytes .exit)) (now (keys .exit)) (now (order .exit)) (now (words .exit))) ⌝ }
 {
     let count = room::touched(address, 32) as u32;
@@ -168,7 +168,7 @@ pub fn write_word(
     address: u32,
     value: [u8; 32],
 )
-    requires { ⌜ (WellFormed (mem (now bytes) (now keys) (now order) (now words))) × (number (wordWriteChecks (settingOf (mem (now bytes) (now keys) (now order) (now words))) (viewOf (mem (now bytes) (now keys) (now order) (now words))) page address) ≡ 0) ⌝ }
+    requires { ⌜ (WellFormed (mem (now bytes) (now keys) (now order) (now words))) × (firstRefusal (wordWriteChecks (settingOf (mem (now bytes) (now keys) (now order) (now words))) (viewOf (mem (now bytes) (now keys) (now order) (now words))) page address) ≡ 0) ⌝ }
     ensures { λ _. ⌜ Shows (settingOf (mem (now (bytes .entry)) (now (keys .entry)) (now (order .entry)) (now (words .entry)))) (wordWritten (layoutOf (now (words .entry))) page address value (viewOf (mem (now (bytes .entry)) (now (keys .entry)) (now (order .entry)) (now (words .entry))))) (mem (now (bytes .exit)) (now (keys .exit)) (now (order .exit)) (now (words .exit))) ⌝ }
 {
     if write_found(bytes, keys, order, words, page, address, value) {
@@ -186,7 +186,7 @@ pub fn write_range(
     start: u32,
     src: &[u8],
 )
-    requires { ⌜ (WellFormed (mem (now bytes) (now keys) (now order) (now words))) × (number (byteWriteChecks (settingOf (mem (now bytes) (now keys) (now order) (now words))) (viewOf (mem (now bytes) (now keys) (now order) (now words))) page start (length (now src))) ≡ 0) ⌝ }
+    requires { ⌜ (WellFormed (mem (now bytes) (now keys) (now order) (now words))) × (firstRefusal (byteWriteChecks (settingOf (mem (now bytes) (now keys) (now order) (now words))) (viewOf (mem (now bytes) (now keys) (now order) (now words))) page start (length (now src))) ≡ 0) ⌝ }
     ensures { λ _. ⌜ Shows (settingOf (mem (now (bytes .entry)) (now (keys .entry)) (now (order .entry)) (now (words .entry)))) (bytesWritten (layoutOf (now (words .entry))) page start (now (src .entry)) (viewOf (mem (now (bytes .entry)) (now (keys .entry)) (now (order .entry)) (now (words .entry))))) (mem (now (bytes .exit)) (now (keys .exit)) (now (order .exit)) (now (words .exit))) ⌝ }
 {
     let count = room::touched(start, src.len()) as u32;
@@ -204,7 +204,7 @@ pub fn fill(
     page: u32,
     contents: &[u8],
 )
-    requires { ⌜ (WellFormed (mem (now bytes) (now keys) (now order) (now words))) × (number (allocateChecks (settingOf (mem (now bytes) (now keys) (now order) (now words))) (viewOf (mem (now bytes) (now keys) (now order) (now words))) page (length (now contents))) ≡ 0) ⌝ }
+    requires { ⌜ (WellFormed (mem (now bytes) (now keys) (now order) (now words))) × (firstRefusal (allocateChecks (settingOf (mem (now bytes) (now keys) (now order) (now words))) (viewOf (mem (now bytes) (now keys) (now order) (now words))) page (length (now contents))) ≡ 0) ⌝ }
     ensures { λ _. ⌜ Shows (settingOf (mem (now (bytes .entry)) (now (keys .entry)) (now (order .entry)) (now (words .entry)))) (contentsAllocated (layoutOf (now (words .entry))) page (now (contents .entry)) (viewOf (mem (now (bytes .entry)) (now (keys .entry)) (now (order .entry)) (now (words .entry))))) (mem (now (bytes .exit)) (now (keys .exit)) (now (order .exit)) (now (words .exit))) ⌝ }
 {
     let count = room::touched(0, contents.len()) as u32;

@@ -6,7 +6,7 @@ use mathlib.Core.List.{List, [], _∷_}
 use Prim.Native.Nat.{ℕ, suc, _+_, _^_}
 use lib.Dec.{leb, ltb}
 use lib.ListN.{length}
-use Rattle.outcome.specs.Outcome.{Outcome, refused, done, answered, mapped, numberOf}
+use Rattle.outcome.specs.Outcome.{Outcome, refused, done, answered, mapped, refusalNumber}
 use Rattle.zincpapaya.specs.Interface.{Gives}
 use Rattle.page_ids.specs.declared.Layout.{Layout}
 use Rattle.page_ids.specs.declared.DynamicPageKind.{DynamicPageKind}
@@ -17,7 +17,7 @@ use Rattle.page_ids.specs.Decode.{badLayout, pageOf, decoding}
 use Rattle.state.specs.declared.Step.{Step}
 use Rattle.state.specs.Quote.{quoted}
 use Rattle.zincpapaya.specs.Executing.{bit, grownNumbers}
-use Rattle.zincpapaya.specs.Numbers.{kindOf, groupOf, outAfter, Tells, Grows}
+use Rattle.zincpapaya.specs.Numbers.{kindOf, groupOf, numbersAfter, Reports, Grows}
 
 -- ---- an outcome that a status can tell: no panic, and no refusal with 0
 pub data Plain {A : Type 0} : Outcome A → Type 0 where
@@ -39,7 +39,7 @@ module _ {A : Type 0} (n : ℕ) (means : List ℕ → A) (out : List ℕ) where
 
   -- ---- the length that is asked for
   module _ (e : length out ≡ n) (numbers : A → List ℕ) (inverse : (a : A) → means (numbers a) ≡ a) where
-    plainly : {o : Outcome A} → Plain o → {r : ℕ} {out' : List ℕ} → Tells numbers o out r out' → Gives n o means r out out'
+    plainly : {o : Outcome A} → Plain o → {r : ℕ} {out' : List ℕ} → Reports numbers o out r out' → Gives n o means r out out'
     plainly refuses {r} {out'} t = record {
       unfit = λ h. absurd (h e);
       answer = λ _. ap (λ (s : ℕ). answered s (means out')) (t .status);
@@ -51,8 +51,8 @@ module _ {A : Type 0} (n : ℕ) (means : List ℕ → A) (out : List ℕ) where
       kept = λ h. absurd (h (t .status));
     }
 
-    pub gives : {o outcome : Outcome A} → o ≡ outcome → Plain outcome → {r : ℕ} {out' : List ℕ} → Tells numbers o out r out' → Gives n outcome means r out out'
-    gives q p {r} {out'} t = plainly p (subst (λ (x : Outcome A). Tells numbers x out r out') q t)
+    pub gives : {o outcome : Outcome A} → o ≡ outcome → Plain outcome → {r : ℕ} {out' : List ℕ} → Reports numbers o out r out' → Gives n outcome means r out out'
+    gives q p {r} {out'} t = plainly p (subst (λ (x : Outcome A). Reports numbers x out r out') q t)
 
 -- nothing is refused
 module _ {A : Type 0} (n : ℕ) (a : A) (means : List ℕ → A) (out : List ℕ) where
@@ -77,8 +77,8 @@ pub quoted-plain : (list : List ℕ) (gas bound : ℕ) → Plain (quoted list ga
 quoted-plain list gas bound = either (ltb 4096 (length list)) refuses answers
 
 -- ---- what the parts tell
-pub done-told : {A : Type 0} {numbers : A → List ℕ} {o : Outcome A} {a : A} → o ≡ done a → {out : List ℕ} {r : ℕ} {out' : List ℕ} → r ≡ 0 → out' ≡ numbers a → Tells numbers o out r out'
-done-told {numbers = numbers} q {out} {r} {out'} z e = record { status = z ∙ sym (ap numberOf q); out-is = e ∙ sym (ap (λ (x : Outcome _). outAfter numbers x out) q) }
+pub done-told : {A : Type 0} {numbers : A → List ℕ} {o : Outcome A} {a : A} → o ≡ done a → {out : List ℕ} {r : ℕ} {out' : List ℕ} → r ≡ 0 → out' ≡ numbers a → Reports numbers o out r out'
+done-told {numbers = numbers} q {out} {r} {out'} z e = record { status = z ∙ sym (ap refusalNumber q); out-is = e ∙ sym (ap (λ (x : Outcome _). numbersAfter numbers x out) q) }
 
 -- the kind of a dynamic page does not hang on its group
 pub any-group : (kind : DynamicPageKind) (g : ℕ) → kindOf (pageOf (Dynamic kind 0)) ≡ kindOf (pageOf (Dynamic kind g))

@@ -9,7 +9,7 @@ use Rattle.word.specs.Value.{value}
 use Rattle.state.specs.declared.Frame.{Frame}
 use Rattle.fat_pointer.specs.declared.FatPointer.{FatPointer}
 use Rattle.instructions.specs.declared.Execution.{Execution}
-use Rattle.zincpapaya.specs.Executing.{bit, limbsPut, frameNumbers, givenNumbers}
+use Rattle.zincpapaya.specs.Executing.{bit, limbsPut, frameNumbers, resultNumbers}
 use Rattle.zincpapaya.specs.Numbers.{pointerAt}
 
 -- l with the numbers v written from place k on, one after the other
@@ -47,11 +47,11 @@ frame-put f l h b e =
     ∙ ap (λ (x : ℕ). f .gas ∷ f .heap .0 ∷ f .aux .0 ∷ f .«heap_bound» ∷ f .«aux_bound» ∷ x ∷ []) e
 
 pub given-put : (x : Execution) (h : ℕ) (l : List ℕ) → length l ≡ 10 → {l₁ l₂ : List ℕ} {t u : ℕ} → l₁ ≡ limbsPut l 0 (x .word .limbs) → l₂ ≡ limbsPut l₁ 4 (x .operand .word .limbs)
-    → t ≡ bit (x .operand .tagged) → u ≡ h → set (set l₂ 8 t) 9 u ≡ givenNumbers x h
+    → t ≡ bit (x .operand .tagged) → u ≡ h → set (set l₂ 8 t) 9 u ≡ resultNumbers x h
 given-put x h l e d g p q =
     (λ i. set (set (g i) 8 (p i)) 9 (q i))
     ∙ ap (λ (y : List ℕ). set (set (limbsPut y 4 (x .operand .word .limbs)) 8 (bit (x .operand .tagged))) 9 h) d
-    ∙ overwritten (givenNumbers x h) l e
+    ∙ overwritten (resultNumbers x h) l e
 
 pub pointer-put : (l : List ℕ) → length l ≡ 4 → (p : FatPointer) {a b c d : ℕ} → a ≡ p .offset → b ≡ p .«memory_page» .0 → c ≡ p .start → d ≡ p .length
     → pointerAt (set (set (set (set l 0 a) 1 b) 2 c) 3 d) ≡ p

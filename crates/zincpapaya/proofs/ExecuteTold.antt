@@ -18,20 +18,20 @@ use Rattle.store.specs.Mem.{Mem}
 use Rattle.formed.specs.Formed.{wellFormed}
 use Rattle.view.specs.View.{settingOf, viewOf}
 use Rattle.view.specs.Checks.{Check, wordWriteChecks}
-use Rattle.view.specs.Instructions.{Operand, Hook, Given, Stop, running, onHook, heapOf, frameAlone, hooked, accessChecks, loaded, storeChecks, stored, pointerChecks, pointed, staticChecks, staticLoaded, staticStoreChecks, staticStored}
-use Rattle.view.specs.Calls.{Call, Value, Load, Store, LoadPointer, LoadStatic, StoreStatic, given, answerOf, CallDoes}
+use Rattle.view.specs.Instructions.{Operand, Hook, InstructionResult, Stop, running, onHook, heapOf, frameAlone, hooked, accessChecks, loaded, storeChecks, stored, pointerChecks, pointed, staticChecks, staticLoaded, staticStoreChecks, staticStored}
+use Rattle.view.specs.Calls.{Call, Value, Load, Store, LoadPointer, LoadStatic, StoreStatic, instructionResult, answerOf, CallDoes}
 use Rattle.instructions.specs.Executions as executions
-use Rattle.instructions.specs.Executions.{toldBy, told}
+use Rattle.instructions.specs.Executions.{statusOutcome, executionOutcome}
 use Rattle.instructions.specs.declared.Execution.{Execution}
 use Rattle.instructions.specs.declared.ExecutionStatus.{ExecutionStatus}
 use Rattle.instructions.specs.declared.ExecutionStatus.the-variants.{Running, SuspendedOnHook, Panicked, Refused}
-use Rattle.zincpapaya.specs.Executing.{bit, flag, frameOf, toldAs, frameNumbers, givenNumbers, statusOf, frameAfter, outAfter, Tells, Executes}
+use Rattle.zincpapaya.specs.Executing.{bit, flag, frameFrom, outcomeFrom, frameNumbers, resultNumbers, executionStatus, frameAfter, outAfter, ReportsExecution, Executes}
 
 -- ---- an outcome that a status can tell: a refusal's number is none of 0, 100, 101, and a panic gives the frame alone
 pub data Tellable : Outcome Value → Type 0 where
   refuses : {n : ℕ} → (ltb 0 n && ltb n 100) ≡ true → Tellable (refused n)
-  panics : {f : Frame} → Tellable (panicked (given (frameAlone f)))
-  gives : {g : Given} → Tellable (done (given g))
+  panics : {f : Frame} → Tellable (panicked (instructionResult (frameAlone f)))
+  gives : {g : InstructionResult} → Tellable (done (instructionResult g))
 
 data All : List (Check Value) → Type 0 where
   end : All []
@@ -51,25 +51,25 @@ module _ (m : Mem) (f : Frame) (x : Operand) where
   writes p a rest h = next (refuses refl) (next (refuses refl) (next (refuses refl) (next (refuses refl) h)))
 
   pub load-tellable : (area : Area) → Tellable (answerOf m (Load area f x))
-  load-tellable area = formed (first (accessChecks given area f (x .word)) (next panics end) (gives {g = loaded (viewOf m) area f x}))
+  load-tellable area = formed (first (accessChecks instructionResult area f (x .word)) (next panics end) (gives {g = loaded (viewOf m) area f x}))
 
   pub store-tellable : (area : Area) (n : ℕ) (h : Hook) → Tellable (answerOf m (Store area f x n h))
   store-tellable area n h =
       formed
-      (first (storeChecks given (settingOf m) (viewOf m) area f (x .word) n h)
+      (first (storeChecks instructionResult (settingOf m) (viewOf m) area f (x .word) n h)
       (next panics (writes (heapOf f area) (x .word) ((hooked h (x .word) && ltb 4294967295 n, refused 15) ∷ []) (next (refuses refl) end)))
       (gives {g = stored area f x n h}))
 
   pub pointer-tellable : Tellable (answerOf m (LoadPointer f x))
-  pointer-tellable = formed (first (pointerChecks given f x) (next panics (next panics (next (refuses refl) end))) (gives {g = pointed (viewOf m) f x}))
+  pointer-tellable = formed (first (pointerChecks instructionResult f x) (next panics (next panics (next (refuses refl) end))) (gives {g = pointed (viewOf m) f x}))
 
   pub static-tellable : Tellable (answerOf m (LoadStatic f x))
-  static-tellable = formed (first (staticChecks given f (x .word)) (next panics end) (gives {g = staticLoaded (settingOf m) (viewOf m) f x}))
+  static-tellable = formed (first (staticChecks instructionResult f (x .word)) (next panics end) (gives {g = staticLoaded (settingOf m) (viewOf m) f x}))
 
   pub static-store-tellable : (n : ℕ) → Tellable (answerOf m (StoreStatic f x n))
   static-store-tellable n =
       formed
-      (first (staticStoreChecks given (settingOf m) (viewOf m) f (x .word))
+      (first (staticStoreChecks instructionResult (settingOf m) (viewOf m) f (x .word))
       (next panics (next (refuses refl) (next (refuses refl) (next (refuses refl) (next (refuses refl) end)))))
       (gives {g = staticStored f x}))
 
@@ -81,11 +81,11 @@ refusal-is (refuses {n = k} h) n q =
 refusal-is panics n q = absurd (let z : _≡_ {A = ℕ} 0 1 = cc in omega arith)
 refusal-is gives n q = absurd (let z : _≡_ {A = ℕ} 0 1 = cc in omega arith)
 
-panic-is : {o : Outcome Value} → Tellable o → (g : Given) → o ≡ panicked (given g) → frameAlone (g .frame) ≡ g
+panic-is : {o : Outcome Value} → Tellable o → (g : InstructionResult) → o ≡ panicked (instructionResult g) → frameAlone (g .frame) ≡ g
 panic-is (refuses h) g q = absurd (let z : _≡_ {A = ℕ} 0 1 = cc in omega arith)
 panic-is (panics {f = f}) g q =
     let e : frameAlone f ≡ g = cc in
-    sym (ap (λ (x : Given). frameAlone (x .frame)) e) ∙ e
+    sym (ap (λ (x : InstructionResult). frameAlone (x .frame)) e) ∙ e
 panic-is gives g q = absurd (let z : _≡_ {A = ℕ} 0 1 = cc in omega arith)
 
 -- ---- numbers and back
@@ -97,14 +97,14 @@ bit-small : (b : Bool) → bit b < 2
 bit-small true = omega arith
 bit-small false = omega arith
 
-frame-back : (f : Frame) → frameOf (frameNumbers f) ≡ f
+frame-back : (f : Frame) → frameFrom (frameNumbers f) ≡ f
 frame-back f = λ i. record { gas = f .gas; heap = f .heap; aux = f .aux; «heap_bound» = f .«heap_bound»; «aux_bound» = f .«aux_bound»; panicked = flag-bit (f .panicked) i }
 
-abbrev back : Execution → ℕ → Stop → Given
+abbrev back : Execution → ℕ → Stop → InstructionResult
 back x h s = record {
-  word = value (givenNumbers x h);
-  operand = record { word = value (drop 4 (givenNumbers x h)); tag = flag (bit (x .operand .tagged)) };
-  frame = frameOf (frameNumbers (x .frame));
+  word = value (resultNumbers x h);
+  operand = record { word = value (drop 4 (resultNumbers x h)); tag = flag (bit (x .operand .tagged)) };
+  frame = frameFrom (frameNumbers (x .frame));
   stop = s;
 }
 
@@ -119,7 +119,7 @@ given-back x h s = λ i. record {
 
 -- ---- what is left by an execution x of the status s
 record Left (s : ExecutionStatus) (x : Execution) (frame out : List ℕ) (r : ℕ) (frame' out' : List ℕ) : Type 0 where
-  same : toldAs r frame' out' ≡ toldBy s (record { word = value (x .word .limbs); operand = executions.operandOf (x .operand); frame = x .frame; stop = executions.stopOf s })
+  same : outcomeFrom r frame' out' ≡ statusOutcome s (record { word = value (x .word .limbs); operand = executions.operandOf (x .operand); frame = x .frame; stop = executions.stopOf s })
   kept-out : (r ≡ 0 → ⊥) → (r ≡ 101 → ⊥) → out' ≡ out
   kept-frame : (r ≡ 0 → ⊥) → (r ≡ 100 → ⊥) → (r ≡ 101 → ⊥) → frame' ≡ frame
   mark : (frame' ≡ frame) ⊎ (getD frame' 5 0 < 2)
@@ -128,11 +128,11 @@ record Left (s : ExecutionStatus) (x : Execution) (frame out : List ℕ) (r : �
 
 module _ (x : Execution) (frame out : List ℕ) where
   abbrev told-at : ExecutionStatus → Outcome Value
-  told-at s = toldBy s (record { word = value (x .word .limbs); operand = executions.operandOf (x .operand); frame = x .frame; stop = executions.stopOf s })
+  told-at s = statusOutcome s (record { word = value (x .word .limbs); operand = executions.operandOf (x .operand); frame = x .frame; stop = executions.stopOf s })
 
-  left : (s : ExecutionStatus) → Tellable (told-at s) → Left s x frame out (statusOf s) (frameAfter s x frame) (outAfter s x out)
+  left : (s : ExecutionStatus) → Tellable (told-at s) → Left s x frame out (executionStatus s) (frameAfter s x frame) (outAfter s x out)
   left Running p = record {
-    same = ap (λ (g : Given). done (given g)) (given-back x 0 running);
+    same = ap (λ (g : InstructionResult). done (instructionResult g)) (given-back x 0 running);
     kept-out = λ a b. absurd (a refl);
     kept-frame = λ a b c. absurd (a refl);
     mark = inr (bit-small (x .frame .panicked));
@@ -140,7 +140,7 @@ module _ (x : Execution) (frame out : List ℕ) where
     no-stop = λ _. refl;
   }
   left (SuspendedOnHook h) p = record {
-    same = ap (λ (g : Given). done (given g)) (given-back x h (onHook h));
+    same = ap (λ (g : InstructionResult). done (instructionResult g)) (given-back x h (onHook h));
     kept-out = λ a b. absurd (b refl);
     kept-frame = λ a b c. absurd (c refl);
     mark = inr (bit-small (x .frame .panicked));
@@ -149,8 +149,8 @@ module _ (x : Execution) (frame out : List ℕ) where
   }
   left Panicked p = record {
     same =
-        ap (λ (f : Frame). panicked (given (frameAlone f))) (frame-back (x .frame))
-        ∙ ap (λ (g : Given). panicked (given g)) (panic-is p _ refl);
+        ap (λ (f : Frame). panicked (instructionResult (frameAlone f))) (frame-back (x .frame))
+        ∙ ap (λ (g : InstructionResult). panicked (instructionResult g)) (panic-is p _ refl);
     kept-out = λ a b. refl;
     kept-frame = λ a b c. absurd (b refl);
     mark = inr (bit-small (x .frame .panicked));
@@ -183,13 +183,13 @@ module _ (m : Mem) (c : Call) (frame out : List ℕ) where
 
   module _ (a : length frame ≡ 6) (b : length out ≡ 10) (tellable : Tellable (answerOf m c)) where
     -- d is the call as it was made
-    pub executes : {d : Call} → d ≡ c → {m' : Mem} (x : Execution) → CallDoes m d (told x) m' → {r : ℕ} {frame' out' : List ℕ} → Tells x frame out r frame' out' → Executes m c frame out r m' frame' out'
+    pub executes : {d : Call} → d ≡ c → {m' : Mem} (x : Execution) → CallDoes m d (executionOutcome x) m' → {r : ℕ} {frame' out' : List ℕ} → ReportsExecution x frame out r frame' out' → Executes m c frame out r m' frame' out'
     executes {d} q {m'} x does {r} {frame'} {out'} t =
-        let done : CallDoes m c (told x) m' = subst (λ (y : Call). CallDoes m y (told x) m') q does in
+        let done : CallDoes m c (executionOutcome x) m' = subst (λ (y : Call). CallDoes m y (executionOutcome x) m') q does in
         let h : Left (x .status) x frame out r frame' out' =
         subst (λ (z : ℕ). Left (x .status) x frame out z frame' out') (sym (t .status))
-        (subst (λ (z : List ℕ). Left (x .status) x frame out (statusOf (x .status)) z out') (sym (t .frame-is))
-        (subst (λ (z : List ℕ). Left (x .status) x frame out (statusOf (x .status)) (frameAfter (x .status) x frame) z) (sym (t .out-is))
+        (subst (λ (z : List ℕ). Left (x .status) x frame out (executionStatus (x .status)) z out') (sym (t .frame-is))
+        (subst (λ (z : List ℕ). Left (x .status) x frame out (executionStatus (x .status)) (frameAfter (x .status) x frame) z) (sym (t .out-is))
         (left x frame out (x .status) (subst Tellable (sym (done .answer)) tellable)))) in
         record {
           unfit = λ n. absurd (n (a, b));
@@ -219,14 +219,14 @@ static-store-is e q w = λ i. StoreStatic (e i) (q i) (w i)
 
 -- ---- what the parts tell
 module _ (x : Execution) {frame out frame' : List ℕ} (e : frame' ≡ frameNumbers (x .frame)) where
-  pub panic-told : x .status ≡ Panicked → Tells x frame out 100 frame' out
-  panic-told q = record { status = sym (ap statusOf q); frame-is = e ∙ sym (ap (λ (s : ExecutionStatus). frameAfter s x frame) q); out-is = sym (ap (λ (s : ExecutionStatus). outAfter s x out) q) }
+  pub panic-told : x .status ≡ Panicked → ReportsExecution x frame out 100 frame' out
+  panic-told q = record { status = sym (ap executionStatus q); frame-is = e ∙ sym (ap (λ (s : ExecutionStatus). frameAfter s x frame) q); out-is = sym (ap (λ (s : ExecutionStatus). outAfter s x out) q) }
 
-  pub run-told : x .status ≡ Running → {out' : List ℕ} → out' ≡ givenNumbers x 0 → Tells x frame out 0 frame' out'
-  run-told q d = record { status = sym (ap statusOf q); frame-is = e ∙ sym (ap (λ (s : ExecutionStatus). frameAfter s x frame) q); out-is = d ∙ sym (ap (λ (s : ExecutionStatus). outAfter s x out) q) }
+  pub run-told : x .status ≡ Running → {out' : List ℕ} → out' ≡ resultNumbers x 0 → ReportsExecution x frame out 0 frame' out'
+  run-told q d = record { status = sym (ap executionStatus q); frame-is = e ∙ sym (ap (λ (s : ExecutionStatus). frameAfter s x frame) q); out-is = d ∙ sym (ap (λ (s : ExecutionStatus). outAfter s x out) q) }
 
-  pub stop-told : {h : ℕ} → x .status ≡ SuspendedOnHook h → {out' : List ℕ} → out' ≡ givenNumbers x h → Tells x frame out 101 frame' out'
-  stop-told q d = record { status = sym (ap statusOf q); frame-is = e ∙ sym (ap (λ (s : ExecutionStatus). frameAfter s x frame) q); out-is = d ∙ sym (ap (λ (s : ExecutionStatus). outAfter s x out) q) }
+  pub stop-told : {h : ℕ} → x .status ≡ SuspendedOnHook h → {out' : List ℕ} → out' ≡ resultNumbers x h → ReportsExecution x frame out 101 frame' out'
+  stop-told q d = record { status = sym (ap executionStatus q); frame-is = e ∙ sym (ap (λ (s : ExecutionStatus). frameAfter s x frame) q); out-is = d ∙ sym (ap (λ (s : ExecutionStatus). outAfter s x out) q) }
 
 pub operand-made : (tagged : Bool) {w n : ℕ} → w ≡ n → _≡_ {A = Operand} (record { word = w; tag = tagged }) (record { word = n; tag = tagged })
 operand-made tagged e = λ i. record { word = e i; tag = tagged }

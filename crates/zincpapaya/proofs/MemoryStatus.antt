@@ -7,8 +7,7 @@ use Prim.Native.Nat.{ℕ, zero, suc, _*_, _-_}
 use native.Mathlib.Omega.{arith}
 use lib.Dec.{eqb}
 use lib.ListN.{length}
-use Rattle.outcome.specs.Outcome as outcomes
-use Rattle.outcome.specs.Outcome.{Outcome, refused, panicked, done, carriedOut, firstOf, mapped, answered}
+use Rattle.outcome.specs.Outcome.{Outcome, refused, panicked, done, carriedOut, firstOf, mapped, answered, answerOutcome, statusOf}
 use Rattle.outcome.specs.declared.Answer.{Answer}
 use Rattle.outcome.specs.declared.Answer.the-variants.{Done, Refused}
 use Rattle.store.specs.Mem.{Mem, layoutOf}
@@ -20,12 +19,12 @@ use Rattle.view.specs.View.{View, Setting, settingOf, viewOf}
 use Rattle.view.specs.Steps.{run, alike}
 use Rattle.view.specs.Checks.{Check, lengthsRight, openingChecks, allocateChecks, partialChecks, rangeChecks, lookupChecks, wordWriteChecks, byteWriteChecks, freeChecks, truncateChecks, compareChecks, rollbackChecks, onMemory}
 use Rattle.view.specs.Instructions.{accessChecks, loaded, storeChecks, stored, pointerChecks, pointed, staticChecks, staticLoaded, staticStoreChecks, staticStored}
-use Rattle.view.specs.Calls.{Call, Value, Open, Allocate, ReadWord, ReadPartial, ReadRange, ReadByte, DynamicLength, WriteWord, WriteBytes, Lookup, LookupCheck, Free, Window, Truncate, CompareLeft, CompareRight, CompareBoth, Snapshot, Rollback, DeleteHistory, Load, Store, LoadPointer, LoadStatic, StoreStatic, nothing, given, bytes, verdict, sameLengths, outcomeOf, answerOf, comparisonOf, CallDoes, OpenDoes, told}
+use Rattle.view.specs.Calls.{Call, Value, Open, Allocate, ReadWord, ReadPartial, ReadRange, ReadByte, DynamicLength, WriteWord, WriteBytes, Lookup, LookupCheck, Free, Window, Truncate, CompareLeft, CompareRight, CompareBoth, Snapshot, Rollback, DeleteHistory, Load, Store, LoadPointer, LoadStatic, StoreStatic, nothing, instructionResult, bytes, verdict, sameLengths, outcomeOf, answerOf, comparisonOf, CallDoes, OpenDoes}
 use Rattle.view.specs.Does.{Does}
 use Rattle.reads.specs.Calls.{RangeDoes}
 use Rattle.reads.proofs.Answers.{well, lookup-good, block-long, block-zero}
 use Rattle.reads.proofs.Calls.{range-call}
-use Rattle.zincpapaya.specs.Interface.{statusOf, Gives, chunkAnswer}
+use Rattle.zincpapaya.specs.Interface.{Gives, chunkAnswer}
 
 -- ---- no outcome is a refusal with 0
 abbrev sound : {A : Type 0} → Outcome A → Bool
@@ -72,11 +71,11 @@ module _ (s : Setting) (v : View) where
   outcome-sound Snapshot = refl
   outcome-sound (Rollback heap aux) = first-sound (rollbackChecks v heap aux) (done nothing) refl refl
   outcome-sound DeleteHistory = refl
-  outcome-sound (Load area f x) = first-sound (accessChecks given area f (x .word)) (done (given (loaded v area f x))) refl refl
-  outcome-sound (Store area f x n h) = first-sound (storeChecks given s v area f (x .word) n h) (done (given (stored area f x n h))) refl refl
-  outcome-sound (LoadPointer f x) = first-sound (pointerChecks given f x) (done (given (pointed v f x))) refl refl
-  outcome-sound (LoadStatic f x) = first-sound (staticChecks given f (x .word)) (done (given (staticLoaded s v f x))) refl refl
-  outcome-sound (StoreStatic f x n) = first-sound (staticStoreChecks given s v f (x .word)) (done (given (staticStored f x))) refl refl
+  outcome-sound (Load area f x) = first-sound (accessChecks instructionResult area f (x .word)) (done (instructionResult (loaded v area f x))) refl refl
+  outcome-sound (Store area f x n h) = first-sound (storeChecks instructionResult s v area f (x .word) n h) (done (instructionResult (stored area f x n h))) refl refl
+  outcome-sound (LoadPointer f x) = first-sound (pointerChecks instructionResult f x) (done (instructionResult (pointed v f x))) refl refl
+  outcome-sound (LoadStatic f x) = first-sound (staticChecks instructionResult f (x .word)) (done (instructionResult (staticLoaded s v f x))) refl refl
+  outcome-sound (StoreStatic f x n) = first-sound (staticStoreChecks instructionResult s v f (x .word)) (done (instructionResult (staticStored f x))) refl refl
 
 -- every call that is lent a memory
 pub answer-sound : (m : Mem) (c : Call) → sound (answerOf m c) ≡ true
@@ -93,50 +92,50 @@ comparison-nonzero m n e z =
     zero-unsound (first-sound ((not (wellFormed m), refused 3) ∷ compareChecks (layoutOf (m .words)) n) (done (verdict (alike (viewOf m) (viewOf n)))) refl refl) (sym e ∙ z)
 
 -- ---- the status of an answer
-by-status : (a : Answer) → sound (told a) ≡ true → answered (statusOf a) nothing ≡ told a
+by-status : (a : Answer) → sound (answerOutcome nothing a) ≡ true → answered (statusOf a) nothing ≡ answerOutcome nothing a
 by-status Done h = refl
 by-status (Refused zero) h = absurd (false≢true h)
 by-status (Refused (suc n)) h = refl
 
 module _ {m m' : Mem} {o : Outcome Value} {s : Setting} {v : View} (a : Answer) (r : ℕ) where
-  does-by : sound o ≡ true → r ≡ statusOf a → Does m o s v (told a) m' → Does m o s v (answered r nothing) m'
+  does-by : sound o ≡ true → r ≡ statusOf a → Does m o s v (answerOutcome nothing a) m' → Does m o s v (answered r nothing) m'
   does-by h e d = record {
     answer = ap (λ (x : ℕ). answered x nothing) e ∙ by-status a (ap sound (d .answer) ∙ h) ∙ d .answer;
     kept = d .kept;
     changed = d .changed;
   }
 
-pub call-status : (m : Mem) (c : Call) {m' : Mem} (a : Answer) (r : ℕ) → r ≡ statusOf a → CallDoes m c (told a) m' → CallDoes m c (answered r nothing) m'
+pub call-status : (m : Mem) (c : Call) {m' : Mem} (a : Answer) (r : ℕ) → r ≡ statusOf a → CallDoes m c (answerOutcome nothing a) m' → CallDoes m c (answered r nothing) m'
 call-status m c a r e d = does-by a r (answer-sound m c) e d
 
-pub open-status : (m : Mem) (s : Setting) (calldata : List ℕ) {m' : Mem} (a : Answer) (r : ℕ) → r ≡ statusOf a → OpenDoes m s calldata (told a) m' → OpenDoes m s calldata (answered r nothing) m'
+pub open-status : (m : Mem) (s : Setting) (calldata : List ℕ) {m' : Mem} (a : Answer) (r : ℕ) → r ≡ statusOf a → OpenDoes m s calldata (answerOutcome nothing a) m' → OpenDoes m s calldata (answered r nothing) m'
 open-status m s calldata a r e d = does-by a r (opening-sound m s (length calldata)) e d
 
-pub word-status : (m : Mem) (p x : ℕ) {n k : ℕ} {m' : Mem} (a : Answer) (r : ℕ) → n ≡ k → r ≡ statusOf a → CallDoes m (WriteWord p x n) (told a) m' → CallDoes m (WriteWord p x k) (answered r nothing) m'
+pub word-status : (m : Mem) (p x : ℕ) {n k : ℕ} {m' : Mem} (a : Answer) (r : ℕ) → n ≡ k → r ≡ statusOf a → CallDoes m (WriteWord p x n) (answerOutcome nothing a) m' → CallDoes m (WriteWord p x k) (answered r nothing) m'
 word-status m p x {n} {k} {m'} a r q e d = subst (λ (y : ℕ). CallDoes m (WriteWord p x y) (answered r nothing) m') q (call-status m (WriteWord p x n) a r e d)
 
 -- ---- the same of an answer beside an output
 module _ (a : Answer) (r : ℕ) (e : r ≡ statusOf a) where
-  beside : (w : Value) → sound (outcomes.told a) ≡ true → answered r w ≡ mapped (λ _. w) (outcomes.told a)
+  beside : (w : Value) → sound (answerOutcome tt a) ≡ true → answered r w ≡ mapped (λ _. w) (answerOutcome tt a)
   beside w h = ap (λ (x : ℕ). answered x w) e ∙ go a h
     where
-      go : (b : Answer) → sound (outcomes.told b) ≡ true → answered (statusOf b) w ≡ mapped (λ _. w) (outcomes.told b)
+      go : (b : Answer) → sound (answerOutcome tt b) ≡ true → answered (statusOf b) w ≡ mapped (λ _. w) (answerOutcome tt b)
       go Done h = refl
       go (Refused zero) h = absurd (false≢true h)
       go (Refused (suc n)) h = refl
 
-  not-out : (r ≡ 0 → ⊥) → carriedOut (outcomes.told a) ≡ false
+  not-out : (r ≡ 0 → ⊥) → carriedOut (answerOutcome tt a) ≡ false
   not-out z = go a e
     where
-      go : (b : Answer) → r ≡ statusOf b → carriedOut (outcomes.told b) ≡ false
+      go : (b : Answer) → r ≡ statusOf b → carriedOut (answerOutcome tt b) ≡ false
       go Done q = absurd (z q)
       go (Refused n) q = refl
 
   -- a status of 0 is of no refusal
-  out : sound (outcomes.told a) ≡ true → r ≡ 0 → outcomes.told a ≡ done tt
+  out : sound (answerOutcome tt a) ≡ true → r ≡ 0 → answerOutcome tt a ≡ done tt
   out h z = go a h (sym e ∙ z)
     where
-      go : (b : Answer) → sound (outcomes.told b) ≡ true → statusOf b ≡ 0 → outcomes.told b ≡ done tt
+      go : (b : Answer) → sound (answerOutcome tt b) ≡ true → statusOf b ≡ 0 → answerOutcome tt b ≡ done tt
       go Done h q = refl
       go (Refused zero) h q = absurd (false≢true h)
       go (Refused (suc n)) h q = absurd (omega arith)
@@ -145,17 +144,17 @@ checked-sound : {A : Type 0} (m : Mem) (checks : List (Check A)) (x : A) → all
 checked-sound m checks x h = first-sound ((not (wellFormed m), refused 3) ∷ checks) (done x) h refl
 
 -- a range read
-pub range-status : (m : Mem) (p x y : ℕ) (o d : List ℕ) (a : Answer) (r : ℕ) → r ≡ statusOf a → RangeDoes (onMemory m (rangeChecks x y (length o)) tt) (outcomes.told a) (run (viewOf m) p x (y - x)) o d
+pub range-status : (m : Mem) (p x y : ℕ) (o d : List ℕ) (a : Answer) (r : ℕ) → r ≡ statusOf a → RangeDoes (onMemory m (rangeChecks x y (length o)) tt) (answerOutcome tt a) (run (viewOf m) p x (y - x)) o d
     → Gives (length o) (answerOf m (ReadRange p x y (length o))) bytes r o d
 range-status m p x y o d a r e g = record {
   unfit = λ z. absurd (z refl);
-  answer = λ _. beside a r e (bytes d) (ap sound (g .answer) ∙ checked-sound m (rangeChecks x y (length o)) tt refl) ∙ range-call m p x y o d (outcomes.told a) g .answer;
+  answer = λ _. beside a r e (bytes d) (ap sound (g .answer) ∙ checked-sound m (rangeChecks x y (length o)) tt refl) ∙ range-call m p x y o d (answerOutcome tt a) g .answer;
   kept = λ z. g .kept (sym (ap carriedOut (g .answer)) ∙ not-out a r e z);
 }
 
 -- ---- a chunk
-module _ (m : Mem) (p k : ℕ) (block o : List ℕ) (a : Answer) (r : ℕ) (l : length o ≡ 256) (e : r ≡ statusOf a) (t : outcomes.told a ≡ onMemory m (lookupChecks block) tt) where
-  is-sound : sound (outcomes.told a) ≡ true
+module _ (m : Mem) (p k : ℕ) (block o : List ℕ) (a : Answer) (r : ℕ) (l : length o ≡ 256) (e : r ≡ statusOf a) (t : answerOutcome tt a ≡ onMemory m (lookupChecks block) tt) where
+  is-sound : sound (answerOutcome tt a) ≡ true
   is-sound = ap sound t ∙ checked-sound m (lookupChecks block) tt refl
 
   pub chunk-refused : (r ≡ 0 → ⊥) → Gives 256 (chunkAnswer m p k block) bytes r o o

@@ -13,8 +13,8 @@ use Rattle.state.specs.declared.Frame.{Frame}
 use Rattle.state.specs.declared.Area.{Area}
 use Rattle.state.specs.declared.Area.the-variants.{Heap, Aux}
 use Rattle.store.specs.Mem.{Mem}
-use Rattle.view.specs.Instructions.{Operand, Hook, Given, running, onHook, frameAlone}
-use Rattle.view.specs.Calls.{Call, Value, given, CallDoes}
+use Rattle.view.specs.Instructions.{Operand, Hook, InstructionResult, running, onHook, frameAlone}
+use Rattle.view.specs.Calls.{Call, Value, instructionResult, CallDoes}
 use Rattle.instructions.specs.declared.Execution.{Execution}
 use Rattle.instructions.specs.declared.ExecutionStatus.{ExecutionStatus}
 use Rattle.instructions.specs.declared.ExecutionStatus.the-variants.{Running, SuspendedOnHook, Panicked, Refused}
@@ -32,8 +32,8 @@ areaOf true = Aux
 areaOf false = Heap
 
 -- the frame that six numbers are: gas, heap page, aux page, heap bound, aux bound, and the panic's mark
-abbrev pub frameOf : List ℕ → Frame
-frameOf l = record {
+abbrev pub frameFrom : List ℕ → Frame
+frameFrom l = record {
   gas = getD l 0 0;
   heap = record { 0 = getD l 1 0 };
   aux = record { 0 = getD l 2 0 };
@@ -43,29 +43,29 @@ frameOf l = record {
 }
 
 -- the operand of four limbs and a tag
-abbrev pub operandOf : (x0 x1 x2 x3 : ℕ) → Bool → Operand
-operandOf x0 x1 x2 x3 tagged = record { word = limbsValue x0 x1 x2 x3; tag = tagged }
+abbrev pub operandFrom : (x0 x1 x2 x3 : ℕ) → Bool → Operand
+operandFrom x0 x1 x2 x3 tagged = record { word = limbsValue x0 x1 x2 x3; tag = tagged }
 
-abbrev pub hookOf : Bool → ℕ → Hook
-hookOf on address = record { on = on; address = address }
+abbrev pub hookFrom : Bool → ℕ → Hook
+hookFrom on address = record { on = on; address = address }
 
 -- ---- answers
 -- what an instruction gives: `out` is the word (4 limbs), the operand (4 limbs), its tag and the hook's value; status 101 says that the hook stops the run
-abbrev pub givenOf : ℕ → (frame out : List ℕ) → Given
-givenOf r frame out = record {
+abbrev pub resultFrom : ℕ → (frame out : List ℕ) → InstructionResult
+resultFrom r frame out = record {
   word = value out;
   operand = record { word = value (drop 4 out); tag = flag (getD out 8 0) };
-  frame = frameOf frame;
+  frame = frameFrom frame;
   stop = cond (eqb r 101) (onHook (getD out 9 0)) running;
 }
 
 -- the outcome that status, frame and `out` tell: carried out, panicked, carried out and stopped, or refused
-abbrev pub toldAs : ℕ → (frame out : List ℕ) → Outcome Value
-toldAs r frame out =
+abbrev pub outcomeFrom : ℕ → (frame out : List ℕ) → Outcome Value
+outcomeFrom r frame out =
     firstOf
-    ((eqb r 0, done (given (givenOf r frame out)))
-    ∷ (eqb r 100, panicked (given (frameAlone (frameOf frame))))
-    ∷ (eqb r 101, done (given (givenOf r frame out)))
+    ((eqb r 0, done (instructionResult (resultFrom r frame out)))
+    ∷ (eqb r 100, panicked (instructionResult (frameAlone (frameFrom frame))))
+    ∷ (eqb r 101, done (instructionResult (resultFrom r frame out)))
     ∷ [])
     (refused r)
 
@@ -74,7 +74,7 @@ pub record Executes (m : Mem) (c : Call) (frame out : List ℕ) (r : ℕ) (m' : 
   -- a frame has six numbers and `out` ten, or nothing is done
   pub unfit : ((length frame ≡ 6) × (length out ≡ 10) → ⊥) → (r ≡ 102) × ((m' ≡ m) × ((frame' ≡ frame) × (out' ≡ out)))
   -- that of every call on a memory
-  pub does : length frame ≡ 6 → length out ≡ 10 → CallDoes m c (toldAs r frame' out') m'
+  pub does : length frame ≡ 6 → length out ≡ 10 → CallDoes m c (outcomeFrom r frame' out') m'
   -- `out` is as it was where the instruction is refused or panics, the frame where it is refused
   pub kept-out : (r ≡ 0 → ⊥) → (r ≡ 101 → ⊥) → out' ≡ out
   pub kept-frame : (r ≡ 0 → ⊥) → (r ≡ 100 → ⊥) → (r ≡ 101 → ⊥) → frame' ≡ frame
@@ -95,17 +95,17 @@ abbrev pub grownNumbers : List ℕ → Frame → List ℕ
 grownNumbers frame f = set (set (set frame 0 (f .gas)) 3 (f .«heap_bound»)) 4 (f .«aux_bound»)
 
 -- of an execution that was carried out, with the hook's value h
-abbrev pub givenNumbers : Execution → ℕ → List ℕ
-givenNumbers x h =
+abbrev pub resultNumbers : Execution → ℕ → List ℕ
+resultNumbers x h =
     let w = x .word .limbs in
     let y = x .operand .word .limbs in
     getD w 0 0 ∷ getD w 1 0 ∷ getD w 2 0 ∷ getD w 3 0 ∷ getD y 0 0 ∷ getD y 1 0 ∷ getD y 2 0 ∷ getD y 3 0 ∷ bit (x .operand .tagged) ∷ h ∷ []
 
-abbrev pub statusOf : ExecutionStatus → ℕ
-statusOf Running = 0
-statusOf (SuspendedOnHook h) = 101
-statusOf Panicked = 100
-statusOf (Refused n) = n
+abbrev pub executionStatus : ExecutionStatus → ℕ
+executionStatus Running = 0
+executionStatus (SuspendedOnHook h) = 101
+executionStatus Panicked = 100
+executionStatus (Refused n) = n
 
 abbrev pub frameAfter : ExecutionStatus → Execution → List ℕ → List ℕ
 frameAfter Running x frame = frameNumbers (x .frame)
@@ -114,13 +114,13 @@ frameAfter Panicked x frame = frameNumbers (x .frame)
 frameAfter (Refused n) x frame = frame
 
 abbrev pub outAfter : ExecutionStatus → Execution → List ℕ → List ℕ
-outAfter Running x out = givenNumbers x 0
-outAfter (SuspendedOnHook h) x out = givenNumbers x h
+outAfter Running x out = resultNumbers x 0
+outAfter (SuspendedOnHook h) x out = resultNumbers x h
 outAfter Panicked x out = out
 outAfter (Refused n) x out = out
 
 -- the status r tells the execution x, and frame' and out' what it gives
-pub record Tells (x : Execution) (frame out : List ℕ) (r : ℕ) (frame' out' : List ℕ) : Type 0 where
-  pub status : r ≡ statusOf (x .status)
+pub record ReportsExecution (x : Execution) (frame out : List ℕ) (r : ℕ) (frame' out' : List ℕ) : Type 0 where
+  pub status : r ≡ executionStatus (x .status)
   pub frame-is : frame' ≡ frameAfter (x .status) x frame
   pub out-is : out' ≡ outAfter (x .status) x out

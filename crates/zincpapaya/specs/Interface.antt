@@ -8,19 +8,12 @@ use Prim.Native.Nat.{ℕ, _*_}
 use lib.Dec.{eqb}
 use lib.ListN.{length, getD}
 use Rattle.outcome.specs.Outcome.{Outcome, answered}
-use Rattle.outcome.specs.declared.Answer.{Answer}
-use Rattle.outcome.specs.declared.Answer.the-variants.{Done, Refused}
 use Rattle.word.specs.Value.{value}
 use Rattle.store.specs.Mem.{Mem}
 use Rattle.view.specs.View.{viewOf}
 use Rattle.view.specs.Steps.{run}
 use Rattle.view.specs.Checks.{onMemory, lookupChecks}
 use Rattle.view.specs.Calls.{Value, nothing, number, lengths, bytes, verdict}
-
--- the status of an answer
-abbrev pub statusOf : Answer → ℕ
-statusOf Done = 0
-statusOf (Refused n) = n
 
 -- a call with this outcome returns r. Its output must have n places; it was `out` and is `out'` after the call, and `means` reads the value off it.
 -- An output of another length gets 102; this is no outcome, and so it is decided before all of them

@@ -4,8 +4,8 @@ use mathlib.Core.Path.{_≡_}
 use mathlib.Core.List.{List, [], _∷_}
 use Prim.Native.Nat.{ℕ}
 use lib.ListN.{length, getD}
-use Rattle.outcome.specs.Outcome.{Outcome, refused, panicked, done, numberOf}
-use Rattle.page_ids.specs.Decode.{Page, none, page}
+use Rattle.outcome.specs.Outcome.{Outcome, refused, panicked, done, refusalNumber}
+use Rattle.page_ids.specs.Decode.{Page, kindNumber, groupNumber}
 use Rattle.fat_pointer.specs.declared.FatPointer.{FatPointer}
 use Rattle.state.specs.declared.Gas.{Gas}
 use Rattle.state.specs.declared.Step.{Step}
@@ -29,18 +29,8 @@ abbrev pub pointerAt : List ℕ → FatPointer
 pointerAt out = pointer (getD out 0 0) (getD out 1 0) (getD out 2 0) (getD out 3 0)
 
 -- ---- what a call answers
--- the kind of a page, numbered as in page_ids/specs/Decode.antt: code 0, heap 1, aux 2, static 3, calldata 4, bootloader heap 5, bootloader aux 6; 7 of an undecodable one
-abbrev pub kindOf : Page → ℕ
-kindOf none = 7
-kindOf (page kind group) = kind
-
--- its group: 0 of a page that has none
-abbrev pub groupOf : Page → ℕ
-groupOf none = 0
-groupOf (page kind group) = group
-
 abbrev pub pageNumbers : Page → List ℕ
-pageNumbers p = kindOf p ∷ groupOf p ∷ []
+pageNumbers p = kindNumber p ∷ groupNumber p ∷ []
 
 -- the gas that is left, and whether the amount was paid
 abbrev pub gasNumbers : Gas → List ℕ
@@ -59,15 +49,15 @@ pub record Grows (frame out : List ℕ) (step : Step) (r : ℕ) (frame' out' : L
 
 -- ---- what the parts write
 -- `out` after it, where `numbers` are those of an answer
-abbrev pub outAfter : {A : Type 0} → (A → List ℕ) → Outcome A → List ℕ → List ℕ
-outAfter numbers (refused n) out = out
-outAfter numbers (panicked a) out = out
-outAfter numbers (done a) out = numbers a
+abbrev pub numbersAfter : {A : Type 0} → (A → List ℕ) → Outcome A → List ℕ → List ℕ
+numbersAfter numbers (refused n) out = out
+numbersAfter numbers (panicked a) out = out
+numbersAfter numbers (done a) out = numbers a
 
 abbrev pub alone : ℕ → List ℕ
 alone n = n ∷ []
 
 -- the status r tells an outcome, and out' what it gives
-pub record Tells {A : Type 0} (numbers : A → List ℕ) (outcome : Outcome A) (out : List ℕ) (r : ℕ) (out' : List ℕ) : Type 0 where
-  pub status : r ≡ numberOf outcome
-  pub out-is : out' ≡ outAfter numbers outcome out
+pub record Reports {A : Type 0} (numbers : A → List ℕ) (outcome : Outcome A) (out : List ℕ) (r : ℕ) (out' : List ℕ) : Type 0 where
+  pub status : r ≡ refusalNumber outcome
+  pub out-is : out' ≡ numbersAfter numbers outcome out

@@ -1,23 +1,12 @@
-// What the exported functions share: statuses, and values given through an output.
+// What the exported functions share: values returned through an output.
 use compare::Comparison;
-use outcome::Answer;
 use word::Word;
 ghost use mathlib.Core.Path.{_≡_};
 ghost use lib.ListN.{getD, length};
 ghost use Rattle.outcome.specs.Outcome.{refused, answered};
 ghost use Rattle.word.specs.Value.{value};
-ghost use Rattle.compare.specs.Verdict.{told};
-ghost use Rattle.zincpapaya.specs.Interface.{statusOf, Gives, pairIn, verdictIn};
-
-// 0 for what was carried out, else the refusal's number.
-pub fn status(answer: Answer) -> u32
-    ensures { λ r. ⌜ r ≡ statusOf answer ⌝ }
-{
-    match answer {
-        Answer::Done => 0,
-        Answer::Refused(n) => n,
-    }
-}
+ghost use Rattle.compare.specs.Verdict.{comparisonOutcome};
+ghost use Rattle.zincpapaya.specs.Interface.{Gives, pairIn, verdictIn};
 
 // Gives a word where there is no refusal, and returns the refusal.
 pub fn give_word(out: &mut [u64], refusal: u32, word: Word) -> u32
@@ -66,8 +55,8 @@ pub fn give_pair(out: &mut [u64], refusal: u32, first: u64, second: u64) -> u32
 
 // Gives 1 for equal memories and 0 for different ones.
 pub fn give_verdict(out: &mut [u64], comparison: Comparison) -> u32
-    requires { ⌜ (told comparison ≡ refused 0 → ⊥) ⌝ }
-    ensures { λ r. ⌜ Gives 1 (told comparison) verdictIn r (now (out .entry)) (now (out .exit)) ⌝ }
+    requires { ⌜ (comparisonOutcome comparison ≡ refused 0 → ⊥) ⌝ }
+    ensures { λ r. ⌜ Gives 1 (comparisonOutcome comparison) verdictIn r (now (out .entry)) (now (out .exit)) ⌝ }
 {
     match comparison {
         Comparison::Equal => give_number(out, 0, 1),

@@ -4,17 +4,17 @@ ghost use mathlib.Core.List.{[], _∷_};
 ghost use lib.ListN.{length};
 ghost use Rattle.outcome.specs.Outcome.{done, mapped};
 ghost use Rattle.word.specs.Value.{value, limbsValue};
-ghost use Rattle.page_ids.specs.Arithmetic.{toldPage, toldBase, sum, difference};
+ghost use Rattle.page_ids.specs.Arithmetic.{pageOutcome, baseOutcome, sum, difference};
 ghost use Rattle.page_ids.specs.Decode.{pageOf, decoding};
 ghost use Rattle.page_ids.specs.Decode as decodes;
-ghost use Rattle.fat_pointer.specs.Pointer.{pointerOf, numberOf};
+ghost use Rattle.fat_pointer.specs.Pointer.{pointerOf, pointerWord};
 ghost use Rattle.state.specs.Access.{used, frameGrown};
 ghost use Rattle.state.specs.Quote.{quoted};
 ghost use Rattle.state.specs.Quote as quotes;
-ghost use Rattle.zincpapaya.specs.Executing.{areaOf, frameOf};
+ghost use Rattle.zincpapaya.specs.Executing.{areaOf, frameFrom};
 ghost use Rattle.zincpapaya.specs.Interface.{Gives};
 ghost use Rattle.opening.specs.Opening.{layoutFrom};
-ghost use Rattle.zincpapaya.specs.Numbers.{one, asTheyAre, pointerAt, pointer, kindOf, groupOf, pageNumbers, gasNumbers, endNumbers, Grows, alone, Tells};
+ghost use Rattle.zincpapaya.specs.Numbers.{one, asTheyAre, pointerAt, pointer, kindOf, groupOf, pageNumbers, gasNumbers, endNumbers, Grows, alone, Reports};
 use crate::frames;
 use fat_pointer::FatPointer;
 use page_ids::BaseAnswer;
@@ -58,7 +58,7 @@ fn put_three(out: &mut [u64], a: u32, b: u32, c: u32) -> u32
 
 fn put_page(out: &mut [u64], answer: PageAnswer) -> u32
     requires { ⌜ length (now out) ≡ 1 ⌝ }
-    ensures { λ r. ⌜ Tells alone (toldPage answer) (now (out .entry)) r (now (out .exit)) ⌝ }
+    ensures { λ r. ⌜ Reports alone (pageOutcome answer) (now (out .entry)) r (now (out .exit)) ⌝ }
 {
     match answer {
         PageAnswer::Refused(number) => number,
@@ -68,7 +68,7 @@ fn put_page(out: &mut [u64], answer: PageAnswer) -> u32
 
 fn put_base(out: &mut [u64], answer: BaseAnswer) -> u32
     requires { ⌜ length (now out) ≡ 1 ⌝ }
-    ensures { λ r. ⌜ Tells alone (toldBase answer) (now (out .entry)) r (now (out .exit)) ⌝ }
+    ensures { λ r. ⌜ Reports alone (baseOutcome answer) (now (out .entry)) r (now (out .exit)) ⌝ }
 {
     match answer {
         BaseAnswer::Refused(number) => number,
@@ -76,55 +76,19 @@ fn put_base(out: &mut [u64], answer: BaseAnswer) -> u32
     }
 }
 
-fn dynamic_kind(kind: DynamicPageKind) -> u32
-    ensures { λ r. ⌜ r ≡ kindOf (pageOf (DecodedPage.Dynamic kind 0)) ⌝ }
-{
-    match kind {
-        DynamicPageKind::Code => 0,
-        DynamicPageKind::Heap => 1,
-        DynamicPageKind::Aux => 2,
-    }
-}
-
-fn kind_of(page: DecodedPage) -> u32
-    ensures { λ r. ⌜ r ≡ kindOf (pageOf page) ⌝ }
-{
-    match page {
-        DecodedPage::Dynamic(kind, _) => dynamic_kind(kind),
-        DecodedPage::Static => 3,
-        DecodedPage::BootloaderCalldata => 4,
-        DecodedPage::BootloaderHeap => 5,
-        DecodedPage::BootloaderAuxHeap => 6,
-        DecodedPage::Undecodable => 7,
-    }
-}
-
-fn group_of(page: DecodedPage) -> u32
-    ensures { λ r. ⌜ r ≡ groupOf (pageOf page) ⌝ }
-{
-    match page {
-        DecodedPage::Dynamic(_, group) => group,
-        DecodedPage::Static => 0,
-        DecodedPage::BootloaderCalldata => 0,
-        DecodedPage::BootloaderHeap => 0,
-        DecodedPage::BootloaderAuxHeap => 0,
-        DecodedPage::Undecodable => 0,
-    }
-}
-
 fn put_decoding(out: &mut [u64], decoding: Decoding) -> u32
     requires { ⌜ length (now out) ≡ 2 ⌝ }
-    ensures { λ r. ⌜ Tells asTheyAre (mapped pageNumbers (decodes.told decoding)) (now (out .entry)) r (now (out .exit)) ⌝ }
+    ensures { λ r. ⌜ Reports asTheyAre (mapped pageNumbers (decodes.decodingOutcome decoding)) (now (out .entry)) r (now (out .exit)) ⌝ }
 {
     match decoding {
         Decoding::Refused(number) => number,
-        Decoding::Decoded(page) => put_two(out, kind_of(page), group_of(page)),
+        Decoding::Decoded(page) => put_two(out, page_ids::kind_number(page), page_ids::group_number(page)),
     }
 }
 
 fn put_quoted(out: &mut [u64], quoted: Quoted) -> u32
     requires { ⌜ length (now out) ≡ 3 ⌝ }
-    ensures { λ r. ⌜ Tells asTheyAre (mapped endNumbers (quotes.told quoted)) (now (out .entry)) r (now (out .exit)) ⌝ }
+    ensures { λ r. ⌜ Reports asTheyAre (mapped endNumbers (quotes.quoteOutcome quoted)) (now (out .entry)) r (now (out .exit)) ⌝ }
 {
     match quoted {
         Quoted::Refused(number) => number,
@@ -268,7 +232,7 @@ pub extern "C" fn zp_fat_pointer_into_u256(
     length: u32,
     out: &mut [u64],
 ) -> u32
-    ensures { λ r. ⌜ Gives 4 (done (numberOf (pointer offset page start length))) value r (now (out .entry)) (now (out .exit)) ⌝ }
+    ensures { λ r. ⌜ Gives 4 (done (pointerWord (pointer offset page start length))) value r (now (out .entry)) (now (out .exit)) ⌝ }
 {
     if out.len() != 4 {
         return 102;
@@ -301,7 +265,7 @@ pub extern "C" fn zp_use_gas(gas: u32, amount: u32, out: &mut [u64]) -> u32
 // The growth of one area is paid from the frame's gas, as instructions do it; `out` tells whether it was.
 #[no_mangle]
 pub extern "C" fn zp_grow_heap(frame: &mut [u32], aux: bool, new_bound: u32, out: &mut [u64]) -> u32
-    ensures { λ r. ⌜ Grows (now (frame .entry)) (now (out .entry)) (frameGrown (frameOf (now (frame .entry))) (areaOf aux) «new_bound») r (now (frame .exit)) (now (out .exit)) ⌝ }
+    ensures { λ r. ⌜ Grows (now (frame .entry)) (now (out .entry)) (frameGrown (frameFrom (now (frame .entry))) (areaOf aux) «new_bound») r (now (frame .exit)) (now (out .exit)) ⌝ }
 {
     if frame.len() != 6 {
         return 102;

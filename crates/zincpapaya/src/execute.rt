@@ -5,7 +5,7 @@ ghost use Rattle.word.specs.Value.{limbsValue};
 ghost use Rattle.store.specs.Mem.{mem};
 ghost use Rattle.view.specs.Calls.{Call};
 ghost use Rattle.instructions.specs.Executions as executions;
-ghost use Rattle.zincpapaya.specs.Executing.{frameOf, areaOf, operandOf, hookOf, givenNumbers, Tells, Executes};
+ghost use Rattle.zincpapaya.specs.Executing.{frameFrom, areaOf, operandFrom, hookFrom, resultNumbers, ReportsExecution, Executes};
 use crate::frames;
 use instructions::Execution;
 use instructions::ExecutionStatus;
@@ -14,7 +14,7 @@ use instructions::Operand;
 use page_ids::Address;
 
 fn operand_of(x0: u64, x1: u64, x2: u64, x3: u64, tagged: bool) -> Operand
-    ensures { λ r. ⌜ executions.operandOf r ≡ operandOf x0 x1 x2 x3 tagged ⌝ }
+    ensures { λ r. ⌜ executions.operandOf r ≡ operandFrom x0 x1 x2 x3 tagged ⌝ }
 {
     let word = frames::word_of(x0, x1, x2, x3);
     Operand {
@@ -24,7 +24,7 @@ fn operand_of(x0: u64, x1: u64, x2: u64, x3: u64, tagged: bool) -> Operand
 }
 
 fn hook_of(on: bool, address: u32) -> Hook
-    ensures { λ r. ⌜ executions.hookOf r ≡ hookOf on address ⌝ }
+    ensures { λ r. ⌜ executions.hookOf r ≡ hookFrom on address ⌝ }
 {
     let address = Address(address);
     Hook {
@@ -36,7 +36,7 @@ fn hook_of(on: bool, address: u32) -> Hook
 // What an instruction gives: the word, the operand and its tag, and the hook's value.
 fn put_given(out: &mut [u64], run: Execution, hook: u32)
     requires { ⌜ length (now out) ≡ 10 ⌝ }
-    ensures { λ _. ⌜ now (out .exit) ≡ givenNumbers run hook ⌝ }
+    ensures { λ _. ⌜ now (out .exit) ≡ resultNumbers run hook ⌝ }
 {
     let operand = run.operand;
     frames::put_word(out, 0, run.word);
@@ -48,7 +48,7 @@ fn put_given(out: &mut [u64], run: Execution, hook: u32)
 // The status of an execution; what it gives is put to the frame and to `out`.
 fn tell(run: Execution, frame: &mut [u32], out: &mut [u64]) -> u32
     requires { ⌜ (length (now frame) ≡ 6) × (length (now out) ≡ 10) ⌝ }
-    ensures { λ r. ⌜ Tells run (now (frame .entry)) (now (out .entry)) r (now (frame .exit)) (now (out .exit)) ⌝ }
+    ensures { λ r. ⌜ ReportsExecution run (now (frame .entry)) (now (out .entry)) r (now (frame .exit)) (now (out .exit)) ⌝ }
 {
     let status = run.status;
     match status {
@@ -86,7 +86,7 @@ pub extern "C" fn zp_load(
     tagged: bool,
     out: &mut [u64],
 ) -> u32
-    ensures { λ r. ⌜ Executes (mem (now (bytes .entry)) (now (keys .entry)) (now (order .entry)) (now (words .entry))) (Call.Load (areaOf aux) (frameOf (now (frame .entry))) (operandOf x0 x1 x2 x3 tagged)) (now (frame .entry)) (now (out .entry)) r (mem (now (bytes .entry)) (now (keys .entry)) (now (order .entry)) (now (words .entry))) (now (frame .exit)) (now (out .exit)) ⌝ }
+    ensures { λ r. ⌜ Executes (mem (now (bytes .entry)) (now (keys .entry)) (now (order .entry)) (now (words .entry))) (Call.Load (areaOf aux) (frameFrom (now (frame .entry))) (operandFrom x0 x1 x2 x3 tagged)) (now (frame .entry)) (now (out .entry)) r (mem (now (bytes .entry)) (now (keys .entry)) (now (order .entry)) (now (words .entry))) (now (frame .exit)) (now (out .exit)) ⌝ }
 {
     if frame.len() != 6 {
         return 102;
@@ -123,7 +123,7 @@ pub extern "C" fn zp_store(
     hook_address: u32,
     out: &mut [u64],
 ) -> u32
-    ensures { λ r. ⌜ Executes (mem (now (bytes .entry)) (now (keys .entry)) (now (order .entry)) (now (words .entry))) (Call.Store (areaOf aux) (frameOf (now (frame .entry))) (operandOf x0 x1 x2 x3 tagged) (limbsValue limb0 limb1 limb2 limb3) (hookOf hook «hook_address»)) (now (frame .entry)) (now (out .entry)) r (mem (now (bytes .exit)) (now (keys .exit)) (now (order .exit)) (now (words .exit))) (now (frame .exit)) (now (out .exit)) ⌝ }
+    ensures { λ r. ⌜ Executes (mem (now (bytes .entry)) (now (keys .entry)) (now (order .entry)) (now (words .entry))) (Call.Store (areaOf aux) (frameFrom (now (frame .entry))) (operandFrom x0 x1 x2 x3 tagged) (limbsValue limb0 limb1 limb2 limb3) (hookFrom hook «hook_address»)) (now (frame .entry)) (now (out .entry)) r (mem (now (bytes .exit)) (now (keys .exit)) (now (order .exit)) (now (words .exit))) (now (frame .exit)) (now (out .exit)) ⌝ }
 {
     if frame.len() != 6 {
         return 102;
@@ -155,7 +155,7 @@ pub extern "C" fn zp_load_pointer(
     tagged: bool,
     out: &mut [u64],
 ) -> u32
-    ensures { λ r. ⌜ Executes (mem (now (bytes .entry)) (now (keys .entry)) (now (order .entry)) (now (words .entry))) (Call.LoadPointer (frameOf (now (frame .entry))) (operandOf x0 x1 x2 x3 tagged)) (now (frame .entry)) (now (out .entry)) r (mem (now (bytes .entry)) (now (keys .entry)) (now (order .entry)) (now (words .entry))) (now (frame .exit)) (now (out .exit)) ⌝ }
+    ensures { λ r. ⌜ Executes (mem (now (bytes .entry)) (now (keys .entry)) (now (order .entry)) (now (words .entry))) (Call.LoadPointer (frameFrom (now (frame .entry))) (operandFrom x0 x1 x2 x3 tagged)) (now (frame .entry)) (now (out .entry)) r (mem (now (bytes .entry)) (now (keys .entry)) (now (order .entry)) (now (words .entry))) (now (frame .exit)) (now (out .exit)) ⌝ }
 {
     if frame.len() != 6 {
         return 102;
@@ -184,7 +184,7 @@ pub extern "C" fn zp_load_static(
     tagged: bool,
     out: &mut [u64],
 ) -> u32
-    ensures { λ r. ⌜ Executes (mem (now (bytes .entry)) (now (keys .entry)) (now (order .entry)) (now (words .entry))) (Call.LoadStatic (frameOf (now (frame .entry))) (operandOf x0 x1 x2 x3 tagged)) (now (frame .entry)) (now (out .entry)) r (mem (now (bytes .entry)) (now (keys .entry)) (now (order .entry)) (now (words .entry))) (now (frame .exit)) (now (out .exit)) ⌝ }
+    ensures { λ r. ⌜ Executes (mem (now (bytes .entry)) (now (keys .entry)) (now (order .entry)) (now (words .entry))) (Call.LoadStatic (frameFrom (now (frame .entry))) (operandFrom x0 x1 x2 x3 tagged)) (now (frame .entry)) (now (out .entry)) r (mem (now (bytes .entry)) (now (keys .entry)) (now (order .entry)) (now (words .entry))) (now (frame .exit)) (now (out .exit)) ⌝ }
 {
     if frame.len() != 6 {
         return 102;
@@ -217,7 +217,7 @@ pub extern "C" fn zp_store_static(
     limb3: u64,
     out: &mut [u64],
 ) -> u32
-    ensures { λ r. ⌜ Executes (mem (now (bytes .entry)) (now (keys .entry)) (now (order .entry)) (now (words .entry))) (Call.StoreStatic (frameOf (now (frame .entry))) (operandOf x0 x1 x2 x3 tagged) (limbsValue limb0 limb1 limb2 limb3)) (now (frame .entry)) (now (out .entry)) r (mem (now (bytes .exit)) (now (keys .exit)) (now (order .exit)) (now (words .exit))) (now (frame .exit)) (now (out .exit)) ⌝ }
+    ensures { λ r. ⌜ Executes (mem (now (bytes .entry)) (now (keys .entry)) (now (order .entry)) (now (words .entry))) (Call.StoreStatic (frameFrom (now (frame .entry))) (operandFrom x0 x1 x2 x3 tagged) (limbsValue limb0 limb1 limb2 limb3)) (now (frame .entry)) (now (out .entry)) r (mem (now (bytes .exit)) (now (keys .exit)) (now (order .exit)) (now (words .exit))) (now (frame .exit)) (now (out .exit)) ⌝ }
 {
     if frame.len() != 6 {
         return 102;

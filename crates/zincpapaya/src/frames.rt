@@ -42,7 +42,7 @@ pub fn word_of(limb0: u64, limb1: u64, limb2: u64, limb3: u64) -> Word
 
 pub fn frame_of(frame: &[u32]) -> Frame
     requires { ⌜ length (now frame) ≡ 6 ⌝ }
-    ensures { λ r. ⌜ r ≡ spec.frameOf (now (frame .entry)) ⌝ }
+    ensures { λ r. ⌜ r ≡ spec.frameFrom (now (frame .entry)) ⌝ }
 {
     let heap = PageId(frame[1]);
     let aux = PageId(frame[2]);

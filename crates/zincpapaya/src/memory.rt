@@ -44,7 +44,7 @@ pub extern "C" fn zp_open(
         base: BasePage(base),
         stride: stride,
     };
-    answers::status(opening::open(
+    outcome::status(opening::open(
         bytes,
         keys,
         order,
@@ -118,7 +118,7 @@ pub extern "C" fn zp_read_range_big_endian(
 ) -> u32
     ensures { λ r. let m = mem (now (bytes .entry)) (now (keys .entry)) (now (order .entry)) (now (words .entry)) in ⌜ Gives (length (now (output .entry))) (answerOf m (Call.ReadRange page start end (length (now (output .entry))))) Value.bytes r (now (output .entry)) (now (output .exit)) ⌝ }
 {
-    answers::status(reads::read_range_big_endian(
+    outcome::status(reads::read_range_big_endian(
         bytes,
         keys,
         order,
@@ -198,7 +198,7 @@ pub extern "C" fn zp_chunk<'a>(
     if output.len() != 256 {
         return 102;
     }
-    let refusal = answers::status(reads::chunk_check(
+    let refusal = outcome::status(reads::chunk_check(
         bytes,
         keys,
         order,
@@ -235,7 +235,7 @@ pub extern "C" fn zp_write_u256(
     ensures { λ r. ⌜ CallDoes (mem (now (bytes .entry)) (now (keys .entry)) (now (order .entry)) (now (words .entry))) (Call.WriteWord page address (limbsValue limb0 limb1 limb2 limb3)) (answered r nothing) (mem (now (bytes .exit)) (now (keys .exit)) (now (order .exit)) (now (words .exit))) ⌝ }
 {
     let word = frames::word_of(limb0, limb1, limb2, limb3);
-    answers::status(writes::write_u256(
+    outcome::status(writes::write_u256(
         bytes,
         keys,
         order,
@@ -258,7 +258,7 @@ pub extern "C" fn zp_write_bytes(
 ) -> u32
     ensures { λ r. ⌜ CallDoes (mem (now (bytes .entry)) (now (keys .entry)) (now (order .entry)) (now (words .entry))) (Call.WriteBytes page start (now (src .entry))) (answered r nothing) (mem (now (bytes .exit)) (now (keys .exit)) (now (order .exit)) (now (words .exit))) ⌝ }
 {
-    answers::status(writes::write_bytes(
+    outcome::status(writes::write_bytes(
         bytes,
         keys,
         order,
@@ -279,7 +279,7 @@ pub extern "C" fn zp_allocate_at(
 ) -> u32
     ensures { λ r. ⌜ CallDoes (mem (now (bytes .entry)) (now (keys .entry)) (now (order .entry)) (now (words .entry))) (Call.Allocate page []) (answered r nothing) (mem (now (bytes .exit)) (now (keys .exit)) (now (order .exit)) (now (words .exit))) ⌝ }
 {
-    answers::status(writes::allocate_at(bytes, keys, order, words, PageId(page)))
+    outcome::status(writes::allocate_at(bytes, keys, order, words, PageId(page)))
 }
 
 #[no_mangle]
@@ -293,7 +293,7 @@ pub extern "C" fn zp_allocate_with_content_at(
 ) -> u32
     ensures { λ r. ⌜ CallDoes (mem (now (bytes .entry)) (now (keys .entry)) (now (order .entry)) (now (words .entry))) (Call.Allocate page (now (content .entry))) (answered r nothing) (mem (now (bytes .exit)) (now (keys .exit)) (now (order .exit)) (now (words .exit))) ⌝ }
 {
-    answers::status(writes::allocate_with_content_at(
+    outcome::status(writes::allocate_with_content_at(
         bytes,
         keys,
         order,
@@ -315,7 +315,7 @@ pub extern "C" fn zp_deallocate(
 ) -> u32
     ensures { λ r. ⌜ CallDoes (mem (now (bytes .entry)) (now (keys .entry)) (now (order .entry)) (now (words .entry))) (Call.Free page) (answered r nothing) (mem (now (bytes .exit)) (now (keys .exit)) (now (order .exit)) (now (words .exit))) ⌝ }
 {
-    answers::status(freeing::deallocate(bytes, keys, order, words, PageId(page)))
+    outcome::status(freeing::deallocate(bytes, keys, order, words, PageId(page)))
 }
 
 #[no_mangle]
@@ -330,7 +330,7 @@ pub extern "C" fn zp_compact_to_window(
 ) -> u32
     ensures { λ r. ⌜ CallDoes (mem (now (bytes .entry)) (now (keys .entry)) (now (order .entry)) (now (words .entry))) (Call.Window page start length) (answered r nothing) (mem (now (bytes .exit)) (now (keys .exit)) (now (order .exit)) (now (words .exit))) ⌝ }
 {
-    answers::status(freeing::compact_to_window(
+    outcome::status(freeing::compact_to_window(
         bytes,
         keys,
         order,
@@ -351,7 +351,7 @@ pub extern "C" fn zp_truncate_dynamic_to(
 ) -> u32
     ensures { λ r. ⌜ CallDoes (mem (now (bytes .entry)) (now (keys .entry)) (now (order .entry)) (now (words .entry))) (Call.Truncate len) (answered r nothing) (mem (now (bytes .exit)) (now (keys .exit)) (now (order .exit)) (now (words .exit))) ⌝ }
 {
-    answers::status(freeing::truncate_dynamic_to(bytes, keys, order, words, len))
+    outcome::status(freeing::truncate_dynamic_to(bytes, keys, order, words, len))
 }
 
 // ---- history
@@ -367,7 +367,7 @@ pub extern "C" fn zp_rollback(
 ) -> u32
     ensures { λ r. ⌜ CallDoes (mem (now (bytes .entry)) (now (keys .entry)) (now (order .entry)) (now (words .entry))) (Call.Rollback heap aux) (answered r nothing) (mem (now (bytes .exit)) (now (keys .entry)) (now (order .entry)) (now (words .exit))) ⌝ }
 {
-    answers::status(history::rollback(bytes, keys, order, words, heap, aux))
+    outcome::status(history::rollback(bytes, keys, order, words, heap, aux))
 }
 
 #[no_mangle]
@@ -379,7 +379,7 @@ pub extern "C" fn zp_delete_history(
 ) -> u32
     ensures { λ r. ⌜ CallDoes (mem (now (bytes .entry)) (now (keys .entry)) (now (order .entry)) (now (words .entry))) (Call.DeleteHistory) (answered r nothing) (mem (now (bytes .entry)) (now (keys .entry)) (now (order .entry)) (now (words .exit))) ⌝ }
 {
-    answers::status(history::delete_history(bytes, keys, order, words))
+    outcome::status(history::delete_history(bytes, keys, order, words))
 }
 
 // ---- comparison

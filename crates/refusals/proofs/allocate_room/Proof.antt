@@ -4,7 +4,7 @@ use native.Mathlib.Omega.{arith}
 use borrow.Author.Needs.{needs}
 use Rattle.store.specs.Mem.{mem}
 use Rattle.view.specs.View.{settingOf, viewOf}
-use Rattle.view.specs.Checks.{room}
+use Rattle.view.specs.Checks.{capacityChecksAt}
 use Rattle.refusals.proofs.Chosen.{chunks-fit, room-chosen, chosen-4, allocate-5, allocate-6, allocate-room}
 use Rattle.outcome.specs.Outcome.{refused}
 use Rattle.formed.specs.Pages.{fixed}
@@ -23,7 +23,7 @@ returns c =
     let at-decode = at-is-undecodable .before in
     let start = at-decode .before .before .before .before .before in
     let m = mem (start .args .bytes .now) (start .args .keys .now) (start .args .order .now) (start .args .words .now) in
-    chosen-4 (settingOf m) (viewOf m) (start .args .page) _ (at-decode .decode .ensures) ((fixed (settingOf m .layout) (start .args .page), refused 5) ∷ (viewOf m .allocated (start .args .page), refused 6) ∷ room (settingOf m) (viewOf m) (start .args .page) 0 (start .args .n) 0) (sym (at-is-undecodable .is-undecodable .ensures) ∙ at-if1 .if1 .taken)
+    chosen-4 (settingOf m) (viewOf m) (start .args .page) _ (at-decode .decode .ensures) ((fixed (settingOf m .layout) (start .args .page), refused 5) ∷ (viewOf m .allocated (start .args .page), refused 6) ∷ capacityChecksAt (settingOf m) (viewOf m) (start .args .page) 0 (start .args .n) 0) (sym (at-is-undecodable .is-undecodable .ensures) ∙ at-if1 .if1 .taken)
 
 returns-2 : tie.Need-returns-2
 returns-2 c =

@@ -7,7 +7,7 @@ use borrow.Author.Needs.{needs}
 use Rattle.store.specs.Mem.{mem}
 use Rattle.view.specs.View.{settingOf, viewOf}
 use Rattle.view.specs.Steps.{alignedCount}
-use Rattle.view.specs.Checks.{room}
+use Rattle.view.specs.Checks.{capacityChecksAt}
 use Rattle.refusals.proofs.Chosen.{chunks-fit, words-fit, room-chosen, chosen-4, bytes-8, bytes-room}
 use Rattle.outcome.specs.Outcome.{refused}
 use Rattle.refusals.proofs.bytes_room.Statement.{statement}
@@ -25,7 +25,7 @@ returns c =
     let at-decode = at-is-undecodable .before in
     let start = at-decode .before .before .before .before .before in
     let m = mem (start .args .bytes .now) (start .args .keys .now) (start .args .order .now) (start .args .words .now) in
-    chosen-4 (settingOf m) (viewOf m) (start .args .page) _ (at-decode .decode .ensures) ((ltb (2 ^ 32) (start .args .start + start .args .n), refused 8) ∷ room (settingOf m) (viewOf m) (start .args .page) (start .args .start) (start .args .n) (alignedCount (start .args .start) (start .args .n))) (sym (at-is-undecodable .is-undecodable .ensures) ∙ at-if1 .if1 .taken)
+    chosen-4 (settingOf m) (viewOf m) (start .args .page) _ (at-decode .decode .ensures) ((ltb (2 ^ 32) (start .args .start + start .args .n), refused 8) ∷ capacityChecksAt (settingOf m) (viewOf m) (start .args .page) (start .args .start) (start .args .n) (alignedCount (start .args .start) (start .args .n))) (sym (at-is-undecodable .is-undecodable .ensures) ∙ at-if1 .if1 .taken)
 
 returns-2 : tie.Need-returns-2
 returns-2 c =

@@ -3,7 +3,7 @@ use native.Mathlib.Omega.{arith}
 use borrow.Author.Needs.{needs}
 use Rattle.store.specs.Mem.{mem}
 use Rattle.view.specs.View.{settingOf, viewOf}
-use Rattle.view.specs.Checks.{room}
+use Rattle.view.specs.Checks.{capacityChecksAt}
 use Rattle.refusals.proofs.Chosen.{chunks-fit, room-chosen, chosen-4, past-4}
 use Rattle.refusals.proofs.word_room.Statement.{statement}
 use Rattle.refusals.proofs.word_room.Tie as tie
@@ -20,7 +20,7 @@ returns c =
     let at-decode = at-is-undecodable .before in
     let start = at-decode .before .before .before .before .before in
     let m = mem (start .args .bytes .now) (start .args .keys .now) (start .args .order .now) (start .args .words .now) in
-    chosen-4 (settingOf m) (viewOf m) (start .args .page) _ (at-decode .decode .ensures) (room (settingOf m) (viewOf m) (start .args .page) (start .args .address) 32 1) (sym (at-is-undecodable .is-undecodable .ensures) ∙ at-if1 .if1 .taken)
+    chosen-4 (settingOf m) (viewOf m) (start .args .page) _ (at-decode .decode .ensures) (capacityChecksAt (settingOf m) (viewOf m) (start .args .page) (start .args .address) 32 1) (sym (at-is-undecodable .is-undecodable .ensures) ∙ at-if1 .if1 .taken)
 
 room-refusal-requires : tie.Need-room-refusal-requires
 room-refusal-requires c κs =
@@ -37,7 +37,7 @@ returns-2 c =
     let at-decode = at-is-undecodable .before in
     let start = at-decode .before .before .before .before .before in
     let m = mem (start .args .bytes .now) (start .args .keys .now) (start .args .order .now) (start .args .words .now) in
-    past-4 (settingOf m) (viewOf m) (start .args .page) _ (at-decode .decode .ensures) (room (settingOf m) (viewOf m) (start .args .page) (start .args .address) 32 1) (sym (at-is-undecodable .is-undecodable .ensures) ∙ at-if1 .if1 .left) _ (room-chosen (start .args .address) 32 _ (at-touched .touched .ensures) (settingOf m) (viewOf m) (start .args .page) 1 1 _ refl (at-room-refusal .room-refusal .ensures))
+    past-4 (settingOf m) (viewOf m) (start .args .page) _ (at-decode .decode .ensures) (capacityChecksAt (settingOf m) (viewOf m) (start .args .page) (start .args .address) 32 1) (sym (at-is-undecodable .is-undecodable .ensures) ∙ at-if1 .if1 .left) _ (room-chosen (start .args .address) 32 _ (at-touched .touched .ensures) (settingOf m) (viewOf m) (start .args .page) 1 1 _ refl (at-room-refusal .room-refusal .ensures))
 
 pub word-room-spec : {M : Type 1} → statement M
 word-room-spec =

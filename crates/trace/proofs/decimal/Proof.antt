@@ -1,6 +1,6 @@
 use borrow.Author.Tests.{not-true, not-false}
 use Rattle.trace.proofs.Figures.{digital-stop, digital-step, digital-done, number-step, number-done, number-grows, decimal-led, decimal-digit, decimal-wide, decimal-is}
-use Rattle.trace.specs.Language.{digital, numberAfter, numberOf}
+use Rattle.trace.specs.Language.{digital, numberAfter, numeralValue}
 use borrow.Author.Needs.{needs}
 use Prim.Native.Nat.{ℕ, _+_, _*_, _-_, _≤_, _<_}
 use mathlib.Core.Path.{_≡_, refl, sym, ap, _∙_}
@@ -10,7 +10,7 @@ use Rattle.trace.proofs.decimal.Statement.{statement}
 use Rattle.trace.proofs.decimal.Tie as tie
 
 abbrev Inv-loop : tie.InvT-loop
-Inv-loop field no' n₀ i₀ n i = (i ≤ length field) × (n ≤ 4294967295) × (digital 10 (drop i field) ≡ digital 10 field) × (numberAfter 10 n (drop i field) ≡ numberOf 10 field)
+Inv-loop field no' n₀ i₀ n i = (i ≤ length field) × (n ≤ 4294967295) × (digital 10 (drop i field) ≡ digital 10 field) × (numberAfter 10 n (drop i field) ≡ numeralValue 10 field)
 
 abbrev μ-loop : tie.MeasureT-loop
 μ-loop field no' n₀ i₀ n i = length field - i

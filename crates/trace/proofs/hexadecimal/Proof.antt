@@ -1,5 +1,5 @@
 use Rattle.trace.proofs.Figures.{digital-stop, digital-step, digital-done, number-step, number-done, hexadecimal-led, hexadecimal-digit, hexadecimal-long, hexadecimal-is, digits-more, digits-room}
-use Rattle.trace.specs.Language.{digital, numberAfter, numberOf}
+use Rattle.trace.specs.Language.{digital, numberAfter, numeralValue}
 use Rattle.word.specs.Value.{value}
 use borrow.Author.Tests.{not-true, not-false}
 use borrow.Author.Needs.{needs}
@@ -11,7 +11,7 @@ use Rattle.trace.proofs.hexadecimal.Statement.{statement}
 use Rattle.trace.proofs.hexadecimal.Tie as tie
 
 abbrev Inv-loop : tie.InvT-loop
-Inv-loop field no' w₀ i₀ w i = (i ≤ length field) × (value (w .limbs) < 16 ^ i) × (digital 16 (drop i field) ≡ digital 16 field) × (numberAfter 16 (value (w .limbs)) (drop i field) ≡ numberOf 16 field)
+Inv-loop field no' w₀ i₀ w i = (i ≤ length field) × (value (w .limbs) < 16 ^ i) × (digital 16 (drop i field) ≡ digital 16 field) × (numberAfter 16 (value (w .limbs)) (drop i field) ≡ numeralValue 16 field)
 
 abbrev μ-loop : tie.MeasureT-loop
 μ-loop field no' w₀ i₀ w i = length field - i

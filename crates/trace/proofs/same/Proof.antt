@@ -1,5 +1,5 @@
 use Rattle.trace.proofs.Fields.{same-lengths, same-step, same-stop, same-done}
-use Rattle.trace.specs.Language.{same}
+use Rattle.trace.specs.Language.{sameBytes}
 use borrow.Author.Needs.{needs}
 use Prim.Native.Nat.{_-_, _≤_, _<_}
 use mathlib.Core.Path.{_≡_, refl, _∙_}
@@ -9,7 +9,7 @@ use Rattle.trace.proofs.same.Statement.{statement}
 use Rattle.trace.proofs.same.Tie as tie
 
 abbrev Inv-loop : tie.InvT-loop
-Inv-loop a b i₀ i = (i ≤ length a) × (same (drop i a) (drop i b) ≡ same a b)
+Inv-loop a b i₀ i = (i ≤ length a) × (sameBytes (drop i a) (drop i b) ≡ sameBytes a b)
 
 abbrev μ-loop : tie.MeasureT-loop
 μ-loop a b i₀ i = length a - i

@@ -9,8 +9,7 @@ use denote.Enum.Declared.{tagOf}
 use Rattle.page_ids.proofs.DecodedPage.{the-type}
 use Rattle.page_ids.specs.declared.DecodedPage.{DecodedPage}
 use Rattle.page_ids.specs.declared.DecodedPage.the-variants.{Static, BootloaderCalldata, BootloaderHeap, BootloaderAuxHeap, Dynamic, Undecodable}
-use Rattle.page_ids.specs.Decode.{pageOf}
-use Rattle.formed.specs.Pages.{isDynamic}
+use Rattle.page_ids.specs.Decode.{pageOf, isDynamic}
 use Rattle.formed.proofs.Bools.{and-stop}
 use Rattle.formed.proofs.Pages.{told-dynamic, told-other}
 use Rattle.formed.proofs.entry.page_ok.Statement.{statement}

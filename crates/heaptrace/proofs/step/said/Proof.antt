@@ -1,6 +1,6 @@
+use Rattle.outcome.specs.Outcome.{answerOutcome}
 use Rattle.outcome.specs.declared.Answer.{Answer}
-use Rattle.heaptrace.specs.Trace.{toldOf}
-use Rattle.view.specs.Calls.{told}
+use Rattle.heaptrace.specs.Trace.{reported}
 use mathlib.Core.Path.{sym, ap, _∙_}
 use borrow.Author.Needs.{needs}
 use Rattle.heaptrace.proofs.step.said.Statement.{statement}
@@ -10,13 +10,13 @@ returns : tie.Need-returns
 returns c =
     let at-done = c in
     let at-enum-told = at-done .before in
-    at-done .done .ensures ∙ ap (λ (a : Answer). toldOf (told a)) (sym (at-enum-told .enum-told .given .1))
+    at-done .done .ensures ∙ ap (λ (a : Answer). reported (answerOutcome nothing a)) (sym (at-enum-told .enum-told .given .1))
 
 returns-2 : tie.Need-returns-2
 returns-2 c =
     let at-refused = c in
     let at-answer = at-refused .before .before in
-    at-refused .refused .ensures ∙ ap (λ (a : Answer). toldOf (told a)) (sym (at-answer .answer .given .1))
+    at-refused .refused .ensures ∙ ap (λ (a : Answer). reported (answerOutcome nothing a)) (sym (at-answer .answer .given .1))
 
 pub said-spec : {M : Type 1} → statement M
 said-spec =

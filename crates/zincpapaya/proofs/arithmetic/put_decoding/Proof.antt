@@ -1,7 +1,7 @@
 use mathlib.Core.Path.{ap, _∙_}
 use Rattle.outcome.specs.Outcome.{mapped}
 use Rattle.page_ids.specs.declared.Decoding.{Decoding}
-use Rattle.page_ids.specs.Decode.{told}
+use Rattle.page_ids.specs.Decode.{decodingOutcome}
 use Rattle.zincpapaya.specs.Numbers.{pageNumbers}
 use Rattle.zincpapaya.proofs.ArithmeticLists.{pair-is}
 use Rattle.zincpapaya.proofs.ArithmeticGives.{done-told}
@@ -21,7 +21,7 @@ returns-2 c =
     let at-group-of = at-put-two .before in
     let at-kind-of = at-group-of .before in
     let at-decoding2 = at-kind-of .before .before .before in
-    done-told (ap (λ (d : Decoding). mapped pageNumbers (told d)) (at-decoding2 .decoding2 .given .1)) (at-put-two .put-two .ensures .0) (at-put-two .put-two .ensures .1 ∙ pair-is (at-kind-of .kind-of .ensures) (at-group-of .group-of .ensures))
+    done-told (ap (λ (d : Decoding). mapped pageNumbers (decodingOutcome d)) (at-decoding2 .decoding2 .given .1)) (at-put-two .put-two .ensures .0) (at-put-two .put-two .ensures .1 ∙ pair-is (at-kind-of .kind-of .ensures) (at-group-of .group-of .ensures))
 
 pub put-decoding-spec : {M : Type 1} → statement M
 put-decoding-spec =

@@ -1,5 +1,5 @@
 use mathlib.Core.Path.{ap}
-use Rattle.page_ids.specs.Arithmetic.{toldPage}
+use Rattle.page_ids.specs.Arithmetic.{pageOutcome}
 use Rattle.zincpapaya.proofs.ArithmeticGives.{done-told}
 use borrow.Author.Needs.{needs}
 use Rattle.zincpapaya.proofs.arithmetic.put_page.Statement.{statement}
@@ -9,7 +9,7 @@ returns-2 : tie.Need-returns-2
 returns-2 c =
     let at-put-one = c .before .before in
     let at-answer2 = at-put-one .before .before .before in
-    done-told (ap toldPage (at-answer2 .answer2 .given .1)) (at-put-one .put-one .ensures .0) (at-put-one .put-one .ensures .1)
+    done-told (ap pageOutcome (at-answer2 .answer2 .given .1)) (at-put-one .put-one .ensures .0) (at-put-one .put-one .ensures .1)
 
 pub put-page-spec : {M : Type 1} → statement M
 put-page-spec =

@@ -4,7 +4,7 @@ use Rattle.zincpapaya.proofs.ArithmeticGives.{unfit, given}
 use Rattle.zincpapaya.specs.Numbers.{pointer}
 use Rattle.outcome.specs.Outcome.{done}
 use Rattle.word.specs.Value.{value}
-use Rattle.fat_pointer.specs.Pointer.{numberOf}
+use Rattle.fat_pointer.specs.Pointer.{pointerWord}
 use borrow.Author.Needs.{needs}
 use Rattle.zincpapaya.proofs.arithmetic.zp_fat_pointer_into_u256.Statement.{statement}
 use Rattle.zincpapaya.proofs.arithmetic.zp_fat_pointer_into_u256.Tie as tie
@@ -13,7 +13,7 @@ returns : tie.Need-returns
 returns c =
     let at-if1 = c in
     let start = at-if1 .before .before in
-    unfit 4 value (start .args .out .now) (done (numberOf (pointer (start .args .offset) (start .args .page) (start .args .start) (start .args .length)))) (at-if1 .if1 .taken)
+    unfit 4 value (start .args .out .now) (done (pointerWord (pointer (start .args .offset) (start .args .page) (start .args .start) (start .args .length)))) (at-if1 .if1 .taken)
 
 into-u256-requires : tie.Need-into-u256-requires
 into-u256-requires c κs = tt
@@ -24,7 +24,7 @@ returns-2 c =
     let at-into-u256 = at-put-word .before in
     let at-if1 = at-into-u256 .before .before in
     let start = at-if1 .before .before in
-    given 4 (numberOf (pointer (start .args .offset) (start .args .page) (start .args .start) (start .args .length))) value (start .args .out .now) (at-if1 .if1 .left) refl (ap value (at-put-word .put-word .ensures) ∙ value-put (at-into-u256 .into-u256 .result .limbs) (start .args .out .now) (at-if1 .if1 .left) ∙ at-into-u256 .into-u256 .ensures)
+    given 4 (pointerWord (pointer (start .args .offset) (start .args .page) (start .args .start) (start .args .length))) value (start .args .out .now) (at-if1 .if1 .left) refl (ap value (at-put-word .put-word .ensures) ∙ value-put (at-into-u256 .into-u256 .result .limbs) (start .args .out .now) (at-if1 .if1 .left) ∙ at-into-u256 .into-u256 .ensures)
 
 pub zp-fat-pointer-into-u256-spec : {M : Type 1} → statement M
 zp-fat-pointer-into-u256-spec =

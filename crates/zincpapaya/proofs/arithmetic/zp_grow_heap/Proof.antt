@@ -1,6 +1,6 @@
 use mathlib.Core.Path.{_∙_}
 use Rattle.zincpapaya.proofs.ArithmeticGives.{grow-unfit, grows}
-use Rattle.zincpapaya.specs.Executing.{areaOf, frameOf}
+use Rattle.zincpapaya.specs.Executing.{areaOf, frameFrom}
 use Rattle.state.specs.Access.{frameGrown}
 use borrow.Author.Needs.{needs}
 use Rattle.zincpapaya.proofs.arithmetic.zp_grow_heap.Statement.{statement}
@@ -10,13 +10,13 @@ returns : tie.Need-returns
 returns c =
     let at-if1 = c in
     let start = at-if1 .before .before .before in
-    grow-unfit (start .args .frame .now) (start .args .out .now) (frameGrown (frameOf (start .args .frame .now)) (areaOf (start .args .aux)) (start .args .new-bound)) (λ h. at-if1 .if1 .taken (h .0))
+    grow-unfit (start .args .frame .now) (start .args .out .now) (frameGrown (frameFrom (start .args .frame .now)) (areaOf (start .args .aux)) (start .args .new-bound)) (λ h. at-if1 .if1 .taken (h .0))
 
 returns-2 : tie.Need-returns-2
 returns-2 c =
     let at-if2 = c in
     let start = at-if2 .before .before .before .before in
-    grow-unfit (start .args .frame .now) (start .args .out .now) (frameGrown (frameOf (start .args .frame .now)) (areaOf (start .args .aux)) (start .args .new-bound)) (λ h. at-if2 .if2 .taken (h .1))
+    grow-unfit (start .args .frame .now) (start .args .out .now) (frameGrown (frameFrom (start .args .frame .now)) (areaOf (start .args .aux)) (start .args .new-bound)) (λ h. at-if2 .if2 .taken (h .1))
 
 area-of-requires : tie.Need-area-of-requires
 area-of-requires c κs = tt
@@ -38,7 +38,7 @@ returns-3 c =
     let at-if2 = at-frame-of .before .before in
     let at-if1 = at-if2 .before in
     let start = at-if1 .before .before .before in
-    grows (start .args .frame .now) (start .args .out .now) (frameGrown (frameOf (start .args .frame .now)) (areaOf (start .args .aux)) (start .args .new-bound)) (at-if1 .if1 .left) (at-if2 .if2 .left) (at-grow-frame .grow-frame .ensures ∙ (λ i. frameGrown (at-frame-of .frame-of .ensures i) (at-area-of .area-of .ensures i) (start .args .new-bound))) (at-put-one .put-one .ensures .0) (at-put-growth .put-growth .ensures) (at-put-one .put-one .ensures .1) (at-bit .bit .ensures)
+    grows (start .args .frame .now) (start .args .out .now) (frameGrown (frameFrom (start .args .frame .now)) (areaOf (start .args .aux)) (start .args .new-bound)) (at-if1 .if1 .left) (at-if2 .if2 .left) (at-grow-frame .grow-frame .ensures ∙ (λ i. frameGrown (at-frame-of .frame-of .ensures i) (at-area-of .area-of .ensures i) (start .args .new-bound))) (at-put-one .put-one .ensures .0) (at-put-growth .put-growth .ensures) (at-put-one .put-one .ensures .1) (at-bit .bit .ensures)
 
 pub zp-grow-heap-spec : {M : Type 1} → statement M
 zp-grow-heap-spec =

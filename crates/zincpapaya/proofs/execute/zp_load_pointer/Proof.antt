@@ -1,5 +1,5 @@
 use Rattle.zincpapaya.proofs.ExecuteTold.{pointer-tellable, unfit, executes, pointer-is}
-use Rattle.zincpapaya.specs.Executing.{frameOf, operandOf}
+use Rattle.zincpapaya.specs.Executing.{frameFrom, operandFrom}
 use Rattle.store.specs.Mem.{mem}
 use Rattle.view.specs.Calls.{LoadPointer}
 use borrow.Author.Needs.{needs}
@@ -10,13 +10,13 @@ returns : tie.Need-returns
 returns c =
     let at-if1 = c in
     let start = at-if1 .before .before .before .before .before .before .before in
-    unfit (mem (start .args .bytes .now) (start .args .keys .now) (start .args .order .now) (start .args .words .now)) (LoadPointer (frameOf (start .args .frame .now)) (operandOf (start .args .x0) (start .args .x1) (start .args .x2) (start .args .x3) (start .args .tagged))) (start .args .frame .now) (start .args .out .now) (λ h. at-if1 .if1 .taken (h .0))
+    unfit (mem (start .args .bytes .now) (start .args .keys .now) (start .args .order .now) (start .args .words .now)) (LoadPointer (frameFrom (start .args .frame .now)) (operandFrom (start .args .x0) (start .args .x1) (start .args .x2) (start .args .x3) (start .args .tagged))) (start .args .frame .now) (start .args .out .now) (λ h. at-if1 .if1 .taken (h .0))
 
 returns-2 : tie.Need-returns-2
 returns-2 c =
     let at-if2 = c in
     let start = at-if2 .before .before .before .before .before .before .before .before in
-    unfit (mem (start .args .bytes .now) (start .args .keys .now) (start .args .order .now) (start .args .words .now)) (LoadPointer (frameOf (start .args .frame .now)) (operandOf (start .args .x0) (start .args .x1) (start .args .x2) (start .args .x3) (start .args .tagged))) (start .args .frame .now) (start .args .out .now) (λ h. at-if2 .if2 .taken (h .1))
+    unfit (mem (start .args .bytes .now) (start .args .keys .now) (start .args .order .now) (start .args .words .now)) (LoadPointer (frameFrom (start .args .frame .now)) (operandFrom (start .args .x0) (start .args .x1) (start .args .x2) (start .args .x3) (start .args .tagged))) (start .args .frame .now) (start .args .out .now) (λ h. at-if2 .if2 .taken (h .1))
 
 operand-of-requires : tie.Need-operand-of-requires
 operand-of-requires c κs = tt
@@ -33,7 +33,7 @@ returns-3 c =
     let at-if2 = at-frame-of .before .before in
     let at-if1 = at-if2 .before in
     let start = at-if1 .before .before .before .before .before .before .before in
-    executes (mem (start .args .bytes .now) (start .args .keys .now) (start .args .order .now) (start .args .words .now)) (LoadPointer (frameOf (start .args .frame .now)) (operandOf (start .args .x0) (start .args .x1) (start .args .x2) (start .args .x3) (start .args .tagged))) (start .args .frame .now) (start .args .out .now) (at-if1 .if1 .left) (at-if2 .if2 .left) (pointer-tellable (mem (start .args .bytes .now) (start .args .keys .now) (start .args .order .now) (start .args .words .now)) (frameOf (start .args .frame .now)) (operandOf (start .args .x0) (start .args .x1) (start .args .x2) (start .args .x3) (start .args .tagged))) (pointer-is (at-frame-of .frame-of .ensures) (at-operand-of .operand-of .ensures)) (at-load-pointer .load-pointer .result) (at-load-pointer .load-pointer .ensures .does) (at-tell .tell .ensures)
+    executes (mem (start .args .bytes .now) (start .args .keys .now) (start .args .order .now) (start .args .words .now)) (LoadPointer (frameFrom (start .args .frame .now)) (operandFrom (start .args .x0) (start .args .x1) (start .args .x2) (start .args .x3) (start .args .tagged))) (start .args .frame .now) (start .args .out .now) (at-if1 .if1 .left) (at-if2 .if2 .left) (pointer-tellable (mem (start .args .bytes .now) (start .args .keys .now) (start .args .order .now) (start .args .words .now)) (frameFrom (start .args .frame .now)) (operandFrom (start .args .x0) (start .args .x1) (start .args .x2) (start .args .x3) (start .args .tagged))) (pointer-is (at-frame-of .frame-of .ensures) (at-operand-of .operand-of .ensures)) (at-load-pointer .load-pointer .result) (at-load-pointer .load-pointer .ensures .does) (at-tell .tell .ensures)
 
 pub zp-load-pointer-spec : {M : Type 1} → statement M
 zp-load-pointer-spec =

@@ -1,4 +1,4 @@
-use Rattle.reads.specs.Calls.{marked}
+use Rattle.reads.specs.Calls.{lengthsValue}
 use Rattle.store.specs.Mem.{mem}
 use Rattle.reads.proofs.Calls.{marks-call}
 use Rattle.zincpapaya.proofs.MemoryGives.{gives-as}
@@ -11,7 +11,7 @@ returns c =
     let at-give-pair = c .before .before in
     let at-snapshot = at-give-pair .before .before in
     let start = at-snapshot .before .before .before .before .before .before in
-    gives-as marked (at-give-pair .give-pair .ensures) (marks-call (mem (start .args .bytes .now) (start .args .keys .now) (start .args .order .now) (start .args .words .now)) _ (at-snapshot .snapshot .ensures .answer) .answer)
+    gives-as lengthsValue (at-give-pair .give-pair .ensures) (marks-call (mem (start .args .bytes .now) (start .args .keys .now) (start .args .order .now) (start .args .words .now)) _ (at-snapshot .snapshot .ensures .answer) .answer)
 
 pub zp-snapshot-spec : {M : Type 1} → statement M
 zp-snapshot-spec =

@@ -75,7 +75,7 @@ module _ (m : Mem) (f : WellFormed m) (bytes' : List ℕ) (kept : Bodies m bytes
           slots-hi = l .slots-hi;
           pages-lo = l .pages-lo;
           pages-hi = l .pages-hi;
-          room-hi = l .room-hi;
+          journal-hi = l .journal-hi;
           in-bytes = kept .long ∙ l .in-bytes;
           in-keys = l .in-keys;
           in-order = l .in-order;

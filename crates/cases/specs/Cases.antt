@@ -44,7 +44,7 @@ layout = record {
 
 -- a setting with that layout; no row reads its counts
 abbrev pub setting : Setting
-setting = record { layout = layout; chunks = 0; pages = 0; room = 0 }
+setting = record { layout = layout; chunks = 0; pages = 0; journalWords = 0 }
 
 -- is k a number of the list?
 abbrev pub among : List ℕ → ℕ → Bool
@@ -69,8 +69,8 @@ access f address =
     (accessChecks (λ g. gasAndBound (g .frame)) Heap f address)
     (done (gasAndBound (frameAccessed f Heap address .frame)))
 
--- ---- a row Holds
--- A window is one of page 66, a heap: of the chunks that it held it Holds those of the list, and no others. A price is paid from any gas that reaches it.
+-- ---- a row holds
+-- A window is one of page 66, a heap: of the chunks that it held it holds those of the list, and no others. A price is paid from any gas that reaches it.
 abbrev pub Holds : Case → Type 0
 Holds (decodes id p) = decoding layout id ≡ done p
 Holds (spans address chunks) = touchedCount address 32 ≡ chunks
@@ -83,7 +83,7 @@ Holds (pays bound address price broke) =
     ((gas : ℕ) → price ≤ gas → access (frame gas bound) address ≡ done (gas - price, bound + price))
     × (access (frame 0 bound) address ≡ broke)
 
--- every row of a list Holds
+-- every row of a list holds
 abbrev pub All : List Case → Type 0
 All [] = Unit {0}
 All (row ∷ rows) = Holds row × All rows

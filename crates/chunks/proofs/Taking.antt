@@ -14,7 +14,7 @@ use Rattle.index.specs.Index.{indexed, seek, freeCount}
 use Rattle.index.proofs.Logic.{same-or-not, lt-or-ge, lt-by}
 use Rattle.index.proofs.Places.{seek-hit}
 use Rattle.page_ids.specs.declared.Layout.{Layout}
-use Rattle.store.specs.Mem.{Mem, mem, layoutOf, slotCount, pageCount, journalRoom, journalLength, heldNow, inUse, dynamicLength, holders, entries, chunks}
+use Rattle.store.specs.Mem.{Mem, mem, layoutOf, slotCount, pageCount, journalWords, journalLength, heldNow, inUse, dynamicLength, holders, entries, chunks}
 use Rattle.store.specs.Hold.{lacks, Indexed, Taken, Held}
 use Rattle.store.proofs.Parts.{take-set, drop-set}
 use Rattle.store.proofs.Holds.{cut-keys}
@@ -105,7 +105,7 @@ module _ (bytes keys order words keys' order' words' : List ℕ) (f : WellFormed
   pages-same : pageCount words' ≡ pageCount words
   pages-same = t .head 7 (λ e. omega arith)
 
-  room-same : journalRoom words' ≡ journalRoom words
+  room-same : journalWords words' ≡ journalWords words
   room-same = t .head 8 (λ e. omega arith)
 
   layouts-same : layoutOf words' ≡ layoutOf words
@@ -138,7 +138,7 @@ module _ (bytes keys order words keys' order' words' : List ℕ) (f : WellFormed
         slots-hi = let h = l .slots-hi in omega arith;
         pages-lo = let h = l .pages-lo in omega arith;
         pages-hi = let h = l .pages-hi in omega arith;
-        room-hi = let h = l .room-hi in omega arith;
+        journal-hi = let h = l .journal-hi in omega arith;
         in-bytes = let h = l .in-bytes in omega arith;
         in-keys = let h = l .in-keys in omega arith;
         in-order = let h = l .in-order in omega arith;

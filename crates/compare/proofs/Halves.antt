@@ -91,7 +91,7 @@ module _ (v w : View) where
       (and-false-right (pageKept p) (bytesKept p)
       (all-fails (byteKept p) 4294967327 a u (not-implied (v .held p (a / 256)) (eqb (v .bytes p a) (w .bytes p a)) h (ne-eqb (v .bytes p a) (w .bytes p a) n))))
 
-  -- ---- an equality, the sameBool way
+  -- ---- an equality, the same way
   abbrev bytesSame : ℕ → Bool
   bytesSame p = all (λ a. eqb (v .bytes p a) (w .bytes p a)) 4294967327
 

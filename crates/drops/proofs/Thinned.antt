@@ -11,7 +11,7 @@ use borrow.Author.Tests.{ltb-true}
 use Rattle.index.specs.Index.{indexed}
 use Rattle.index.proofs.Places.{seek-hit}
 use Rattle.page_ids.specs.declared.Layout.{Layout}
-use Rattle.store.specs.Mem.{Mem, layoutOf, slotCount, journalRoom, journalLength, heldNow, inUse, dynamicLength, holders, entries, slotOrder, pageOrder}
+use Rattle.store.specs.Mem.{Mem, layoutOf, slotCount, journalWords, journalLength, heldNow, inUse, dynamicLength, holders, entries, slotOrder, pageOrder}
 use Rattle.formed.specs.Pages.{LayoutRule, dynamic, group, journalCount, journalPlace}
 use Rattle.formed.specs.Parts.{Note, tab, keyOf, entryOf, allocated, slotOfChunk, holds, byteAt, journal, noteAt, noteAddress, noteFirst, noteLast, oldAt}
 use Rattle.formed.specs.WellFormed.{WellFormed, Lengths, NotedRight, HeldAt, holder, keyEntry, keyChunk, slotByte}
@@ -76,7 +76,7 @@ module _ (P U : ℕ → Bool) (m m' : Mem) (f : WellFormed m) (t : Thinned P U m
   slots-same : slotCount (m' .words) ≡ slotCount (m .words)
   slots-same = words-same 6 (omega arith)
 
-  room-same : journalRoom (m' .words) ≡ journalRoom (m .words)
+  room-same : journalWords (m' .words) ≡ journalWords (m .words)
   room-same = words-same 8 (omega arith)
 
   layouts-same : layoutOf (m' .words) ≡ layoutOf (m .words)
@@ -104,7 +104,7 @@ module _ (P U : ℕ → Bool) (m m' : Mem) (f : WellFormed m) (t : Thinned P U m
         slots-hi = let h = l .slots-hi in omega arith;
         pages-lo = let h = l .pages-lo in omega arith;
         pages-hi = let h = l .pages-hi in omega arith;
-        room-hi = let h = l .room-hi in omega arith;
+        journal-hi = let h = l .journal-hi in omega arith;
         in-bytes = let h = l .in-bytes in omega arith;
         in-keys = let h = l .in-keys in omega arith;
         in-order = let h = l .in-order in omega arith;

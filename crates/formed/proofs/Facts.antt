@@ -13,7 +13,7 @@ use Rattle.page_ids.specs.Decode.{badLayout}
 use Rattle.index.specs.Index.{all, indexed}
 use Rattle.index.proofs.Logic.{and-both, same-or-not, lt-or-ge}
 use Rattle.index.proofs.All.{all-intro}
-use Rattle.store.specs.Mem.{Mem, layoutOf, slotCount, journalRoom, journalLength, heldNow, inUse, dynamicLength, holders, entries, slotOrder, pageOrder, chunks}
+use Rattle.store.specs.Mem.{Mem, layoutOf, slotCount, journalWords, journalLength, heldNow, inUse, dynamicLength, holders, entries, slotOrder, pageOrder, chunks}
 use Rattle.formed.specs.Pages.{LayoutRule, dynamic, group, journalCount, journalPlace}
 use Rattle.formed.specs.Parts.{keyOf}
 use Rattle.formed.specs.Formed.{chunk, slotAt, sized, narrow, headRight, entryRight, noted, journalOf, contents, wellFormed}
@@ -47,7 +47,7 @@ pub record Facts (m : Mem) : Type 0 where
   pub listed : (e : ℕ) → 4 ≤ e → 0 < getD (entries m) e 0 → PageRight (m .words) (getD (entries m) e 0)
   pub pooled : (s : ℕ) → s < slotCount (m .words) → holder m s ≡ 0 → (r : ℕ) → r < 256 → slotByte m s r ≡ 0
   pub held : (s : ℕ) → 0 < holder m s → SlotRight m s (holder m s)
-  pub in-capacity : (j : ℕ) → j < journalCount → journalLength (m .words) j ≤ journalRoom (m .words)
+  pub in-capacity : (j : ℕ) → j < journalCount → journalLength (m .words) j ≤ journalWords (m .words)
   pub notes : (j i : ℕ) → j < journalCount → i < journalLength (m .words) j → NotedRight m j i
 
 -- they pass the test
@@ -84,8 +84,8 @@ module _ (m : Mem) (f : Facts m) where
   unfolding journalOf
   journal-pass j l =
       let c = f .in-capacity j l in
-      and-both (leb (journalLength (m .words) j) (journalRoom (m .words))) _ (le-leb (journalLength (m .words) j) (journalRoom (m .words)) c)
-      (all-intro (noted (holders m) (take (3 * journalRoom (m .words)) (drop (16 + 3 * journalRoom (m .words) * j) (m .words))) (keyOf (journalPlace j) 0)) (journalLength (m .words) j)
+      and-both (leb (journalLength (m .words) j) (journalWords (m .words))) _ (le-leb (journalLength (m .words) j) (journalWords (m .words)) c)
+      (all-intro (noted (holders m) (take (3 * journalWords (m .words)) (drop (16 + 3 * journalWords (m .words) * j) (m .words))) (keyOf (journalPlace j) 0)) (journalLength (m .words) j)
       (λ i h. noted-test m j i (omega arith) (f .notes j i l h)))
 
   pub facts-pass : wellFormed m ≡ true

@@ -48,7 +48,7 @@ module _ (m : Mem) (f : WellFormed m) where
 
     pub learnt-formed : WellFormed m'
     learnt-formed = formed-by m' record {
-      lengths = let l = g .lengths in record { slots-lo = l .slots-lo; slots-hi = l .slots-hi; pages-lo = l .pages-lo; pages-hi = l .pages-hi; room-hi = l .room-hi; in-bytes = l .in-bytes; in-keys = l .in-keys; in-order = h .long ∙ l .in-order; in-words = l .in-words };
+      lengths = let l = g .lengths in record { slots-lo = l .slots-lo; slots-hi = l .slots-hi; pages-lo = l .pages-lo; pages-hi = l .pages-hi; journal-hi = l .journal-hi; in-bytes = l .in-bytes; in-keys = l .in-keys; in-order = h .long ∙ l .in-order; in-words = l .in-words };
       layout = g .layout;
       layout-width = g .layout-width;
       length-width = g .length-width;

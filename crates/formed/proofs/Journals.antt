@@ -12,7 +12,7 @@ use lib.Seq.{getD-take, getD-drop}
 use borrow.Author.Tests.{le-leb, eq-eqb, leb-true, eqb-true}
 use Rattle.index.specs.Index.{all}
 use Rattle.index.proofs.Logic.{and-left, and-right, and-both}
-use Rattle.store.specs.Mem.{Mem, journalRoom, holders}
+use Rattle.store.specs.Mem.{Mem, journalWords, holders}
 use Rattle.formed.specs.Pages.{journalCount, journalPlace}
 use Rattle.formed.specs.Parts.{keyOf, noteAt, noteAddress, noteFirst, noteLast}
 use Rattle.formed.specs.Formed.{noted, journalOf}
@@ -20,17 +20,17 @@ use Rattle.formed.specs.WellFormed.{holder, NotedRight}
 
 -- the two journals
 module _ (hs w : List ℕ) where
-  pub journal-heap : (leb (getD w 12 0) (journalRoom w) && all (noted hs (take (3 * journalRoom w) (drop 16 w)) 67108865) (getD w 12 0)) ≡ journalOf hs w 0
+  pub journal-heap : (leb (getD w 12 0) (journalWords w) && all (noted hs (take (3 * journalWords w) (drop 16 w)) 67108865) (getD w 12 0)) ≡ journalOf hs w 0
   unfolding journalOf
   journal-heap =
-      let e : 16 ≡ 16 + 3 * journalRoom w * 0 = omega arith in
-      ap (λ (x : ℕ). leb (getD w 12 0) (journalRoom w) && all (noted hs (take (3 * journalRoom w) (drop x w)) 67108865) (getD w 12 0)) e
+      let e : 16 ≡ 16 + 3 * journalWords w * 0 = omega arith in
+      ap (λ (x : ℕ). leb (getD w 12 0) (journalWords w) && all (noted hs (take (3 * journalWords w) (drop x w)) 67108865) (getD w 12 0)) e
 
-  pub journal-aux : (leb (getD w 13 0) (journalRoom w) && all (noted hs (take (3 * journalRoom w) (drop (16 + 3 * journalRoom w) w)) 100663297) (getD w 13 0)) ≡ journalOf hs w 1
+  pub journal-aux : (leb (getD w 13 0) (journalWords w) && all (noted hs (take (3 * journalWords w) (drop (16 + 3 * journalWords w) w)) 100663297) (getD w 13 0)) ≡ journalOf hs w 1
   unfolding journalOf
   journal-aux =
-      let e : 16 + 3 * journalRoom w ≡ 16 + 3 * journalRoom w * 1 = omega arith in
-      ap (λ (x : ℕ). leb (getD w 13 0) (journalRoom w) && all (noted hs (take (3 * journalRoom w) (drop x w)) 100663297) (getD w 13 0)) e
+      let e : 16 + 3 * journalWords w ≡ 16 + 3 * journalWords w * 1 = omega arith in
+      ap (λ (x : ℕ). leb (getD w 13 0) (journalWords w) && all (noted hs (take (3 * journalWords w) (drop x w)) 100663297) (getD w 13 0)) e
 
   pub journals-two : (journalOf hs w 0 && journalOf hs w 1) ≡ all (journalOf hs w) journalCount
   unfolding all
@@ -43,18 +43,18 @@ note-at w n j i c l h x y ex ey =
     let e : 16 + 3 * n * j + x ≡ y = omega arith in
     getD-take (3 * n) (drop (16 + 3 * n * j) w) x 0 (omega arith) ∙ getD-drop (16 + 3 * n * j) w x 0 ∙ ap (λ (z : ℕ). getD w z 0) e
 
-module _ (m : Mem) (j i : ℕ) (l : i < journalRoom (m .words)) where
+module _ (m : Mem) (j i : ℕ) (l : i < journalWords (m .words)) where
   abbrev ns : List ℕ
-  ns = take (3 * journalRoom (m .words)) (drop (16 + 3 * journalRoom (m .words) * j) (m .words))
+  ns = take (3 * journalWords (m .words)) (drop (16 + 3 * journalWords (m .words) * j) (m .words))
 
   note-0 : getD ns (3 * i) 0 ≡ noteAddress m j i
-  note-0 = note-at (m .words) (journalRoom (m .words)) j i 0 l (omega arith) (3 * i) (noteAt m j i) (omega arith) (omega arith)
+  note-0 = note-at (m .words) (journalWords (m .words)) j i 0 l (omega arith) (3 * i) (noteAt m j i) (omega arith) (omega arith)
 
   note-1 : getD ns (3 * i + 1) 0 ≡ noteFirst m j i
-  note-1 = note-at (m .words) (journalRoom (m .words)) j i 1 l (omega arith) (3 * i + 1) (noteAt m j i + 1) (omega arith) (omega arith)
+  note-1 = note-at (m .words) (journalWords (m .words)) j i 1 l (omega arith) (3 * i + 1) (noteAt m j i + 1) (omega arith) (omega arith)
 
   note-2 : getD ns (3 * i + 2) 0 ≡ noteLast m j i
-  note-2 = note-at (m .words) (journalRoom (m .words)) j i 2 l (omega arith) (3 * i + 2) (noteAt m j i + 2) (omega arith) (omega arith)
+  note-2 = note-at (m .words) (journalWords (m .words)) j i 2 l (omega arith) (3 * i + 2) (noteAt m j i + 2) (omega arith) (omega arith)
 
   abbrev noteTest : ℕ → ℕ → ℕ → Bool
   noteTest a s t = leb a 4294967295 && (eqb (holder m s) (keyOf (journalPlace j) 0 + a / 256) && eqb (holder m t) (keyOf (journalPlace j) 0 + (a + 31) / 256))

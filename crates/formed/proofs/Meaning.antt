@@ -14,7 +14,7 @@ use Rattle.index.proofs.Logic.{and-left, and-right, same-or-not, lt-or-ge}
 use Rattle.index.proofs.All.{all-at}
 use Rattle.index.proofs.Places.{seek-hit, seek-upto}
 use Rattle.index.proofs.Meaning.{index-means, index-test, once}
-use Rattle.store.specs.Mem.{Mem, layoutOf, slotCount, pageCount, journalRoom, journalLength, heldNow, inUse, dynamicLength, holders, entries, slotOrder, pageOrder, chunks}
+use Rattle.store.specs.Mem.{Mem, layoutOf, slotCount, pageCount, journalWords, journalLength, heldNow, inUse, dynamicLength, holders, entries, slotOrder, pageOrder, chunks}
 use Rattle.formed.specs.Pages.{LayoutRule, fixedId, dynamic, group, fixed, journalCount, journalPlace, journalPage}
 use Rattle.formed.specs.Parts.{keyOf, entryOf, slotOfChunk, holds, byteAt, noteAddress, noteFirst, noteLast}
 use Rattle.formed.specs.Formed.{zeros, chunk, slotAt, sized, narrow, headRight, entryRight, noted, journalOf, contents, wellFormed}
@@ -191,19 +191,19 @@ module _ (m : Mem) (f : wellFormed m ≡ true) where
   journal-right j l = all-at (journalOf (holders m) (m .words)) journalCount j t₃ l
 
   abbrev J₂ : ℕ → Bool
-  J₂ j = all (noted (holders m) (take (3 * journalRoom (m .words)) (drop (16 + 3 * journalRoom (m .words) * j) (m .words))) (keyOf (journalPlace j) 0)) (journalLength (m .words) j)
+  J₂ j = all (noted (holders m) (take (3 * journalWords (m .words)) (drop (16 + 3 * journalWords (m .words) * j) (m .words))) (keyOf (journalPlace j) 0)) (journalLength (m .words) j)
 
-  room : (j : ℕ) → j < journalCount → journalLength (m .words) j ≤ journalRoom (m .words)
+  room : (j : ℕ) → j < journalCount → journalLength (m .words) j ≤ journalWords (m .words)
   unfolding journalOf
-  room j l = leb-true (journalLength (m .words) j) (journalRoom (m .words)) (and-left (leb (journalLength (m .words) j) (journalRoom (m .words))) (J₂ j) (journal-right j l))
+  room j l = leb-true (journalLength (m .words) j) (journalWords (m .words)) (and-left (leb (journalLength (m .words) j) (journalWords (m .words))) (J₂ j) (journal-right j l))
 
   note : (j i : ℕ) → j < journalCount → i < journalLength (m .words) j → NotedRight m j i
   unfolding journalOf
   note j i l h =
       let c = room j l in
       noted-means m j i (omega arith)
-      (all-at (noted (holders m) (take (3 * journalRoom (m .words)) (drop (16 + 3 * journalRoom (m .words) * j) (m .words))) (keyOf (journalPlace j) 0)) (journalLength (m .words) j) i
-      (and-right (leb (journalLength (m .words) j) (journalRoom (m .words))) (J₂ j) (journal-right j l)) h)
+      (all-at (noted (holders m) (take (3 * journalWords (m .words)) (drop (16 + 3 * journalWords (m .words) * j) (m .words))) (keyOf (journalPlace j) 0)) (journalLength (m .words) j) i
+      (and-right (leb (journalLength (m .words) j) (journalWords (m .words))) (J₂ j) (journal-right j l)) h)
 
   held-by : (j k s : ℕ) → j < journalCount → k ≤ 16777216 → holder m s ≡ keyOf (journalPlace j) k → holds m (journalPage (layoutOf (m .words)) j) k ≡ true
   unfolding holds slotOfChunk

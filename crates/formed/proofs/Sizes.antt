@@ -10,7 +10,7 @@ use lib.ListN.{length, getD, length-drop}
 use lib.Seq.{length-take-le}
 use borrow.Author.Tests.{le-leb, eq-eqb, leb-true, eqb-true}
 use Rattle.index.proofs.Logic.{and-left, and-right, and-both}
-use Rattle.store.specs.Mem.{Mem, slotCount, pageCount, journalRoom, dynamicLength, holders, entries, chunks}
+use Rattle.store.specs.Mem.{Mem, slotCount, pageCount, journalWords, dynamicLength, holders, entries, chunks}
 use Rattle.formed.specs.Buffers.{bytesFor, keysFor, orderFor, wordsFor, lengthsFit}
 use Rattle.formed.specs.Formed.{sized, fits, narrow}
 use Rattle.formed.specs.WellFormed.{Lengths}
@@ -21,7 +21,7 @@ pub record Fit (b k o w c p j : ℕ) : Type 0 where
   pub slots-hi : c ≤ 65536
   pub pages-lo : 1 ≤ p
   pub pages-hi : p ≤ 4096
-  pub room-hi : j ≤ 65536
+  pub journal-hi : j ≤ 65536
   pub in-bytes : b ≡ bytesFor c j
   pub in-keys : k ≡ keysFor c p
   pub in-order : o ≡ orderFor c p
@@ -60,7 +60,7 @@ module _ (b k o w c p j : ℕ) where
         slots-hi = leb-true c 65536 (and-right (leb 1 c) (leb c 65536) slots);
         pages-lo = leb-true 1 p (and-left (leb 1 p) (leb p 4096) pages);
         pages-hi = leb-true p 4096 (and-right (leb 1 p) (leb p 4096) pages);
-        room-hi = leb-true j 65536 (and-left (leb j 65536) S₄ s₃);
+        journal-hi = leb-true j 65536 (and-left (leb j 65536) S₄ s₃);
         in-bytes = eqb-true b (bytesFor c j) (and-left (eqb b (bytesFor c j)) S₅ s₄);
         in-keys = eqb-true k (keysFor c p) (and-left (eqb k (keysFor c p)) S₆ s₅);
         in-order = eqb-true o (orderFor c p) (and-left (eqb o (orderFor c p)) (eqb w (wordsFor j)) s₆);
@@ -71,7 +71,7 @@ module _ (b k o w c p j : ℕ) where
   fit-test r =
       and-both P₂ (P₃ && S₃) (and-both (leb 1 c) (leb c 65536) (le-leb 1 c (r .slots-lo)) (le-leb c 65536 (r .slots-hi)))
       (and-both P₃ S₃ (and-both (leb 1 p) (leb p 4096) (le-leb 1 p (r .pages-lo)) (le-leb p 4096 (r .pages-hi)))
-      (and-both (leb j 65536) S₄ (le-leb j 65536 (r .room-hi))
+      (and-both (leb j 65536) S₄ (le-leb j 65536 (r .journal-hi))
       (and-both (eqb b (bytesFor c j)) S₅ (eq-eqb b (bytesFor c j) (r .in-bytes))
       (and-both (eqb k (keysFor c p)) S₆ (eq-eqb k (keysFor c p) (r .in-keys))
       (and-both (eqb o (orderFor c p)) (eqb w (wordsFor j)) (eq-eqb o (orderFor c p) (r .in-order)) (eq-eqb w (wordsFor j) (r .in-words)))))))
@@ -83,10 +83,10 @@ module _ (b k o w c p j : ℕ) where
 -- the counts, and the lengths of the buffers
 module _ (m : Mem) where
   abbrev fits-them : Bool
-  fits-them = lengthsFit (length (m .bytes)) (length (m .keys)) (length (m .order)) (length (m .words)) (slotCount (m .words)) (pageCount (m .words)) (journalRoom (m .words))
+  fits-them = lengthsFit (length (m .bytes)) (length (m .keys)) (length (m .order)) (length (m .words)) (slotCount (m .words)) (pageCount (m .words)) (journalWords (m .words))
 
   abbrev Fits-them : Type 0
-  Fits-them = Fit (length (m .bytes)) (length (m .keys)) (length (m .order)) (length (m .words)) (slotCount (m .words)) (pageCount (m .words)) (journalRoom (m .words))
+  Fits-them = Fit (length (m .bytes)) (length (m .keys)) (length (m .order)) (length (m .words)) (slotCount (m .words)) (pageCount (m .words)) (journalWords (m .words))
 
   pub lengths-are : sized (length (m .bytes)) (length (m .keys)) (length (m .order)) (m .words) ≡ true → Lengths m
   unfolding sized
@@ -97,7 +97,7 @@ module _ (m : Mem) where
         slots-hi = r .slots-hi;
         pages-lo = r .pages-lo;
         pages-hi = r .pages-hi;
-        room-hi = r .room-hi;
+        journal-hi = r .journal-hi;
         in-bytes = r .in-bytes;
         in-keys = r .in-keys;
         in-order = r .in-order;
@@ -117,7 +117,7 @@ module _ (m : Mem) where
         slots-hi = r .slots-hi;
         pages-lo = r .pages-lo;
         pages-hi = r .pages-hi;
-        room-hi = r .room-hi;
+        journal-hi = r .journal-hi;
         in-bytes = r .in-bytes;
         in-keys = r .in-keys;
         in-order = r .in-order;

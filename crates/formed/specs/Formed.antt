@@ -7,7 +7,7 @@ use lib.Dec.{ltb, leb, eqb}
 use lib.ListN.{length, getD, take, drop}
 use Rattle.page_ids.specs.Decode.{badLayout}
 use Rattle.index.specs.Index.{all, indexed}
-use Rattle.store.specs.Mem.{Mem, headLength, layoutOf, slotCount, pageCount, journalRoom, heldNow, inUse, dynamicLength, journalLength, holders, entries, slotOrder, pageOrder, chunks}
+use Rattle.store.specs.Mem.{Mem, headLength, layoutOf, slotCount, pageCount, journalWords, heldNow, inUse, dynamicLength, journalLength, holders, entries, slotOrder, pageOrder, chunks}
 use Rattle.formed.specs.Pages.{dynamic, group, journalCount, journalPlace}
 use Rattle.formed.specs.Buffers.{lengthsFit}
 use Rattle.formed.specs.Parts.{keyOf}
@@ -15,7 +15,7 @@ use Rattle.formed.specs.Parts.{keyOf}
 -- the counts are in bounds, and the lengths b, k, o of the other buffers and that of w are those for them
 unfoldable pub sized : ℕ → ℕ → ℕ → List ℕ → Bool
 sized b k o w =
-    leb headLength (length w) && lengthsFit b k o (length w) (slotCount w) (pageCount w) (journalRoom w)
+    leb headLength (length w) && lengthsFit b k o (length w) (slotCount w) (pageCount w) (journalWords w)
 
 -- a number of 32 bits
 abbrev pub fits : ℕ → Bool
@@ -64,8 +64,8 @@ noted hs ns k i =
 -- journal j is within its room, and the chunks of each of its words are held
 unfoldable pub journalOf : List ℕ → List ℕ → ℕ → Bool
 journalOf hs w j =
-    leb (journalLength w j) (journalRoom w)
-    && all (noted hs (take (3 * journalRoom w) (drop (headLength + 3 * journalRoom w * j) w)) (keyOf (journalPlace j) 0)) (journalLength w j)
+    leb (journalLength w j) (journalWords w)
+    && all (noted hs (take (3 * journalWords w) (drop (headLength + 3 * journalWords w * j) w)) (keyOf (journalPlace j) 0)) (journalLength w j)
 
 -- pages, slots, journals
 unfoldable pub contents : Mem → Bool

@@ -6,7 +6,7 @@ use Prim.Native.Nat.{ℕ, zero, suc, _+_, _*_, _/_, _%_}
 use lib.Dec.{ltb, leb}
 use lib.ListN.{length, getD}
 use Rattle.index.specs.Index.{seek, freeCount}
-use Rattle.store.specs.Mem.{Mem, headLength, slotCount, journalRoom, journalLength, holders, entries, chunks}
+use Rattle.store.specs.Mem.{Mem, headLength, slotCount, journalWords, journalLength, holders, entries, chunks}
 
 -- f 0, f 1, .., f (n - 1)
 unfoldable pub tab : {A : Type 0} → ℕ → (ℕ → A) → List A
@@ -50,7 +50,7 @@ pub record Note : Type 0 where
 
 -- word i of journal j has three numbers and 32 bytes
 abbrev pub noteAt : Mem → ℕ → ℕ → ℕ
-noteAt m j i = headLength + 3 * (journalRoom (m .words) * j + i)
+noteAt m j i = headLength + 3 * (journalWords (m .words) * j + i)
 
 abbrev pub noteAddress : Mem → ℕ → ℕ → ℕ
 noteAddress m j i = getD (m .words) (noteAt m j i) 0
@@ -62,7 +62,7 @@ abbrev pub noteLast : Mem → ℕ → ℕ → ℕ
 noteLast m j i = getD (m .words) (noteAt m j i + 2) 0
 
 abbrev pub oldAt : Mem → ℕ → ℕ → ℕ
-oldAt m j i = 256 * slotCount (m .words) + 32 * (journalRoom (m .words) * j + i)
+oldAt m j i = 256 * slotCount (m .words) + 32 * (journalWords (m .words) * j + i)
 
 -- journal j, the oldest word first
 unfoldable pub journal : Mem → ℕ → List Note

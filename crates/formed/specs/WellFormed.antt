@@ -6,7 +6,7 @@ use mathlib.Core.Logic.{_⊎_}
 use Prim.Native.Nat.{ℕ, _+_, _*_, _-_, _/_, _%_, _<_, _≤_}
 use lib.ListN.{length, getD}
 use Rattle.index.specs.Index.{Index}
-use Rattle.store.specs.Mem.{Mem, layoutOf, slotCount, pageCount, journalRoom, heldNow, inUse, dynamicLength, journalLength, holders, entries, slotOrder, pageOrder, chunks}
+use Rattle.store.specs.Mem.{Mem, layoutOf, slotCount, pageCount, journalWords, heldNow, inUse, dynamicLength, journalLength, holders, entries, slotOrder, pageOrder, chunks}
 use Rattle.formed.specs.Pages.{LayoutRule, fixedId, fixed, dynamic, group, journalCount, journalPlace, journalPage}
 use Rattle.formed.specs.Buffers.{bytesFor, keysFor, orderFor, wordsFor}
 use Rattle.formed.specs.Parts.{keyOf, holds, byteAt, noteAddress, noteFirst, noteLast}
@@ -57,11 +57,11 @@ pub record Lengths (m : Mem) : Type 0 where
   pub slots-hi : slotCount (m .words) ≤ 65536
   pub pages-lo : 1 ≤ pageCount (m .words)
   pub pages-hi : pageCount (m .words) ≤ 4096
-  pub room-hi : journalRoom (m .words) ≤ 65536
-  pub in-bytes : length (m .bytes) ≡ bytesFor (slotCount (m .words)) (journalRoom (m .words))
+  pub journal-hi : journalWords (m .words) ≤ 65536
+  pub in-bytes : length (m .bytes) ≡ bytesFor (slotCount (m .words)) (journalWords (m .words))
   pub in-keys : length (m .keys) ≡ keysFor (slotCount (m .words)) (pageCount (m .words))
   pub in-order : length (m .order) ≡ orderFor (slotCount (m .words)) (pageCount (m .words))
-  pub in-words : length (m .words) ≡ wordsFor (journalRoom (m .words))
+  pub in-words : length (m .words) ≡ wordsFor (journalWords (m .words))
 
 -- ---- what the encoding itself asks; buffers that break it encode no memory
 -- word i of journal j: the address has 32 bits, and the slots noted hold the word's first and last chunk
@@ -101,7 +101,7 @@ pub record WellFormed (m : Mem) : Type 0 where
   -- holders are fixed or listed pages
   pub holders-known : (s p k : ℕ) → HeldAt m s p k → (fixed (layoutOf (m .words)) p ≡ true) ⊎ ListedPage m p
   -- journals are within capacity
-  pub in-capacity : (j : ℕ) → j < journalCount → journalLength (m .words) j ≤ journalRoom (m .words)
+  pub in-capacity : (j : ℕ) → j < journalCount → journalLength (m .words) j ≤ journalWords (m .words)
   -- and the chunks of each journalled word are held, by the journal's own page: that of each of its 32 bytes
   pub words-held : (j i x : ℕ) → j < journalCount → i < journalLength (m .words) j → x < 32
       → holds m (journalPage (layoutOf (m .words)) j) ((noteAddress m j i + x) / 256) ≡ true

@@ -5,7 +5,7 @@ ghost use Prim.Native.Nat.{_+_, _*_, _/_, _<_, _≤_};
 ghost use lib.Dec.{eqb, leb};
 ghost use lib.ListN.{length, getD, take, drop};
 ghost use Rattle.index.specs.Index.{all};
-ghost use Rattle.store.specs.Mem.{journalRoom};
+ghost use Rattle.store.specs.Mem.{journalWords};
 ghost use Rattle.formed.specs.Pages.{journalCount};
 ghost use Rattle.formed.specs.Formed.{noted, journalOf};
 use store::head;
@@ -65,7 +65,7 @@ fn journal_ok(holders: &[u64], words: &[u64], at: usize, room: usize, n: usize, 
 
 // Whether both journals are right. Chunk 0 of the bootloader heap has the key 67,108,865, that of the bootloader aux heap 100,663,297.
 pub fn journals_ok(holders: &[u64], words: &[u64]) -> bool
-    requires { ⌜ (journalRoom (now words) ≤ 65536) × (length (now words) ≡ 16 + 6 * journalRoom (now words)) ⌝ }
+    requires { ⌜ (journalWords (now words) ≤ 65536) × (length (now words) ≡ 16 + 6 * journalWords (now words)) ⌝ }
     ensures { λ r. ⌜ r ≡ all (journalOf (now (holders .entry)) (now (words .entry))) journalCount ⌝ }
 {
     let room = words[head::JOURNAL_WORDS] as usize;

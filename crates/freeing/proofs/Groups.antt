@@ -14,7 +14,7 @@ use Rattle.index.specs.Index.{indexed, freeCount}
 use Rattle.index.proofs.Logic.{same-or-not, lt-or-ge, and-right}
 use Rattle.index.proofs.Places.{seek-hit}
 use Rattle.page_ids.specs.declared.Layout.{Layout}
-use Rattle.store.specs.Mem.{Mem, mem, headLength, layoutOf, slotCount, pageCount, journalRoom, journalLength, dynamicLength, heldNow, inUse, holders, entries}
+use Rattle.store.specs.Mem.{Mem, mem, headLength, layoutOf, slotCount, pageCount, journalWords, journalLength, dynamicLength, heldNow, inUse, holders, entries}
 use Rattle.formed.specs.Pages.{LayoutRule, dynamic, group, journalCount}
 use Rattle.formed.specs.Parts.{Note, tab, entryOf, allocated, slotOfChunk, holds, byteAt, journal, noteAddress, oldAt}
 use Rattle.formed.specs.WellFormed.{WellFormed, Lengths, NotedRight, keyEntry}
@@ -137,7 +137,7 @@ module _ (m : Mem) (f : WellFormed m) (n e : ℕ) (m' : Mem) (i : Freeing m n e 
   lengths-kept =
       let c : slotCount (m' .words) ≡ slotCount (m .words) = ap (λ (s : Setting). s .chunks) (i .shows .setting) in
       let p : pageCount (m' .words) ≡ pageCount (m .words) = ap (λ (s : Setting). s .pages) (i .shows .setting) in
-      let r : journalRoom (m' .words) ≡ journalRoom (m .words) = ap (λ (s : Setting). s .room) (i .shows .setting) in
+      let r : journalWords (m' .words) ≡ journalWords (m .words) = ap (λ (s : Setting). s .journalWords) (i .shows .setting) in
       let l = f .lengths in
       let l' = i .shows .formed .lengths in
       (omega (arith, l .in-bytes, l' .in-bytes), omega (arith, l .in-keys, l' .in-keys), omega (arith, l .in-order, l' .in-order), omega (arith, l .in-words, l' .in-words))
@@ -275,7 +275,7 @@ module _ (bytes keys order words : List ℕ) (n : ℕ) (a : ShortenAsks (mem byt
   slots-o : slotCount w ≡ slotCount words
   slots-o = head 6 (λ e. omega arith)
 
-  room-o : journalRoom w ≡ journalRoom words
+  room-o : journalWords w ≡ journalWords words
   room-o = head 8 (λ e. omega arith)
 
   length-o : (j : ℕ) → journalLength w j ≡ journalLength words j
@@ -294,7 +294,7 @@ module _ (bytes keys order words : List ℕ) (n : ℕ) (a : ShortenAsks (mem byt
         slots-hi = let h = l .slots-hi in omega arith;
         pages-lo = let h = l .pages-lo in omega arith;
         pages-hi = let h = l .pages-hi in omega arith;
-        room-hi = let h = l .room-hi in omega arith;
+        journal-hi = let h = l .journal-hi in omega arith;
         in-bytes = let h = l .in-bytes in omega arith;
         in-keys = let h = l .in-keys in omega arith;
         in-order = let h = l .in-order in omega arith;
@@ -317,11 +317,11 @@ module _ (bytes keys order words : List ℕ) (n : ℕ) (a : ShortenAsks (mem byt
             omega arith;
       }
 
-  note-o : (j i x : ℕ) → getD w (16 + 3 * (journalRoom w * j + i) + x) 0 ≡ getD words (16 + 3 * (journalRoom words * j + i) + x) 0
-  note-o j i x = ap (λ (r : ℕ). getD w (16 + 3 * (r * j + i) + x) 0) room-o ∙ head (16 + 3 * (journalRoom words * j + i) + x) (λ e. omega arith)
+  note-o : (j i x : ℕ) → getD w (16 + 3 * (journalWords w * j + i) + x) 0 ≡ getD words (16 + 3 * (journalWords words * j + i) + x) 0
+  note-o j i x = ap (λ (r : ℕ). getD w (16 + 3 * (r * j + i) + x) 0) room-o ∙ head (16 + 3 * (journalWords words * j + i) + x) (λ e. omega arith)
 
   address-o : (j i : ℕ) → noteAddress o' j i ≡ noteAddress o j i
-  address-o j i = ap (λ (r : ℕ). getD w (16 + 3 * (r * j + i)) 0) room-o ∙ head (16 + 3 * (journalRoom words * j + i)) (λ e. omega arith)
+  address-o j i = ap (λ (r : ℕ). getD w (16 + 3 * (r * j + i)) 0) room-o ∙ head (16 + 3 * (journalWords words * j + i)) (λ e. omega arith)
 
   formed-o : WellFormed o'
   formed-o = formed-by o' (record {
@@ -356,8 +356,8 @@ module _ (bytes keys order words : List ℕ) (n : ℕ) (a : ShortenAsks (mem byt
           let e = address-o j i in
           record {
             address = let y = h .address in omega arith;
-            first = ap (λ (c : ℕ). getD (take c keys) (getD w (16 + 3 * (journalRoom w * j + i) + 1) 0) 0) slots-o ∙ ap (λ (y : ℕ). getD (holders o) y 0) (note-o j i 1) ∙ h .first ∙ rw e;
-            last = ap (λ (c : ℕ). getD (take c keys) (getD w (16 + 3 * (journalRoom w * j + i) + 2) 0) 0) slots-o ∙ ap (λ (y : ℕ). getD (holders o) y 0) (note-o j i 2) ∙ h .last ∙ rw e;
+            first = ap (λ (c : ℕ). getD (take c keys) (getD w (16 + 3 * (journalWords w * j + i) + 1) 0) 0) slots-o ∙ ap (λ (y : ℕ). getD (holders o) y 0) (note-o j i 1) ∙ h .first ∙ rw e;
+            last = ap (λ (c : ℕ). getD (take c keys) (getD w (16 + 3 * (journalWords w * j + i) + 2) 0) 0) slots-o ∙ ap (λ (y : ℕ). getD (holders o) y 0) (note-o j i 2) ∙ h .last ∙ rw e;
           }
 
   bytes-o : (q b : ℕ) → byteAt o' q b ≡ byteAt o q b

@@ -23,10 +23,10 @@ fn free_refusal(bytes: &[u8], keys: &[u64], order: &[u32], words: &[u64], page: 
         return 3;
     }
     let decoded = refusals::decode(bytes, keys, order, words, page);
-    if room::is_undecodable(decoded) {
+    if page_ids::is_undecodable(decoded) {
         return 4;
     }
-    if room::is_fixed(decoded) {
+    if page_ids::is_fixed(decoded) {
         return 5;
     }
     if !room::is_allocated(bytes, keys, order, words, page) {
@@ -59,10 +59,10 @@ fn is_dynamic(bytes: &[u8], keys: &[u64], order: &[u32], words: &[u64], page: u3
     ensures { λ r. let m = mem (now (bytes .entry)) (now (keys .entry)) (now (order .entry)) (now (words .entry)) in ⌜ r ≡ (dynamic (layoutOf (now (words .entry))) page && viewOf m .allocated page) ⌝ }
 {
     let decoded = refusals::decode(bytes, keys, order, words, page);
-    if room::is_undecodable(decoded) {
+    if page_ids::is_undecodable(decoded) {
         return false;
     }
-    if room::is_fixed(decoded) {
+    if page_ids::is_fixed(decoded) {
         return false;
     }
     room::is_allocated(bytes, keys, order, words, page)

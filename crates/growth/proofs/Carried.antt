@@ -52,7 +52,7 @@ frameTold f (panicked v) = frameGiven f v
 frameTold f (done v) = frameGiven f v
 
 -- ---- loads and stores
--- the access of an area at x, instructionResult the frame f, is paid and leaves the frame g
+-- the access of an area at x, given the frame f, is paid and leaves the frame g
 pub record Paid (area : Area) (x : ℕ) (f g : Frame) : Type 0 where
   pub paid : frameAccessed f area x .paid ≡ true
   pub frame : g ≡ frameAccessed f area x .frame

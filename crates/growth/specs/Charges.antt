@@ -15,7 +15,7 @@ use Rattle.view.specs.Calls.{Load, Store, instructionResult}
 use Rattle.plain.specs.Claim.{Steps}
 
 -- ---- runs
--- A LOAD OR STORE that neither panics nor is refused, of an area at an address, on any memory. It is instructionResult the frame f and leaves the frame g.
+-- A LOAD OR STORE that neither panics nor is refused, of an area at an address, on any memory. It is given the frame f and leaves the frame g.
 -- A store that stops on the hook is carried out, so it is one too
 pub data LoadOrStore (S : Steps) : (area : Area) (address : ℕ) (f g : Frame) → Type 0 where
   by-load : {m m' : Mem} {area : Area} {f : Frame} {x : Operand} {r : InstructionResult} → S m (Load area f x) (done (instructionResult r)) m' → LoadOrStore S area (x .word) f (r .frame)
@@ -28,11 +28,11 @@ pub record Charge : Type 0 where
   pub address : ℕ
   pub amount : ℕ
 
--- the amount is the gas instructionResult less the gas left
+-- the amount is the gas given less the gas left
 abbrev pub chargeOf : Area → ℕ → Frame → Frame → Charge
 chargeOf area address f g = record { area = area; address = address; amount = f .gas - g .gas }
 
--- A RUN: one or more of them, from the frame f to the frame g, each instructionResult the frame that the last one left; with their charges. Each may be lent another
+-- A RUN: one or more of them, from the frame f to the frame g, each given the frame that the last one left; with their charges. Each may be lent another
 -- memory, so calls that leave this frame as it is may come between
 pub data LoadsAndStores (S : Steps) : (f : Frame) (charges : List Charge) (g : Frame) → Type 0 where
   one : {area : Area} {a : ℕ} {f g : Frame} → LoadOrStore S area a f g → LoadsAndStores S f (chargeOf area a f g ∷ []) g
@@ -79,5 +79,5 @@ pub record AddsUp (area : Area) (f : Frame) (charges : List Charge) (g : Frame) 
 pub record GrowthAddsUp (S : Steps) : Type 0 where
   -- heap and aux taken separately
   pub areas : {f g : Frame} {charges : List Charge} → LoadsAndStores S f charges g → (area : Area) → AddsUp area f charges g
-  -- both sums and the gas left make the gas instructionResult
+  -- both sums and the gas left make the gas given
   pub gas : {f g : Frame} {charges : List Charge} → LoadsAndStores S f charges g → sumOf Heap charges + sumOf Aux charges + g .gas ≡ f .gas

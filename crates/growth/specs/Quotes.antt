@@ -14,7 +14,7 @@ use Rattle.view.specs.Instructions.{Operand, InstructionResult}
 use Rattle.view.specs.Calls.{Load, instructionResult}
 use Rattle.plain.specs.Claim.{Steps}
 
--- Loads of one area at the addresses of a list, one after another, up to the first that panics: each is instructionResult the frame that the last one left, and any
+-- Loads of one area at the addresses of a list, one after another, up to the first that panics: each is given the frame that the last one left, and any
 -- memory. The first frame is f and the last one g; n loads were carried out, so n is the position of the one that panicked, or the list's length
 pub data Loads (S : Steps) (area : Area) : (f : Frame) (list : List ℕ) (n : ℕ) (g : Frame) → Type 0 where
   none : {f : Frame} → Loads S area f [] 0 f
@@ -27,7 +27,7 @@ pub record QuoteOfLoads (S : Steps) : Type 0 where
   -- where they end
   pub equals : {area : Area} {f g : Frame} {list : List ℕ} {n : ℕ} → length list ≤ 4096 → Loads S area f list n g
       → quoted list (f .gas) (boundOf f area) ≡ done (endOf (f .gas) (g .gas) (boundOf g area) n)
-  -- loads leave no more gas than they are instructionResult, so that what is spent is a true difference
+  -- loads leave no more gas than they are given, so that what is spent is a true difference
   pub falls : {area : Area} {f g : Frame} {list : List ℕ} {n : ℕ} → Loads S area f list n g → g .gas ≤ f .gas
   -- loads that end before the list does leave no gas: a panic spends all of it
   pub empties : {area : Area} {f g : Frame} {list : List ℕ} {n : ℕ} → Loads S area f list n g → n < length list → g .gas ≡ 0

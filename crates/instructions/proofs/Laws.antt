@@ -35,7 +35,7 @@ use Rattle.instructions.specs.declared.ExecutionStatus.the-variants.{Run
 use Rattle.instructions.proofs.Lists.{by-number, by-none, fifteen, write-refusals, store-refusals, store-passed}
 
 -- ---- numbers
--- the address of an operand within the limit is its firstRefusal
+-- the address of an operand within the limit is its number
 pub address-is : (x : ℕ) → ltb lastAddress x ≡ false → x % 2 ^ 32 ≡ x
 address-is x e = let l : x ≤ lastAddress = ltb-false lastAddress x e in mod-eq-of-lt (omega arith)
 

@@ -14,7 +14,7 @@ use Rattle.room.specs.Refusals.{firstRefusal}
 use Rattle.room.proofs.Numbers.{none-first}
 use Rattle.refusals.proofs.Passed.{Refusals, end, next, room-refusals}
 
--- ---- what decides, by its firstRefusal
+-- ---- what decides, by its number
 pub by-number : {checks : List (Check Value)} → Refusals checks → (n : ℕ) → n ≡ firstRefusal checks → (n ≡ 0 → ⊥) → (o : Outcome Value) → firstOf checks o ≡ refused n
 by-number end n e z o = absurd (z e)
 by-number (next {b = true} {n = k} r) n e z o = ap refused (sym e)

@@ -11,7 +11,7 @@ use lib.ListN.{length, length-append}
 use borrow.Author.Tests.{eq-eqb}
 use Rattle.formed.proofs.Same.{tab-long}
 use Rattle.page_ids.specs.declared.Layout.{Layout}
-use Rattle.store.specs.Mem.{Mem, layoutOf, journalRoom}
+use Rattle.store.specs.Mem.{Mem, layoutOf, journalWords}
 use Rattle.formed.specs.Pages.{journalPage}
 use Rattle.formed.specs.Parts.{Note, tab}
 use Rattle.view.specs.View.{View, Setting, settingOf, viewOf}
@@ -69,7 +69,7 @@ module _ (m₀ : Mem) (j first n : ℕ) (asks : AlignedAsks m₀ j first n) wher
       which = asks .which;
       address = let t = asks .top in omega arith;
       held = held;
-      room = let r : journalRoom (m₁ .words) ≡ journalRoom (m₀ .words) = ap (λ (x : Setting). x .room) (a .setting) in let k = long in let h = asks .room in omega arith;
+      room = let r : journalWords (m₁ .words) ≡ journalWords (m₀ .words) = ap (λ (x : Setting). x .journalWords) (a .setting) in let k = long in let h = asks .room in omega arith;
     }
 
     abbrev newest : Note

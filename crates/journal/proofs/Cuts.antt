@@ -11,7 +11,7 @@ use lib.ListN.{length, getD, take, set, length-set}
 use lib.Seq.{getD-set-same, getD-set-other}
 use borrow.Author.Tests.{eq-eqb, ne-eqb}
 use Rattle.index.proofs.Logic.{same-or-not, lt-or-ge}
-use Rattle.store.specs.Mem.{Mem, mem, slotCount, journalRoom, journalLength}
+use Rattle.store.specs.Mem.{Mem, mem, slotCount, journalWords, journalLength}
 use Rattle.formed.specs.Pages.{journalCount}
 use Rattle.formed.specs.Parts.{tab, journal, noteAddress, noteFirst, noteLast}
 use Rattle.formed.specs.WellFormed.{WellFormed, NotedRight}
@@ -63,7 +63,7 @@ module _ (bytes keys order words : List ℕ) (w : WellFormed (mem bytes keys ord
       (λ (ne : k ≡ j → ⊥). let a = length-other k ne in omega arith)
       (same-or-not k j)
 
-  kept-note : (k i : ℕ) → noteIn bytes words' (slotCount words) (journalRoom words) k i ≡ noteIn bytes words (slotCount words) (journalRoom words) k i
+  kept-note : (k i : ℕ) → noteIn bytes words' (slotCount words) (journalWords words) k i ≡ noteIn bytes words (slotCount words) (journalWords words) k i
   kept-note k i = note-same _ _ _ _ (other (notePlace words k i) (λ e. omega arith)) (λ x l. refl)
 
   notes : (k i : ℕ) → k < journalCount → i < journalLength words' k → NotedRight m' k i
@@ -80,9 +80,9 @@ module _ (bytes keys order words : List ℕ) (w : WellFormed (mem bytes keys ord
   unfolding journal
   journal-cut k e =
       journal-is bytes keys order words bytes words' f refl long head (λ b lb. refl) k
-      ∙ ap (λ (x : ℕ). tab x (noteIn bytes words' (slotCount words) (journalRoom words) k)) (length-here k e)
-      ∙ tab-upto n (noteIn bytes words' (slotCount words) (journalRoom words) k) (noteIn bytes words (slotCount words) (journalRoom words) k) (λ i l. kept-note k i)
-      ∙ sym (tab-take n (journalLength words k) (noteIn bytes words (slotCount words) (journalRoom words) k) (let b : journalLength words k ≡ journalLength words j = ap (λ (x : ℕ). getD words (12 + x) 0) e in omega arith))
+      ∙ ap (λ (x : ℕ). tab x (noteIn bytes words' (slotCount words) (journalWords words) k)) (length-here k e)
+      ∙ tab-upto n (noteIn bytes words' (slotCount words) (journalWords words) k) (noteIn bytes words (slotCount words) (journalWords words) k) (λ i l. kept-note k i)
+      ∙ sym (tab-take n (journalLength words k) (noteIn bytes words (slotCount words) (journalWords words) k) (let b : journalLength words k ≡ journalLength words j = ap (λ (x : ℕ). getD words (12 + x) 0) e in omega arith))
 
   view-cut : (k : ℕ) → viewOf m' .journal k ≡ cutting j n (viewOf m) .journal k
   view-cut k =

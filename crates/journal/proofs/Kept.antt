@@ -10,7 +10,7 @@ use lib.ListN.{length, getD, take, drop}
 use lib.Seq.{getD-take, length-take-le, ext-getD}
 use Rattle.page_ids.specs.declared.Layout.{Layout}
 use Rattle.index.specs.Index.{indexed, seek, freeCount}
-use Rattle.store.specs.Mem.{Mem, mem, layoutOf, slotCount, journalRoom, journalLength, heldNow, inUse, dynamicLength, holders, entries, slotOrder, pageOrder, chunks}
+use Rattle.store.specs.Mem.{Mem, mem, layoutOf, slotCount, journalWords, journalLength, heldNow, inUse, dynamicLength, holders, entries, slotOrder, pageOrder, chunks}
 use Rattle.formed.specs.Pages.{LayoutRule, dynamic, group, journalCount, journalPlace}
 use Rattle.formed.specs.Parts.{keyOf, tab, Note, byteAt, slotOfChunk, holds, pool, allocated, entriesLeft, journal, noteAddress, noteFirst, noteLast}
 use Rattle.formed.specs.WellFormed.{holder, keyEntry, Lengths, NotedRight}
@@ -41,7 +41,7 @@ module _ (bytes keys order words bytes' words' : List ℕ) (f : Facts (mem bytes
   c : slotCount words' ≡ slotCount words
   c = head 6 (omega arith)
 
-  r : journalRoom words' ≡ journalRoom words
+  r : journalWords words' ≡ journalWords words
   r = head 8 (omega arith)
 
   big : 256 * slotCount words ≤ length bytes
@@ -75,7 +75,7 @@ module _ (bytes keys order words bytes' words' : List ℕ) (f : Facts (mem bytes
   }
 
   pub same-setting : settingOf m' ≡ settingOf m
-  same-setting = let l = same-layout in λ k. record { layout = l k; chunks = c k; pages = head 7 (omega arith) k; room = r k }
+  same-setting = let l = same-layout in λ k. record { layout = l k; chunks = c k; pages = head 7 (omega arith) k; journalWords = r k }
 
   -- ---- the view but for the journals
   pub same-byte : (p a : ℕ) → byteAt m' p a ≡ byteAt m p a
@@ -98,20 +98,20 @@ module _ (bytes keys order words bytes' words' : List ℕ) (f : Facts (mem bytes
   same-view v b h p a e d j =
       view-by (viewOf m') v (λ q x. same-byte q x ∙ b q x) (λ q k. same-holds q k ∙ h q k) (ap freeCount same-holders ∙ p) (λ q. same-allocated q ∙ a q) (ap freeCount same-entries ∙ e) (head 11 (omega arith) ∙ d) j
 
-  pub journal-is : (j : ℕ) → journal m' j ≡ tab (journalLength words' j) (noteIn bytes' words' (slotCount words) (journalRoom words) j)
+  pub journal-is : (j : ℕ) → journal m' j ≡ tab (journalLength words' j) (noteIn bytes' words' (slotCount words) (journalWords words) j)
   unfolding journal
   journal-is j =
-      ap (λ (x : ℕ). tab (journalLength words' j) (noteIn bytes' words' x (journalRoom words') j)) c
+      ap (λ (x : ℕ). tab (journalLength words' j) (noteIn bytes' words' x (journalWords words') j)) c
       ∙ ap (λ (x : ℕ). tab (journalLength words' j) (noteIn bytes' words' (slotCount words) x j)) r
 
   pub journal-same : (j : ℕ) → journalLength words' j ≡ journalLength words j
-      → ((i : ℕ) → i < journalLength words j → noteIn bytes' words' (slotCount words) (journalRoom words) j i ≡ noteIn bytes words (slotCount words) (journalRoom words) j i)
+      → ((i : ℕ) → i < journalLength words j → noteIn bytes' words' (slotCount words) (journalWords words) j i ≡ noteIn bytes words (slotCount words) (journalWords words) j i)
       → journal m' j ≡ journal m j
   unfolding journal
   journal-same j e h =
       journal-is j
-      ∙ ap (λ (x : ℕ). tab x (noteIn bytes' words' (slotCount words) (journalRoom words) j)) e
-      ∙ tab-upto (journalLength words j) (noteIn bytes' words' (slotCount words) (journalRoom words) j) (noteIn bytes words (slotCount words) (journalRoom words) j) h
+      ∙ ap (λ (x : ℕ). tab x (noteIn bytes' words' (slotCount words) (journalWords words) j)) e
+      ∙ tab-upto (journalLength words j) (noteIn bytes' words' (slotCount words) (journalWords words) j) (noteIn bytes words (slotCount words) (journalWords words) j) h
 
   -- ---- the facts, from those of the journals
   pub noted-by : (j i a s t : ℕ) → getD words' (notePlace words j i) 0 ≡ a → getD words' (notePlace words j i + 1) 0 ≡ s → getD words' (notePlace words j i + 2) 0 ≡ t
@@ -137,7 +137,7 @@ module _ (bytes keys order words bytes' words' : List ℕ) (f : Facts (mem bytes
         slots-hi = let h = l .slots-hi in omega arith;
         pages-lo = let h = l .pages-lo in omega arith;
         pages-hi = let h = l .pages-hi in omega arith;
-        room-hi = let h = l .room-hi in omega arith;
+        journal-hi = let h = l .journal-hi in omega arith;
         in-bytes = let h = l .in-bytes in omega arith;
         in-keys = let h = l .in-keys in omega arith;
         in-order = let h = l .in-order in omega arith;
@@ -158,7 +158,7 @@ module _ (bytes keys order words bytes' words' : List ℕ) (f : Facts (mem bytes
     below = subst (λ (l : Layout). group l (x - 1) < dynamicLength words') (sym same-layout) (let d = head 11 (omega arith) in let g = h .below in omega arith);
   }
 
-  pub same-facts : ((j : ℕ) → j < journalCount → journalLength words' j ≤ journalRoom words) → ((j i : ℕ) → j < journalCount → i < journalLength words' j → NotedRight m' j i) → Facts m'
+  pub same-facts : ((j : ℕ) → j < journalCount → journalLength words' j ≤ journalWords words) → ((j i : ℕ) → j < journalCount → i < journalLength words' j → NotedRight m' j i) → Facts m'
   same-facts cap notes = record {
     lengths = same-lengths;
     layout = subst LayoutRule (sym same-layout) (f .layout);

@@ -11,7 +11,7 @@ use lib.ListN.{length, getD, take}
 use borrow.Author.Tests.{eq-eqb, ne-eqb}
 use Rattle.index.specs.Index.{seek}
 use Rattle.index.proofs.Logic.{same-or-not, lt-or-ge}
-use Rattle.store.specs.Mem.{Mem, mem, layoutOf, slotCount, journalRoom, journalLength}
+use Rattle.store.specs.Mem.{Mem, mem, layoutOf, slotCount, journalWords, journalLength}
 use Rattle.formed.specs.Pages.{journalCount, journalPlace, journalPage}
 use Rattle.formed.specs.Parts.{Note, tab, holds, journal, noteAddress, noteFirst, noteLast}
 use Rattle.formed.specs.WellFormed.{WellFormed, NotedRight}
@@ -75,13 +75,13 @@ module _ (bytes keys order words : List ℕ) (j a : ℕ) (asks : NoteAsks (mem b
   lt : t < slotCount words
   lt = slot-in m w j (asks .which) ((a + 31) / 256) nt t (slots .last) last-held
 
-  room : journalLength words j < journalRoom words
+  room : journalLength words j < journalWords words
   room = let h = asks .room in let e = journal-long m j (asks .which) in omega arith
 
   -- what `note_at` asks
   pub note-room : NoteRoom bytes words j s t
   note-room = record {
-    long = record { in-bytes = w .lengths .in-bytes; in-words = w .lengths .in-words; slots-hi = w .lengths .slots-hi; room-hi = w .lengths .room-hi };
+    long = record { in-bytes = w .lengths .in-bytes; in-words = w .lengths .in-words; slots-hi = w .lengths .slots-hi; journal-hi = w .lengths .journal-hi };
     which = asks .which;
     room = room;
     first = ls;
@@ -102,7 +102,7 @@ module _ (bytes keys order words : List ℕ) (j a : ℕ) (asks : NoteAsks (mem b
   small = let h = asks .which in omega arith
 
   inside : 16 + 3 * N + 2 < length words
-  inside = let h = w .lengths .in-words in let g = number-lt (journalRoom words) j (journalLength words j) journalCount (asks .which) room in omega arith
+  inside = let h = w .lengths .in-words in let g = number-lt (journalWords words) j (journalLength words j) journalCount (asks .which) room in omega arith
 
   long : length words' ≡ length words
   long = set-long words (12 + j) N a s t small inside
@@ -131,7 +131,7 @@ module _ (bytes keys order words : List ℕ) (j a : ℕ) (asks : NoteAsks (mem b
   old-number k i l li e =
       let c = f .in-capacity k l in
       let r = room in
-      let q = number-apart (journalRoom words) k j i (journalLength words j) (omega arith) r e in
+      let q = number-apart (journalWords words) k j i (journalLength words j) (omega arith) r e in
       let g : journalLength words k ≡ journalLength words j = ap (λ (x : ℕ). getD words (12 + x) 0) (q .0) in
       let h = q .1 in
       omega arith
@@ -144,7 +144,7 @@ module _ (bytes keys order words : List ℕ) (j a : ℕ) (asks : NoteAsks (mem b
     body : (b : ℕ) → b < 256 * slotCount words → getD bytes' b 0 ≡ getD bytes b 0
     body b l = old .off b (λ i li e. omega arith)
 
-    cap : (k : ℕ) → k < journalCount → journalLength words' k ≤ journalRoom words
+    cap : (k : ℕ) → k < journalCount → journalLength words' k ≤ journalWords words
     cap k l =
         let c = f .in-capacity k l in
         let r = room in
@@ -182,13 +182,13 @@ module _ (bytes keys order words : List ℕ) (j a : ℕ) (asks : NoteAsks (mem b
     kept-byte : (u k : ℕ) → (u ≡ N → ⊥) → k < 32 → getD bytes' (256 * slotCount words + 32 * u + k) 0 ≡ getD bytes (256 * slotCount words + 32 * u + k) 0
     kept-byte u k ne l = old .off (256 * slotCount words + 32 * u + k) (λ i li e. ne (omega arith))
 
-    kept-note : (k i : ℕ) → k < journalCount → i < journalLength words k → noteIn bytes' words' (slotCount words) (journalRoom words) k i ≡ noteIn bytes words (slotCount words) (journalRoom words) k i
+    kept-note : (k i : ℕ) → k < journalCount → i < journalLength words k → noteIn bytes' words' (slotCount words) (journalWords words) k i ≡ noteIn bytes words (slotCount words) (journalWords words) k i
     kept-note k i l li = note-same _ _ _ _ (kept-address (wordNumber words k i) (old-number k i l li)) (λ x lx. kept-byte (wordNumber words k i) x (old-number k i l li) lx)
 
     abbrev newest : Note
     newest = wordNow (viewOf m) page a
 
-    new-note : noteIn bytes' words' (slotCount words) (journalRoom words) j (journalLength words j) ≡ newest
+    new-note : noteIn bytes' words' (slotCount words) (journalWords words) j (journalLength words j) ≡ newest
     new-note =
         note-same _ _ _ _ (set-address words (12 + j) N a s t small inside)
         (λ k l. old .on k l ∙ word-byte m page a s t ls lt (slots .first) (slots .last) k l)
@@ -197,12 +197,12 @@ module _ (bytes keys order words : List ℕ) (j a : ℕ) (asks : NoteAsks (mem b
     unfolding journal
     journal-more k l e =
         journal-is bytes keys order words bytes' words' f lb long head body k
-        ∙ ap (λ (x : ℕ). tab x (noteIn bytes' words' (slotCount words) (journalRoom words) k)) (length-here k e ∙ add-one (journalLength words k))
-        ∙ tab-snoc (journalLength words k) (noteIn bytes' words' (slotCount words) (journalRoom words) k)
-        ∙ ap (λ (x : List Note). x ++ (noteIn bytes' words' (slotCount words) (journalRoom words) k (journalLength words k) ∷ []))
-        (tab-upto (journalLength words k) (noteIn bytes' words' (slotCount words) (journalRoom words) k) (noteIn bytes words (slotCount words) (journalRoom words) k) (λ i li. kept-note k i l li))
-        ∙ ap (λ (x : ℕ). tab (journalLength words k) (noteIn bytes words (slotCount words) (journalRoom words) k) ++ (noteIn bytes' words' (slotCount words) (journalRoom words) x (journalLength words x) ∷ [])) e
-        ∙ ap (λ (x : Note). tab (journalLength words k) (noteIn bytes words (slotCount words) (journalRoom words) k) ++ (x ∷ [])) new-note
+        ∙ ap (λ (x : ℕ). tab x (noteIn bytes' words' (slotCount words) (journalWords words) k)) (length-here k e ∙ add-one (journalLength words k))
+        ∙ tab-snoc (journalLength words k) (noteIn bytes' words' (slotCount words) (journalWords words) k)
+        ∙ ap (λ (x : List Note). x ++ (noteIn bytes' words' (slotCount words) (journalWords words) k (journalLength words k) ∷ []))
+        (tab-upto (journalLength words k) (noteIn bytes' words' (slotCount words) (journalWords words) k) (noteIn bytes words (slotCount words) (journalWords words) k) (λ i li. kept-note k i l li))
+        ∙ ap (λ (x : ℕ). tab (journalLength words k) (noteIn bytes words (slotCount words) (journalWords words) k) ++ (noteIn bytes' words' (slotCount words) (journalWords words) x (journalLength words x) ∷ [])) e
+        ∙ ap (λ (x : Note). tab (journalLength words k) (noteIn bytes words (slotCount words) (journalWords words) k) ++ (x ∷ [])) new-note
 
     view-noted : (k : ℕ) → viewOf m' .journal k ≡ noting j (newest ∷ []) (viewOf m) .journal k
     view-noted k =

@@ -10,7 +10,7 @@ use lib.Dec.{eqb}
 use lib.ListN.{length, getD, set, take, drop}
 use borrow.Author.Tests.{ne-eqb, le-ltb}
 use Rattle.page_ids.specs.declared.Layout.{Layout}
-use Rattle.store.specs.Mem.{Mem, mem, layoutOf, slotCount, journalRoom, journalLength, holders}
+use Rattle.store.specs.Mem.{Mem, mem, layoutOf, slotCount, journalWords, journalLength, holders}
 use Rattle.formed.specs.Pages.{journalCount, journalPage}
 use Rattle.formed.specs.Parts.{Note, journal, noteAddress, noteFirst, noteLast}
 use Rattle.formed.specs.WellFormed.{WellFormed}
@@ -69,7 +69,7 @@ module _ (bytes keys order words : List ℕ) (w : WellFormed (mem bytes keys ord
       let g = r .last in
       let h = holders-long m (w .lengths) in
       record {
-        long = record { in-bytes = w .lengths .in-bytes; in-words = w .lengths .in-words; slots-hi = w .lengths .slots-hi; room-hi = w .lengths .room-hi };
+        long = record { in-bytes = w .lengths .in-bytes; in-words = w .lengths .in-words; slots-hi = w .lengths .slots-hi; journal-hi = w .lengths .journal-hi };
         which = which;
         inside = let c = w .in-capacity j which in omega arith;
         first = let l = in-table (holders m) (noteFirst m j i) (omega arith) in omega arith;
@@ -81,7 +81,7 @@ module _ (bytes keys order words : List ℕ) (w : WellFormed (mem bytes keys ord
     m' = mem bytes' keys order words
 
     abbrev note : Note
-    note = noteIn bytes words (slotCount words) (journalRoom words) j i
+    note = noteIn bytes words (slotCount words) (journalWords words) j i
 
     back-shows : Shows (settingOf m) (putting page (note .address) (note .old) (viewOf m)) m'
     back-shows =
@@ -93,7 +93,7 @@ module _ (bytes keys order words : List ℕ) (w : WellFormed (mem bytes keys ord
     unfolding journal
     newest =
         ap (drop i) (journal-at m j which)
-        ∙ tab-drop i (journalLength words j) (noteIn bytes words (slotCount words) (journalRoom words) j) inside
+        ∙ tab-drop i (journalLength words j) (noteIn bytes words (slotCount words) (journalWords words) j) inside
         ∙ ap (λ (x : List Note). note ∷ drop (suc i) x) (sym (journal-at m j which))
 
     -- .. after those from n = i + 1 on
@@ -110,7 +110,7 @@ module _ (bytes keys order words : List ℕ) (w : WellFormed (mem bytes keys ord
 pub back-none : (m : Mem) (w : WellFormed m) (p j : ℕ) → j < journalCount → Shows (settingOf m) (restoring p j (journalLength (m .words) j) (viewOf m)) m
 unfolding undone journal
 back-none m w p j which =
-    let none : drop (journalLength (m .words) j) (viewOf m .journal j) ≡ [] = ap (drop (journalLength (m .words) j)) (journal-at m j which) ∙ tab-end (journalLength (m .words) j) (noteIn (m .bytes) (m .words) (slotCount (m .words)) (journalRoom (m .words)) j) in
+    let none : drop (journalLength (m .words) j) (viewOf m .journal j) ≡ [] = ap (drop (journalLength (m .words) j)) (journal-at m j which) ∙ tab-end (journalLength (m .words) j) (noteIn (m .bytes) (m .words) (slotCount (m .words)) (journalWords (m .words)) j) in
     record {
       formed = w;
       setting = refl;

@@ -7,7 +7,7 @@ use Prim.Native.Nat.{ℕ, _+_, _*_, _/_, _<_, _≤_}
 use lib.Dec.{eqb}
 use lib.ListN.{length, take, drop}
 use Rattle.page_ids.specs.declared.Layout.{Layout}
-use Rattle.store.specs.Mem.{Mem, layoutOf, journalRoom, journalLength}
+use Rattle.store.specs.Mem.{Mem, layoutOf, journalWords, journalLength}
 use Rattle.formed.specs.Pages.{journalCount, journalPage}
 use Rattle.formed.specs.Parts.{Note, tab, slotOfChunk}
 use Rattle.formed.specs.WellFormed.{WellFormed}
@@ -34,7 +34,7 @@ pub record AlignedAsks (m : Mem) (j first n : ℕ) : Type 0 where
   pub which : j < journalCount
   pub top : 32 * (first + n) ≤ 4294967296
   pub held : (i : ℕ) → i < n → viewOf m .held (journalPage (layoutOf (m .words)) j) (32 * (first + i) / 256) ≡ true
-  pub room : length (viewOf m .journal j) + n ≤ journalRoom (m .words)
+  pub room : length (viewOf m .journal j) + n ≤ journalWords (m .words)
 
 -- ---- words put back
 -- journal j is cut to its first n words

@@ -4,14 +4,14 @@ use mathlib.Core.Path.{_≡_}
 use mathlib.Core.List.{List}
 use Prim.Native.Nat.{ℕ, _+_, _*_, _%_, _<_, _≤_}
 use lib.ListN.{length, getD, set}
-use Rattle.store.specs.Mem.{headLength, slotCount, journalRoom, journalLength}
+use Rattle.store.specs.Mem.{headLength, slotCount, journalWords, journalLength}
 use Rattle.formed.specs.Pages.{journalCount}
 use Rattle.formed.specs.Buffers.{bytesFor, wordsFor}
 use Rattle.bodies.specs.Words.{placeIn, Spread}
 
 -- the number of word i of journal j among those of all journals
 abbrev pub wordNumber : List ℕ → ℕ → ℕ → ℕ
-wordNumber w j i = journalRoom w * j + i
+wordNumber w j i = journalWords w * j + i
 
 -- where its three numbers and its 32 bytes stand
 abbrev pub notePlace : List ℕ → ℕ → ℕ → ℕ
@@ -22,23 +22,23 @@ oldPlace w j i = 256 * slotCount w + 32 * wordNumber w j i
 
 -- bytes and words have the lengths of a memory
 pub record Long (bytes words : List ℕ) : Type 0 where
-  pub in-bytes : length bytes ≡ bytesFor (slotCount words) (journalRoom words)
-  pub in-words : length words ≡ wordsFor (journalRoom words)
+  pub in-bytes : length bytes ≡ bytesFor (slotCount words) (journalWords words)
+  pub in-words : length words ≡ wordsFor (journalWords words)
   pub slots-hi : slotCount words ≤ 65536
-  pub room-hi : journalRoom words ≤ 65536
+  pub journal-hi : journalWords words ≤ 65536
 
 -- word i of journal j has a place
 pub record Numbered (words : List ℕ) (j i : ℕ) : Type 0 where
   pub head : headLength ≤ length words
-  pub room-hi : journalRoom words ≤ 65536
+  pub journal-hi : journalWords words ≤ 65536
   pub which : j < journalCount
-  pub inside : i < journalRoom words
+  pub inside : i < journalWords words
 
 -- a word whose chunks are held at the slots s and t can be noted in journal j
 pub record NoteRoom (bytes words : List ℕ) (j s t : ℕ) : Type 0 where
   pub long : Long bytes words
   pub which : j < journalCount
-  pub room : journalLength words j < journalRoom words
+  pub room : journalLength words j < journalWords words
   pub first : s < slotCount words
   pub last : t < slotCount words
 
@@ -55,7 +55,7 @@ pub record NotedAt (bytes words : List ℕ) (j a s t : ℕ) (bytes' words' : Lis
 pub record BackAsks (bytes words : List ℕ) (j i : ℕ) : Type 0 where
   pub long : Long bytes words
   pub which : j < journalCount
-  pub inside : i < journalRoom words
+  pub inside : i < journalWords words
   pub first : getD words (notePlace words j i + 1) 0 < slotCount words
   pub last : getD words (notePlace words j i + 2) 0 < slotCount words
 

@@ -1,7 +1,7 @@
 // The journals of the bootloader pages: words as they were before they were written. vm2: the rollback part of `Heaps`.
 ghost use mathlib.Core.Path.{_≡_};
 ghost use Prim.Native.Nat.{_+_, _*_, _<_};
-ghost use Rattle.store.specs.Mem.{mem, layoutOf, journalRoom};
+ghost use Rattle.store.specs.Mem.{mem, layoutOf, journalWords};
 ghost use Rattle.formed.specs.Pages.{journalCount, journalPlace, journalPage};
 ghost use Rattle.formed.specs.WellFormed.{WellFormed};
 ghost use Rattle.view.specs.View.{settingOf, viewOf};
@@ -26,7 +26,7 @@ fn place(j: usize) -> u64
 // The number of word i of journal j among those of all journals.
 fn number(words: &[u64], j: usize, i: usize) -> usize
     requires { ⌜ Numbered (now words) j i ⌝ }
-    ensures { λ n. ⌜ (n ≡ wordNumber (now (words .entry)) j i) × (n < journalCount * journalRoom (now (words .entry))) ⌝ }
+    ensures { λ n. ⌜ (n ≡ wordNumber (now (words .entry)) j i) × (n < journalCount * journalWords (now (words .entry))) ⌝ }
 {
     words[head::JOURNAL_WORDS] as usize * j + i
 }

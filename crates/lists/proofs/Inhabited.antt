@@ -15,7 +15,7 @@ use Rattle.outcome.specs.Outcome.{Outcome, refused, panicked, done, carriedOut,
 use Rattle.outcome.specs.declared.Answer.{Answer}
 use Rattle.outcome.specs.declared.Answer.the-variants.{Done, Refused}
 use Rattle.word.specs.Value.{value, bigEndian}
-use Rattle.store.specs.Mem.{Mem, mem, slotCount, pageCount, journalRoom}
+use Rattle.store.specs.Mem.{Mem, mem, slotCount, pageCount, journalWords}
 use Rattle.formed.specs.Formed.{wellFormed, zeros}
 use Rattle.formed.specs.WellFormed.{WellFormed}
 use Rattle.view.specs.View.{View, viewOf, Setting, settingOf}
@@ -317,7 +317,7 @@ setting-same {m} {m'} f h =
     let b = h .formed .lengths in
     let c : slotCount (m' .words) ≡ slotCount (m .words) = ap (λ (s : Setting). s .chunks) (h .setting) in
     let p : pageCount (m' .words) ≡ pageCount (m .words) = ap (λ (s : Setting). s .pages) (h .setting) in
-    let r : journalRoom (m' .words) ≡ journalRoom (m .words) = ap (λ (s : Setting). s .room) (h .setting) in
+    let r : journalWords (m' .words) ≡ journalWords (m .words) = ap (λ (s : Setting). s .journalWords) (h .setting) in
     let b₁ = b .in-bytes in
     let b₂ = b .in-keys in
     let b₃ = b .in-order in
@@ -497,7 +497,7 @@ module _ (s : Setting) (calldata : List ℕ) (narrow : Narrow s) (m : Mem) where
       did-open
       (record {
         lifetimes = ([], ([], ([], ([], ([], tt)))));
-        args = (ref (m .bytes), (ref (m .keys), (ref (m .order), (ref (m .words), (s .layout, (s .chunks, (s .pages, (s .room, (ref calldata, tt)))))))));
+        args = (ref (m .bytes), (ref (m .keys), (ref (m .order), (ref (m .words), (s .layout, (s .chunks, (s .pages, (s .journalWords, (ref calldata, tt)))))))));
         result = r;
         last = (m' .bytes, (m' .keys, (m' .order, (m' .words, (tt, (tt, (tt, (tt, (tt, tt)))))))));
         asked = tt;
@@ -510,7 +510,7 @@ module _ (s : Setting) (calldata : List ℕ) (narrow : Narrow s) (m : Mem) where
       let b = h .formed .lengths in
       let c : slotCount (m' .words) ≡ s .chunks = ap (λ (t : Setting). t .chunks) (h .setting) in
       let p : pageCount (m' .words) ≡ s .pages = ap (λ (t : Setting). t .pages) (h .setting) in
-      let r : journalRoom (m' .words) ≡ s .room = ap (λ (t : Setting). t .room) (h .setting) in
+      let r : journalWords (m' .words) ≡ s .journalWords = ap (λ (t : Setting). t .journalWords) (h .setting) in
       let b₁ = b .in-bytes in
       let b₂ = b .in-keys in
       let b₃ = b .in-order in

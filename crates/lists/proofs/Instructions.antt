@@ -58,7 +58,7 @@ answer-ran m c r = first-ran ((not (wellFormed m), refused 3) ∷ []) (is-refuse
 write-ran : (s : Setting) (v : View) (p a : ℕ) (rest : List (Check Value)) → AllRan rest → AllRan (wordWriteChecks s v p a ++ rest)
 write-ran s v p a rest r = (is-refused 4, (is-refused 9, (is-refused 10, (is-refused 11, r))))
 
--- words by their firstRefusal
+-- words by their number
 abbrev wordFor : ℕ → Word
 wordFor n = record { limbs = limbs n }
 

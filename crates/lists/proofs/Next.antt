@@ -106,7 +106,7 @@ small-asks = record {
     chunks-hi = omega arith;
     pages-lo = omega arith;
     pages-hi = omega arith;
-    room-hi = omega arith;
+    journal-hi = omega arith;
     in-bytes = length-replicate {A = ℕ} (bytesLength small) 0;
     in-keys = length-replicate {A = ℕ} (keysLength small) 0;
     in-order = length-replicate {A = ℕ} (orderLength small) 0;

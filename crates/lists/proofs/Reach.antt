@@ -12,7 +12,7 @@ use Rattle.formed.proofs.Same.{tab-at}
 use Rattle.formed.proofs.Asks.{slots-asked}
 use Rattle.index.specs.Index.{seek}
 use Rattle.index.proofs.Logic.{lt-or-ge}
-use Rattle.store.specs.Mem.{Mem, mem, layoutOf, slotCount, pageCount, heldNow, inUse, journalRoom, journalLength, holders}
+use Rattle.store.specs.Mem.{Mem, mem, layoutOf, slotCount, pageCount, heldNow, inUse, journalWords, journalLength, holders}
 use Rattle.store.specs.Hold.{lacks, Indexed, Held}
 use Rattle.store.specs.Find.{slotFor}
 use Rattle.store.proofs.Holds.{part-room, insertable, taken, lacking, held-new, held-was}
@@ -202,7 +202,7 @@ module _ (m : Mem) (j a : ℕ) (asks : NoteAsks m j a) where
       let slots = note-slots (m .bytes) (m .keys) (m .order) (m .words) j a asks (journalPlace j) refl first last refl refl in
       let r = note-room (m .bytes) (m .keys) (m .order) (m .words) j a asks first last slots in
       let q = r .room in
-      let l = number-lt (journalRoom (m .words)) j (journalLength (m .words) j) journalCount (asks .which) q in
+      let l = number-lt (journalWords (m .words)) j (journalLength (m .words) j) journalCount (asks .which) q in
       let b = r .long .in-bytes in
       let t = copy (oldPlace (m .words) j (journalLength (m .words) j)) 32 (λ k. getD (m .bytes) (placeIn first last (a % 256) k) 0) (m .bytes) (omega arith) in
       record {

@@ -1,4 +1,4 @@
--- A RUN WORKED OUT BY HAND: six loads and stores on one memory, each instructionResult the frame and the memory that the last one left.
+-- A RUN WORKED OUT BY HAND: six loads and stores on one memory, each given the frame and the memory that the last one left.
 -- Assumes nothing.
 use mathlib.Core.Path.{_≡_}
 use mathlib.Core.Bool.{true, false}

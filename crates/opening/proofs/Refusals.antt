@@ -26,18 +26,18 @@ grouped true false c d = refl
 grouped false b c d = refl
 
 module _ (s : Setting) (m : Mem) where
-  pub sizes-fit : sizesRight s m ≡ lengthsFit (length (m .bytes)) (length (m .keys)) (length (m .order)) (length (m .words)) (s .chunks) (s .pages) (s .room)
-  sizes-fit = grouped (leb 1 (s .chunks) && leb (s .chunks) 65536) (leb 1 (s .pages) && leb (s .pages) 4096) (leb (s .room) 65536) (lengthsRight s m)
+  pub sizes-fit : sizesRight s m ≡ lengthsFit (length (m .bytes)) (length (m .keys)) (length (m .order)) (length (m .words)) (s .chunks) (s .pages) (s .journalWords)
+  sizes-fit = grouped (leb 1 (s .chunks) && leb (s .chunks) 65536) (leb 1 (s .pages) && leb (s .pages) 4096) (leb (s .journalWords) 65536) (lengthsRight s m)
 
   pub sizes-are : sizesRight s m ≡ true → Sizes s m
   sizes-are y =
-      let r = fit-are (length (m .bytes)) (length (m .keys)) (length (m .order)) (length (m .words)) (s .chunks) (s .pages) (s .room) (sym sizes-fit ∙ y) in
+      let r = fit-are (length (m .bytes)) (length (m .keys)) (length (m .order)) (length (m .words)) (s .chunks) (s .pages) (s .journalWords) (sym sizes-fit ∙ y) in
       record {
         chunks-lo = r .slots-lo;
         chunks-hi = r .slots-hi;
         pages-lo = r .pages-lo;
         pages-hi = r .pages-hi;
-        room-hi = r .room-hi;
+        journal-hi = r .journal-hi;
         in-bytes = r .in-bytes;
         in-keys = r .in-keys;
         in-order = r .in-order;
@@ -47,13 +47,13 @@ module _ (s : Setting) (m : Mem) where
   pub sizes-test : Sizes s m → sizesRight s m ≡ true
   sizes-test z =
       sizes-fit
-      ∙ fit-test (length (m .bytes)) (length (m .keys)) (length (m .order)) (length (m .words)) (s .chunks) (s .pages) (s .room)
+      ∙ fit-test (length (m .bytes)) (length (m .keys)) (length (m .order)) (length (m .words)) (s .chunks) (s .pages) (s .journalWords)
       (record {
         slots-lo = z .chunks-lo;
         slots-hi = z .chunks-hi;
         pages-lo = z .pages-lo;
         pages-hi = z .pages-hi;
-        room-hi = z .room-hi;
+        journal-hi = z .journal-hi;
         in-bytes = z .in-bytes;
         in-keys = z .in-keys;
         in-order = z .in-order;

@@ -78,7 +78,7 @@ module _ (s : Setting) (b k o w : List ℕ) (asks : OpenAsks s (mem b k o w)) (w
       slots-hi = asks .sizes .chunks-hi;
       pages-lo = asks .sizes .pages-lo;
       pages-hi = asks .sizes .pages-hi;
-      room-hi = asks .sizes .room-hi;
+      journal-hi = asks .sizes .journal-hi;
       in-bytes = asks .sizes .in-bytes;
       in-keys = asks .sizes .in-keys;
       in-order = asks .sizes .in-order;
@@ -209,7 +209,7 @@ module _ (s : Setting) (bytes keys order words : List ℕ) (asks : OpenAsks s (m
         chunks-hi = asks .sizes .chunks-hi;
         pages-lo = asks .sizes .pages-lo;
         pages-hi = asks .sizes .pages-hi;
-        room-hi = asks .sizes .room-hi;
+        journal-hi = asks .sizes .journal-hi;
         in-bytes = put-long bytes e₁ (256 * s .chunks) long₁ in-bytes ∙ asks .sizes .in-bytes;
         in-keys = rest-long k₁ e₂ (s .chunks) in-keys long₂ ∙ k₁-long ∙ asks .sizes .in-keys;
         in-order = rest-long order e₃ (s .chunks) in-order long₃ ∙ asks .sizes .in-order;

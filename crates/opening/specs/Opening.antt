@@ -27,13 +27,13 @@ layoutFrom static calldata heap aux base stride = record {
 }
 
 abbrev pub setting : Layout → ℕ → ℕ → ℕ → Setting
-setting l chunks pages room = record { layout = l; chunks = chunks; pages = pages; room = room }
+setting l chunks pages journalWords = record { layout = l; chunks = chunks; pages = pages; journalWords = journalWords }
 
 -- the words w with the head of a new memory: four entries are in use, and all else that counts is 0. The head's last two numbers say nothing
 abbrev pub headed : Setting → List ℕ → List ℕ
 headed s w =
     s .layout .«static_memory» .0 ∷ s .layout .calldata .0 ∷ s .layout .«bootloader_heap» .0 ∷ s .layout .«bootloader_aux» .0 ∷ s .layout .base .0 ∷ s .layout .stride
-    ∷ s .chunks ∷ s .pages ∷ s .room ∷ 0 ∷ 4 ∷ 0 ∷ 0 ∷ 0 ∷ drop 14 w
+    ∷ s .chunks ∷ s .pages ∷ s .journalWords ∷ 0 ∷ 4 ∷ 0 ∷ 0 ∷ 0 ∷ drop 14 w
 
 -- ---- starting
 -- refusal 2 is that this is false
@@ -46,7 +46,7 @@ pub record Sizes (s : Setting) (m : Mem) : Type 0 where
   pub chunks-hi : s .chunks ≤ 65536
   pub pages-lo : 1 ≤ s .pages
   pub pages-hi : s .pages ≤ 4096
-  pub room-hi : s .room ≤ 65536
+  pub journal-hi : s .journalWords ≤ 65536
   pub in-bytes : length (m .bytes) ≡ bytesLength s
   pub in-keys : length (m .keys) ≡ keysLength s
   pub in-order : length (m .order) ≡ orderLength s

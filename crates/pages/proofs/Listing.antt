@@ -17,7 +17,7 @@ use Rattle.index.proofs.Logic.{same-or-not, lt-or-ge}
 use Rattle.index.proofs.Counts.{used-free, count-fill}
 use Rattle.index.proofs.Places.{seek-hit, seek-le, seek-other}
 use Rattle.index.proofs.Meaning.{once}
-use Rattle.store.specs.Mem.{Mem, mem, layoutOf, slotCount, pageCount, journalRoom, journalLength, inUse, dynamicLength, holders, entries, slotOrder, pageOrder, chunks}
+use Rattle.store.specs.Mem.{Mem, mem, layoutOf, slotCount, pageCount, journalWords, journalLength, inUse, dynamicLength, holders, entries, slotOrder, pageOrder, chunks}
 use Rattle.formed.specs.Pages.{LayoutRule, fixed, dynamic, group, journalPlace}
 use Rattle.formed.specs.Parts.{Note, tab, keyOf, entryOf, allocated, entriesLeft, slotOfChunk, holds, byteAt, noteAt, noteAddress, noteFirst, noteLast, oldAt, journal}
 use Rattle.formed.specs.WellFormed.{WellFormed, Lengths, ListedPage, NotedRight, holder, keyEntry}
@@ -164,7 +164,7 @@ module _ (m : Mem) (p : ℕ) (a : ListAsks m p) where
       six : slotCount words' ≡ slotCount (m .words)
       six = low 6 (omega arith)
 
-      eight : journalRoom words' ≡ journalRoom (m .words)
+      eight : journalWords words' ≡ journalWords (m .words)
       eight = low 8 (omega arith)
 
       layout-kept : layoutOf words' ≡ layoutOf (m .words)
@@ -258,7 +258,7 @@ module _ (m : Mem) (p : ℕ) (a : ListAsks m p) where
           let h₇ = low 7 (omega arith) in
           let h₈ = eight in
           let w = words-long in
-          record { slots-lo = omega arith; slots-hi = omega arith; pages-lo = omega arith; pages-hi = omega arith; room-hi = omega arith; in-bytes = omega arith; in-keys = omega arith; in-order = omega arith; in-words = omega arith }
+          record { slots-lo = omega arith; slots-hi = omega arith; pages-lo = omega arith; pages-hi = omega arith; journal-hi = omega arith; in-bytes = omega arith; in-keys = omega arith; in-order = omega arith; in-words = omega arith }
 
       high-width : high ≤ 4294967295
       high-width =

@@ -1,4 +1,4 @@
--- THE CLAIM about every list of calls on a memory freshPlain from an accepted opening. It is stated of any relation S: `S m c o m'` says that the
+-- THE CLAIM about every list of calls on a memory fresh from an accepted opening. It is stated of any relation S: `S m c o m'` says that the
 -- call c, lent the buffers m, may have the outcome o and leave the buffers m'. Crate `lists` proves it of the relation that the contracts of the code give.
 -- Assumes nothing.
 use mathlib.Core.Path.{_≡_}
@@ -29,7 +29,7 @@ pub record Contracts (S : Steps) : Type 0 where
       → S m c o m' → Shows s v m → Does m (outcomeOf s c v) s (nextOf s c v) o m'
 
 -- ---- lists
--- a list starts at a memory freshPlain from an accepted opening
+-- a list starts at a memory fresh from an accepted opening
 pub data Started (S : Steps) : Setting → Mem → Plain → Type 0 where
   by-opening : {before start : Mem} {s : Setting} {calldata : List ℕ} → S before (Open s calldata) (done nothing) start → Started S s start (freshPlain s calldata)
 

@@ -132,7 +132,7 @@ module _ (m : Mem) (f : wellFormed m ≡ true) where
   length-small = well-formed-means m f .encoded .length-width
 
   pub mark-small : (j : ℕ) → j < journalCount → journalLength (m .words) j ≤ 4294967295
-  mark-small j l = let w = well-formed-means m f .in-capacity j l in let r = well-formed-means m f .lengths .room-hi in omega arith
+  mark-small j l = let w = well-formed-means m f .in-capacity j l in let r = well-formed-means m f .lengths .journal-hi in omega arith
 
 pub marks-are : (m : Mem) → _≡_ {A = ℕ × ℕ} (getD (m .words) 12 0, getD (m .words) 13 0) (length (viewOf m .journal 0), length (viewOf m .journal 1))
 unfolding journal

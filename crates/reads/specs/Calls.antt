@@ -28,13 +28,13 @@ abbrev pub snapshotOutcome : Marks → Outcome (ℕ × ℕ)
 snapshotOutcome r = answered (r .refusal) (r .heap, r .aux)
 
 -- a read that tells its outcome and gives a value, which is `none` where it is refused
-pub record ReadDoes {A : Type 0} (outcome wordOutcome : Outcome A) (value none : A) : Type 0 where
-  pub answer : wordOutcome ≡ outcome
+pub record ReadDoes {A : Type 0} (outcome reported : Outcome A) (value none : A) : Type 0 where
+  pub answer : reported ≡ outcome
   pub zero : carriedOut outcome ≡ false → value ≡ none
 
 -- a read into an output: it is d after the call, and was o; `bytes` are those of the range
-pub record RangeDoes {A : Type 0} (outcome wordOutcome : Outcome A) (bytes o d : List ℕ) : Type 0 where
-  pub answer : wordOutcome ≡ outcome
+pub record RangeDoes {A : Type 0} (outcome reported : Outcome A) (bytes o d : List ℕ) : Type 0 where
+  pub answer : reported ≡ outcome
   pub kept : carriedOut outcome ≡ false → d ≡ o
   pub read : carriedOut outcome ≡ true → d ≡ bytes
 

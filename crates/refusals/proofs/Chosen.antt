@@ -1,4 +1,4 @@
--- The firstRefusal that the tests give, from what each of them told.
+-- The number that the tests give, from what each of them told.
 -- Assumes nothing.
 use mathlib.Core.Path.{_≡_, sym, ap, _∙_}
 use mathlib.Core.Bool.{Bool, true, false, not}
@@ -34,7 +34,7 @@ module _ (m : Mem) (checks : List (Check Value)) where
 pub layout-asks : (m : Mem) → WellFormed m → (headLength ≤ length (m .words)) × (narrow (m .words) ≡ true)
 layout-asks m f = let h = f .lengths .in-words in (omega arith, narrow-test (m .words) (f .encoded .layout-width) (f .encoded .length-width))
 
--- ---- capacityChecksAt for n bytes at address a, from the counts of chunks and of journal words as computed
+-- ---- room for n bytes at address a, from the counts of chunks and of journal words as computed
 module _ (a n k : ℕ) (is : k ≡ touchedCount a n) where
   pub chunks-fit : a + n < 2 ^ 64 → a / 256 + k < 2 ^ 64
   chunks-fit l = let h = small n l in omega arith

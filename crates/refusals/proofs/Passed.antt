@@ -57,22 +57,22 @@ or-rest : (a b : Bool) → (a || b) ≡ false → b ≡ false
 or-rest true b e = absurd (false≢true (sym e))
 or-rest false b e = e
 
-less-by : (own : Bool) (capacityChecksAt n : ℕ) → (own && ltb capacityChecksAt n) ≡ false → own ≡ true → n ≤ capacityChecksAt
-less-by own capacityChecksAt n e t = ltb-false capacityChecksAt n (sym (ap (λ (b : Bool). b && ltb capacityChecksAt n) t) ∙ e)
+less-by : (own : Bool) (most n : ℕ) → (own && ltb most n) ≡ false → own ≡ true → n ≤ most
+less-by own most n e t = ltb-false most n (sym (ap (λ (b : Bool). b && ltb most n) t) ∙ e)
 
-words-by : (s : Setting) (v : View) (p w : ℕ) → overfull s v p w journalCount ≡ false → (j : ℕ) → j < journalCount → p ≡ journalPage (s .layout) j → length (v .journal j) + w ≤ s .room
+words-by : (s : Setting) (v : View) (p w : ℕ) → overfull s v p w journalCount ≡ false → (j : ℕ) → j < journalCount → p ≡ journalPage (s .layout) j → length (v .journal j) + w ≤ s .journalWords
 unfolding overfull
 words-by s v p w e zero l q =
-    less-by (eqb p (journalPage (s .layout) 0)) (s .room) _ (or-first _ false (or-rest (eqb p (journalPage (s .layout) 1) && ltb (s .room) (length (v .journal 1) + w)) _ e)) (eq-eqb p (journalPage (s .layout) 0) q)
+    less-by (eqb p (journalPage (s .layout) 0)) (s .journalWords) _ (or-first _ false (or-rest (eqb p (journalPage (s .layout) 1) && ltb (s .journalWords) (length (v .journal 1) + w)) _ e)) (eq-eqb p (journalPage (s .layout) 0) q)
 words-by s v p w e (suc zero) l q =
-    less-by (eqb p (journalPage (s .layout) 1)) (s .room) _ (or-first (eqb p (journalPage (s .layout) 1) && ltb (s .room) (length (v .journal 1) + w)) _ e) (eq-eqb p (journalPage (s .layout) 1) q)
+    less-by (eqb p (journalPage (s .layout) 1)) (s .journalWords) _ (or-first (eqb p (journalPage (s .layout) 1) && ltb (s .journalWords) (length (v .journal 1) + w)) _ e) (eq-eqb p (journalPage (s .layout) 1) q)
 words-by s v p w e (suc (suc j)) l q = absurd (omega arith)
 
 -- 9, 10 and 11 of n bytes at address a
 pub record Room (s : Setting) (v : View) (p a n w : ℕ) : Type 0 where
   pub entry : v .allocated p ≡ false → 0 < v .entries
   pub chunks : needs v p a n ≤ v .pool
-  pub words : (j : ℕ) → j < journalCount → p ≡ journalPage (s .layout) j → length (v .journal j) + w ≤ s .room
+  pub words : (j : ℕ) → j < journalCount → p ≡ journalPage (s .layout) j → length (v .journal j) + w ≤ s .journalWords
 
 module _ (s : Setting) (v : View) (p a n w : ℕ) where
   pub room-refusals : Refusals (capacityChecksAt s v p a n w)

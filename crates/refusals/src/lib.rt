@@ -31,7 +31,7 @@ pub fn word_room(
     requires { ⌜ WellFormed (mem (now bytes) (now keys) (now order) (now words)) ⌝ }
     ensures { λ r. ⌜ r ≡ firstRefusal (wordWriteChecks (settingOf (mem (now (bytes .entry)) (now (keys .entry)) (now (order .entry)) (now (words .entry)))) (viewOf (mem (now (bytes .entry)) (now (keys .entry)) (now (order .entry)) (now (words .entry)))) page address) ⌝ }
 {
-    if room::is_undecodable(decode(bytes, keys, order, words, page)) {
+    if page_ids::is_undecodable(decode(bytes, keys, order, words, page)) {
         return 4;
     }
     let count = room::touched(address, 32);
@@ -76,7 +76,7 @@ fn bytes_room(
     requires { ⌜ WellFormed (mem (now bytes) (now keys) (now order) (now words)) ⌝ }
     ensures { λ r. ⌜ r ≡ firstRefusal (byteWriteChecks (settingOf (mem (now (bytes .entry)) (now (keys .entry)) (now (order .entry)) (now (words .entry)))) (viewOf (mem (now (bytes .entry)) (now (keys .entry)) (now (order .entry)) (now (words .entry)))) page start n) ⌝ }
 {
-    if room::is_undecodable(decode(bytes, keys, order, words, page)) {
+    if page_ids::is_undecodable(decode(bytes, keys, order, words, page)) {
         return 4;
     }
     if (n as u64) > 4294967296 - (start as u64) {
@@ -126,10 +126,10 @@ fn allocate_room(
     ensures { λ r. ⌜ r ≡ firstRefusal (allocateChecks (settingOf (mem (now (bytes .entry)) (now (keys .entry)) (now (order .entry)) (now (words .entry)))) (viewOf (mem (now (bytes .entry)) (now (keys .entry)) (now (order .entry)) (now (words .entry)))) page n) ⌝ }
 {
     let decoded = decode(bytes, keys, order, words, page);
-    if room::is_undecodable(decoded) {
+    if page_ids::is_undecodable(decoded) {
         return 4;
     }
-    if room::is_fixed(decoded) {
+    if page_ids::is_fixed(decoded) {
         return 5;
     }
     if room::is_allocated(bytes, keys, order, words, page) {

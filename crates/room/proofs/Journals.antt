@@ -8,7 +8,7 @@ use lib.Dec.{ltb}
 use lib.ListN.{length, getD}
 use borrow.Author.Tests.{lt-ltb, eq-eqb, ne-eqb}
 use Rattle.formed.proofs.Same.{tab-long}
-use Rattle.store.specs.Mem.{Mem, journalRoom, journalLength}
+use Rattle.store.specs.Mem.{Mem, journalWords, journalLength}
 use Rattle.formed.specs.Pages.{journalCount}
 use Rattle.formed.specs.Parts.{journal}
 use Rattle.formed.specs.WellFormed.{WellFormed}
@@ -24,13 +24,13 @@ or-none true = refl
 or-none false = refl
 
 module _ (m : Mem) (f : WellFormed m) (p x : ℕ) where
-  pub full-heap : p ≡ getD (m .words) 2 0 → overfull (settingOf m) (viewOf m) p x journalCount ≡ ltb (journalRoom (m .words)) (getD (m .words) 12 0 + x)
+  pub full-heap : p ≡ getD (m .words) 2 0 → overfull (settingOf m) (viewOf m) p x journalCount ≡ ltb (journalWords (m .words)) (getD (m .words) 12 0 + x)
   unfolding overfull
   full-heap e =
       let apart : p ≡ getD (m .words) 3 0 → ⊥ = λ q. f .layout .distinct 2 3 (omega arith) (omega arith) (sym e ∙ q) in
       rw (ne-eqb p (getD (m .words) 3 0) apart, eq-eqb p (getD (m .words) 2 0) e, journal-long m 0 (omega arith)) (or-none _)
 
-  pub full-aux : (p ≡ getD (m .words) 2 0 → ⊥) → p ≡ getD (m .words) 3 0 → overfull (settingOf m) (viewOf m) p x journalCount ≡ ltb (journalRoom (m .words)) (getD (m .words) 13 0 + x)
+  pub full-aux : (p ≡ getD (m .words) 2 0 → ⊥) → p ≡ getD (m .words) 3 0 → overfull (settingOf m) (viewOf m) p x journalCount ≡ ltb (journalWords (m .words)) (getD (m .words) 13 0 + x)
   unfolding overfull
   full-aux n e = rw (eq-eqb p (getD (m .words) 3 0) e, ne-eqb p (getD (m .words) 2 0) n, journal-long m 1 (omega arith)) (or-none _)
 

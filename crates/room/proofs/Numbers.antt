@@ -1,4 +1,4 @@
--- The firstRefusal of the first check that holds.
+-- The number of the first check that holds.
 -- Assumes nothing.
 use mathlib.Core.Path.{_≡_, refl, ap, _∙_}
 use mathlib.Core.Bool.{Bool, true, false, not, _&&_}
@@ -14,19 +14,19 @@ use Rattle.view.specs.Checks.{Check, overfull, capacityChecks}
 use Rattle.view.specs.Calls.{Value}
 use Rattle.room.specs.Refusals.{firstRefusal}
 
--- a check that holds gives its firstRefusal; one that does not leaves it to the rest
+-- a check that holds gives its number; one that does not leaves it to the rest
 pub first-holds : (b : Bool) (n : ℕ) (rest : List (Check Value)) → b ≡ true → n ≡ firstRefusal ((b, refused n) ∷ rest)
 first-holds b n rest e = rw e refl
 
 pub first-fails : (b : Bool) (o : Outcome Value) (rest : List (Check Value)) → b ≡ false → firstRefusal rest ≡ firstRefusal ((b, o) ∷ rest)
 first-fails b o rest e = rw e refl
 
--- where no firstRefusal is given, the check fails and none of the rest gives one
+-- where no number is given, the check fails and none of the rest gives one
 pub none-first : (b : Bool) (n : ℕ) (rest : List (Check Value)) → firstRefusal ((b, refused (suc n)) ∷ rest) ≡ 0 → (b ≡ false) × (firstRefusal rest ≡ 0)
 none-first true n rest e = absurd (omega arith)
 none-first false n rest e = (refl, e)
 
--- a refusal is told by its firstRefusal
+-- a refusal is told by its number
 pub told-number : (o : Outcome Value) (n : ℕ) → n ≡ refusalNumber o → (n ≡ 0 → ⊥) → refused n ≡ o
 told-number (refused m) n e z = ap refused e
 told-number (panicked v) n e z = absurd (z e)

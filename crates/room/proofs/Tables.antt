@@ -12,10 +12,6 @@ use lib.ListN.{take}
 use borrow.Author.Tests.{eq-eqb, ne-eqb, lt-ltb, le-ltb, lt-leb, le-leb}
 use Rattle.index.specs.Index.{seek}
 use Rattle.index.proofs.Logic.{lt-or-ge}
-use Rattle.page_ids.specs.Decode.{pageOf, isNone, isFixed}
-use Rattle.page_ids.specs.declared.DynamicPageKind.{DynamicPageKind}
-use Rattle.page_ids.specs.declared.DynamicPageKind.the-variants.{Code, Heap, Aux}
-use Rattle.page_ids.specs.declared.DecodedPage.the-variants.{Dynamic}
 use Rattle.store.specs.Mem.{Mem, slotCount, pageCount, inUse}
 use Rattle.formed.specs.Parts.{keyOf, entryOf, allocated, entriesLeft, holds, slotOfChunk}
 use Rattle.formed.specs.WellFormed.{WellFormed}
@@ -54,9 +50,3 @@ lacks-far ks w e k l = rw (lt-leb k 16777216 l, le-ltb (slotCount w) (slotCount 
 
 pub lacks-near : (ks w : List ℕ) (e k s : ℕ) → k ≤ 16777216 → s ≡ seek (take (slotCount w) ks) (keyOf e k) → leb (slotCount w) s ≡ lacksAt ks w e k
 lacks-near ks w e k s l q = rw (le-leb k 16777216 l, q) (not-lt (seek (take (slotCount w) ks) (keyOf e k)) (slotCount w))
-
--- a dynamic page is decodable and not fixed
-pub dynamic-known : (k : DynamicPageKind) (g : ℕ) → (isNone (pageOf (Dynamic k g)) ≡ false) × (isFixed (pageOf (Dynamic k g)) ≡ false)
-dynamic-known Code g = (refl, refl)
-dynamic-known Heap g = (refl, refl)
-dynamic-known Aux g = (refl, refl)

@@ -12,7 +12,7 @@ use Rattle.formed.specs.Parts.{keyOf}
 use Rattle.view.specs.Checks.{Check}
 use Rattle.view.specs.Calls.{Value, nothing}
 
--- the firstRefusal of the first refusal of a list, 0 where there is none
+-- the number of the first refusal of a list, 0 where there is none
 abbrev pub firstRefusal : List (Check Value) → ℕ
 firstRefusal checks = refusalNumber (firstOf checks (done nothing))
 

@@ -3,7 +3,6 @@ ghost use mathlib.Core.Path.{_≡_};
 ghost use mathlib.Core.Bool.{not, _&&_};
 ghost use Prim.Native.Nat.{_+_, _<_, _≤_, _^_};
 ghost use lib.Dec.{eqb, ltb};
-ghost use Rattle.page_ids.specs.Decode.{pageOf, isNone, isFixed};
 ghost use Rattle.store.specs.Mem.{mem};
 ghost use Rattle.store.specs.Hold.{Indexed};
 ghost use Rattle.formed.specs.Pages.{journalCount};
@@ -12,7 +11,6 @@ ghost use Rattle.view.specs.View.{settingOf, viewOf};
 ghost use Rattle.view.specs.Steps.{missing, touchedCount, alignedCount};
 ghost use Rattle.view.specs.Checks.{overfull, capacityChecks};
 ghost use Rattle.room.specs.Refusals.{firstRefusal, lacksAt};
-use page_ids::DecodedPage;
 use store::head;
 
 // How many chunks n bytes at an address touch.
@@ -37,33 +35,6 @@ pub fn aligned(address: u32, n: usize) -> u64
     }
     let first = address as u64;
     (first + (n as u64 - 1)) / 32 - first / 32 + 1
-}
-
-pub fn is_undecodable(page: DecodedPage) -> bool
-    ensures { λ r. ⌜ r ≡ isNone (pageOf page) ⌝ }
-{
-    match page {
-        DecodedPage::Static => false,
-        DecodedPage::BootloaderCalldata => false,
-        DecodedPage::BootloaderHeap => false,
-        DecodedPage::BootloaderAuxHeap => false,
-        DecodedPage::Dynamic(_, _) => false,
-        DecodedPage::Undecodable => true,
-    }
-}
-
-// vm2: `is_always_allocated`.
-pub fn is_fixed(page: DecodedPage) -> bool
-    ensures { λ r. ⌜ r ≡ isFixed (pageOf page) ⌝ }
-{
-    match page {
-        DecodedPage::Static => true,
-        DecodedPage::BootloaderCalldata => true,
-        DecodedPage::BootloaderHeap => true,
-        DecodedPage::BootloaderAuxHeap => true,
-        DecodedPage::Dynamic(_, _) => false,
-        DecodedPage::Undecodable => false,
-    }
 }
 
 pub fn is_allocated(bytes: &[u8], keys: &[u64], order: &[u32], words: &[u64], page: u32) -> bool

@@ -40,8 +40,8 @@ slotCount w = getD w 6 0
 abbrev pub pageCount : List ℕ → ℕ
 pageCount w = getD w 7 0
 
-abbrev pub journalRoom : List ℕ → ℕ
-journalRoom w = getD w 8 0
+abbrev pub journalWords : List ℕ → ℕ
+journalWords w = getD w 8 0
 
 -- how many slots are held, and how many entries are in use
 abbrev pub heldNow : List ℕ → ℕ

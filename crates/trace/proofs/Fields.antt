@@ -110,7 +110,7 @@ from-moved s at k l =
     ∙ ap (λ (t : Bool). cond t (fields (drop (suc k) (drop at s))) []) (leb-moved k (length s) at l)
     ∙ ap (λ (r : List ℕ). cond (leb (at + k + 1) (length s)) (fields r) []) (drop-drop (suc k) at s ∙ ap (λ (n : ℕ). drop n s) e)
 
--- the sameBytes from place `at` on
+-- the same from place `at` on
 pub field-at : (s : List ℕ) (at : ℕ) → at ≤ length s → fieldsFrom s at ≡ take (spaceAt (drop at s)) (drop at s) ∷ fieldsFrom s (at + spaceAt (drop at s) + 1)
 field-at s at l =
     ap (λ (t : Bool). cond t (fields (drop at s)) []) (le-leb at (length s) l)
@@ -120,7 +120,7 @@ field-at s at l =
 pub from-past : (s : List ℕ) (at : ℕ) → length s < at → fieldsFrom s at ≡ []
 from-past s at l = rw (lt-leb at (length s) l)
 
--- ---- the sameBytes bytes
+-- ---- the same bytes
 pub same-lengths : (a b : List ℕ) → (length a ≡ length b → ⊥) → false ≡ sameBytes a b
 same-lengths [] [] n = absurd (n refl)
 same-lengths [] (c ∷ cs) n = refl

@@ -33,9 +33,9 @@ undecodable s p = isNone (decoded (s .layout) p)
 -- 11: w more words do not fit the journal of page p
 unfoldable pub overfull : Setting → View → ℕ → ℕ → ℕ → Bool
 overfull s v p w zero = false
-overfull s v p w (suc n) = (journalled (s .layout) p n && ltb (s .room) (length (v .journal n) + w)) || overfull s v p w n
+overfull s v p w (suc n) = (journalled (s .layout) p n && ltb (s .journalWords) (length (v .journal n) + w)) || overfull s v p w n
 
--- 9, 10, 11: capacityChecksAt for `count` chunks of page p from number k on, and for w journal words
+-- 9, 10, 11: room for `count` chunks of page p from number k on, and for w journal words
 abbrev pub capacityChecks : {A : Type 0} → Setting → View → ℕ → ℕ → ℕ → ℕ → List (Check A)
 capacityChecks s v p k count w =
     (not (v .allocated p) && eqb (v .entries) 0, refused 9)
@@ -98,11 +98,11 @@ compareChecks l other = (not (wellFormed other), refused 3) ∷ (not (sameLayout
 -- ---- opening
 -- the counts are in bounds
 abbrev pub countsRight : Setting → Bool
-countsRight s = (leb 1 (s .chunks) && leb (s .chunks) 65536) && ((leb 1 (s .pages) && leb (s .pages) 4096) && leb (s .room) 65536)
+countsRight s = (leb 1 (s .chunks) && leb (s .chunks) 65536) && ((leb 1 (s .pages) && leb (s .pages) 4096) && leb (s .journalWords) 65536)
 
 -- the lengths that they ask for
 abbrev pub bytesLength : Setting → ℕ
-bytesLength s = bytesFor (s .chunks) (s .room)
+bytesLength s = bytesFor (s .chunks) (s .journalWords)
 
 abbrev pub keysLength : Setting → ℕ
 keysLength s = keysFor (s .chunks) (s .pages)
@@ -111,7 +111,7 @@ abbrev pub orderLength : Setting → ℕ
 orderLength s = orderFor (s .chunks) (s .pages)
 
 abbrev pub wordsLength : Setting → ℕ
-wordsLength s = wordsFor (s .room)
+wordsLength s = wordsFor (s .journalWords)
 
 -- the lent buffers have these lengths
 abbrev pub lengthsRight : Setting → Mem → Bool

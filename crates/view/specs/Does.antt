@@ -14,9 +14,9 @@ pub record Shows (s : Setting) (v : View) (m : Mem) : Type 0 where
   pub setting : settingOf m ≡ s
   pub view : viewOf m ≡ v
 
--- a call on the buffers m has the outcome `told`, which is that of the definition, and leaves the buffers m': all of them as they were
+-- a call on the buffers m has the outcome `reported`, which is that of the definition, and leaves the buffers m': all of them as they were
 -- where it is refused or panics, and a well-formed memory of the setting s and the view v where it is carried out
-pub record Does {A : Type 0} (m : Mem) (outcome : Outcome A) (s : Setting) (v : View) (told : Outcome A) (m' : Mem) : Type 0 where
-  pub answer : told ≡ outcome
+pub record Does {A : Type 0} (m : Mem) (outcome : Outcome A) (s : Setting) (v : View) (reported : Outcome A) (m' : Mem) : Type 0 where
+  pub answer : reported ≡ outcome
   pub kept : carriedOut outcome ≡ false → m' ≡ m
   pub changed : carriedOut outcome ≡ true → Shows s v m'

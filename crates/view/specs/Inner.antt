@@ -6,7 +6,7 @@ use mathlib.Core.List.{List, [], _++_}
 use Prim.Native.Nat.{ℕ, _+_, _-_, _/_, _<_, _≤_}
 use lib.Dec.{leb, ltb, eqb}
 use lib.ListN.{length}
-use Rattle.store.specs.Mem.{Mem, layoutOf, journalRoom}
+use Rattle.store.specs.Mem.{Mem, layoutOf, journalWords}
 use Rattle.formed.specs.Pages.{fixed, dynamic, journalCount, journalPage}
 use Rattle.formed.specs.Parts.{Note}
 use Rattle.page_ids.specs.declared.Layout.{Layout}
@@ -54,7 +54,7 @@ pub record NoteAsks (m : Mem) (j a : ℕ) : Type 0 where
   pub which : j < journalCount
   pub address : a ≤ 4294967295
   pub held : (x : ℕ) → x < 32 → viewOf m .held (journalPage (layoutOf (m .words)) j) ((a + x) / 256) ≡ true
-  pub room : length (viewOf m .journal j) < journalRoom (m .words)
+  pub room : length (viewOf m .journal j) < journalWords (m .words)
 
 -- every chunk that n bytes at address a touch is held by page p, and they end at or before 4,294,967,326
 pub record PutAsks (m : Mem) (p a n : ℕ) : Type 0 where

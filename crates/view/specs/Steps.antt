@@ -119,7 +119,7 @@ shortened n v = withDynamicLength n v
 abbrev pub truncated : Setting → ℕ → View → View
 truncated s n v = shortened n (without s (λ q k. fromGroup (s .layout) n q) (fromGroup (s .layout) n) v)
 
--- ---- comparison: two memories are equal when every page has equal bytes and the sameBool dynamic pages are allocated (fixed ones always are)
+-- ---- comparison: two memories are equal when every page has equal bytes and the same dynamic pages are allocated (fixed ones always are)
 abbrev pub sameBool : Bool → Bool → Bool
 sameBool a b = cond a b (not b)
 

@@ -4,7 +4,7 @@ use mathlib.Core.Bool.{Bool, cond}
 use mathlib.Core.List.{List, []}
 use Prim.Native.Nat.{ℕ}
 use lib.Dec.{ltb}
-use Rattle.store.specs.Mem.{Mem, layoutOf, slotCount, pageCount, journalRoom, dynamicLength}
+use Rattle.store.specs.Mem.{Mem, layoutOf, slotCount, pageCount, journalWords, dynamicLength}
 use Rattle.formed.specs.Pages.{journalCount}
 use Rattle.formed.specs.Parts.{Note, byteAt, holds, pool, allocated, entriesLeft, journal}
 use Rattle.page_ids.specs.declared.Layout.{Layout}
@@ -51,10 +51,10 @@ pub record Setting : Type 0 where
   pub layout : Layout
   pub chunks : ℕ
   pub pages : ℕ
-  pub room : ℕ
+  pub journalWords : ℕ
 
 abbrev pub settingOf : Mem → Setting
-settingOf m = record { layout = layoutOf (m .words); chunks = slotCount (m .words); pages = pageCount (m .words); room = journalRoom (m .words) }
+settingOf m = record { layout = layoutOf (m .words); chunks = slotCount (m .words); pages = pageCount (m .words); journalWords = journalWords (m .words) }
 
 abbrev pub viewOf : Mem → View
 viewOf m = record {

@@ -10,7 +10,7 @@ use lib.ListN.{length}
 use borrow.Author.Tests.{lt-ltb, le-leb, eq-eqb}
 use Rattle.word.specs.Value.{wordBytes}
 use Rattle.page_ids.specs.declared.Layout.{Layout}
-use Rattle.store.specs.Mem.{Mem, layoutOf, journalRoom, holders}
+use Rattle.store.specs.Mem.{Mem, layoutOf, journalWords, holders}
 use Rattle.formed.specs.Pages.{journalCount, journalPlace, journalPage}
 use Rattle.formed.proofs.Sense.{unlisted-holds}
 use Rattle.formed.proofs.Same.{tab-same}
@@ -155,7 +155,7 @@ module _ (m : Mem) (p a n w k : ℕ) (c : Cleared m p a n w k) where
       held = held-now;
       room = λ j l q.
           let e : viewOf m₂ .journal j ≡ viewOf m .journal j = ap (λ (v : View). v .journal j) (ready .view) ∙ listed-journal (layoutOf (m .words)) p (viewOf m) j in
-          let s : journalRoom (m₂ .words) ≡ journalRoom (m .words) = ap (λ (s : Setting). s .room) (ready .setting) in
+          let s : journalWords (m₂ .words) ≡ journalWords (m .words) = ap (λ (s : Setting). s .journalWords) (ready .setting) in
           let h = c .room .words j l (q ∙ ap (λ (t : Layout). journalPage t j) layout-now) in
           let g : length (viewOf m₂ .journal j) ≡ length (viewOf m .journal j) = ap length e in
           omega arith;

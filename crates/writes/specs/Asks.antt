@@ -6,7 +6,7 @@ use mathlib.Core.List.{List}
 use Prim.Native.Nat.{ℕ, _+_, _/_, _<_, _≤_}
 use lib.ListN.{length}
 use Rattle.page_ids.specs.declared.Layout.{Layout}
-use Rattle.store.specs.Mem.{Mem, layoutOf, slotCount, journalRoom}
+use Rattle.store.specs.Mem.{Mem, layoutOf, slotCount, journalWords}
 use Rattle.formed.specs.Pages.{fixed, dynamic, journalCount, journalPage}
 use Rattle.formed.specs.Parts.{slotOfChunk}
 use Rattle.formed.specs.WellFormed.{WellFormed}
@@ -28,7 +28,7 @@ pub record PrepareAsks (m : Mem) (p k n : ℕ) : Type 0 where
 pub record JournalAsks (m : Mem) (p a n w : ℕ) : Type 0 where
   pub formed : WellFormed m
   pub held : (x : ℕ) → x < n → viewOf m .held p ((a + x) / 256) ≡ true
-  pub room : (j : ℕ) → j < journalCount → p ≡ journalPage (layoutOf (m .words)) j → length (viewOf m .journal j) + w ≤ journalRoom (m .words)
+  pub room : (j : ℕ) → j < journalCount → p ≡ journalPage (layoutOf (m .words)) j → length (viewOf m .journal j) + w ≤ journalWords (m .words)
 
 -- the slots s and t hold the first and the last chunk of the word at address a of page p, and if the page has a journal, that has room for a word
 pub record WordAsks (m : Mem) (p a s t : ℕ) : Type 0 where
@@ -37,7 +37,7 @@ pub record WordAsks (m : Mem) (p a s t : ℕ) : Type 0 where
   pub last : slotOfChunk m p ((a + 31) / 256) ≡ t
   pub first-in : s < slotCount (m .words)
   pub last-in : t < slotCount (m .words)
-  pub room : (j : ℕ) → j < journalCount → p ≡ journalPage (layoutOf (m .words)) j → length (viewOf m .journal j) + 1 ≤ journalRoom (m .words)
+  pub room : (j : ℕ) → j < journalCount → p ≡ journalPage (layoutOf (m .words)) j → length (viewOf m .journal j) + 1 ≤ journalWords (m .words)
 
 -- the word at address a of page p is journalled, if the page has a journal, and ws put in its place
 abbrev pub wordPut : Layout → ℕ → ℕ → List ℕ → View → View

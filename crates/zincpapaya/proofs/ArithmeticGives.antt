@@ -9,15 +9,12 @@ use lib.ListN.{length}
 use Rattle.outcome.specs.Outcome.{Outcome, refused, done, answered, mapped, refusalNumber}
 use Rattle.zincpapaya.specs.Interface.{Gives}
 use Rattle.page_ids.specs.declared.Layout.{Layout}
-use Rattle.page_ids.specs.declared.DynamicPageKind.{DynamicPageKind}
-use Rattle.page_ids.specs.declared.DynamicPageKind.the-variants.{Code, Heap, Aux}
-use Rattle.page_ids.specs.declared.DecodedPage.the-variants.{Dynamic}
 use Rattle.page_ids.specs.Arithmetic.{sum, difference}
-use Rattle.page_ids.specs.Decode.{badLayout, pageOf, decoding}
+use Rattle.page_ids.specs.Decode.{badLayout, decoding}
 use Rattle.state.specs.declared.Step.{Step}
 use Rattle.state.specs.Quote.{quoted}
 use Rattle.zincpapaya.specs.Executing.{bit, grownNumbers}
-use Rattle.zincpapaya.specs.Numbers.{kindOf, groupOf, numbersAfter, Reports, Grows}
+use Rattle.zincpapaya.specs.Numbers.{numbersAfter, Reports, Grows}
 
 -- ---- an outcome that a status can tell: no panic, and no refusal with 0
 pub data Plain {A : Type 0} : Outcome A → Type 0 where
@@ -79,17 +76,6 @@ quoted-plain list gas bound = either (ltb 4096 (length list)) refuses answers
 -- ---- what the parts tell
 pub done-told : {A : Type 0} {numbers : A → List ℕ} {o : Outcome A} {a : A} → o ≡ done a → {out : List ℕ} {r : ℕ} {out' : List ℕ} → r ≡ 0 → out' ≡ numbers a → Reports numbers o out r out'
 done-told {numbers = numbers} q {out} {r} {out'} z e = record { status = z ∙ sym (ap refusalNumber q); out-is = e ∙ sym (ap (λ (x : Outcome _). numbersAfter numbers x out) q) }
-
--- the kind of a dynamic page does not hang on its group
-pub any-group : (kind : DynamicPageKind) (g : ℕ) → kindOf (pageOf (Dynamic kind 0)) ≡ kindOf (pageOf (Dynamic kind g))
-any-group Code g = refl
-any-group Heap g = refl
-any-group Aux g = refl
-
-pub group-is : (kind : DynamicPageKind) (g : ℕ) → groupOf (pageOf (Dynamic kind g)) ≡ g
-group-is Code g = refl
-group-is Heap g = refl
-group-is Aux g = refl
 
 -- ---- a growth
 module _ (frame out : List ℕ) (step : Step) where

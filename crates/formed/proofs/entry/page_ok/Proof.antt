@@ -1,35 +1,11 @@
-use mathlib.Core.Logic.{inl, inr}
-use mathlib.Core.List.{[], _∷_}
-use mathlib.Core.Bool.{false}
-use mathlib.Core.Path.{_≡_, refl, sym, ap, _∙_}
-use native.Mathlib.Omega.{arith}
+use mathlib.Core.Path.{refl, sym, ap, _∙_}
 use borrow.Author.Needs.{needs}
-use types.Run.{OneOf}
-use denote.Enum.Declared.{tagOf}
-use Rattle.page_ids.proofs.DecodedPage.{the-type}
-use Rattle.page_ids.specs.declared.DecodedPage.{DecodedPage}
-use Rattle.page_ids.specs.declared.DecodedPage.the-variants.{Static, BootloaderCalldata, BootloaderHeap, BootloaderAuxHeap, Dynamic, Undecodable}
-use Rattle.page_ids.specs.Decode.{pageOf, isDynamic}
+use Rattle.page_ids.specs.Decode.{pageOf}
+use Rattle.page_ids.proofs.Arms.{other-than-dynamic}
 use Rattle.formed.proofs.Bools.{and-stop}
 use Rattle.formed.proofs.Pages.{told-dynamic, told-other}
 use Rattle.formed.proofs.entry.page_ok.Statement.{statement}
 use Rattle.formed.proofs.entry.page_ok.Tie as tie
-
-none-of : OneOf (0 ∷ 1 ∷ 2 ∷ 3 ∷ 5 ∷ []) 4 → ⊥
-none-of (inl e) = omega arith
-none-of (inr (inl e)) = omega arith
-none-of (inr (inr (inl e))) = omega arith
-none-of (inr (inr (inr (inl e)))) = omega arith
-none-of (inr (inr (inr (inr e)))) = omega arith
-
--- the arms but that of a dynamic page
-other : (r : DecodedPage) → OneOf (0 ∷ 1 ∷ 2 ∷ 3 ∷ 5 ∷ []) (tagOf the-type r) → isDynamic (pageOf r) ≡ false
-other Static k = refl
-other BootloaderCalldata k = refl
-other BootloaderHeap k = refl
-other BootloaderAuxHeap k = refl
-other (Dynamic kind group) k = absurd (none-of k)
-other Undecodable k = refl
 
 returns : tie.Need-returns
 returns c =
@@ -45,7 +21,7 @@ returns-2 c =
     let at-match = c in
     let at-decode-page = at-match .before in
     let start = at-decode-page .before in
-    and-stop _ _ (told-other (start .args .layout) (start .args .page .0) (at-decode-page .decode-page .result) (at-decode-page .decode-page .ensures) (other (at-decode-page .decode-page .result) (at-match .match .keys2)))
+    and-stop _ _ (told-other (start .args .layout) (start .args .page .0) (at-decode-page .decode-page .result) (at-decode-page .decode-page .ensures) (other-than-dynamic (at-decode-page .decode-page .result) (at-match .match .keys2) .0))
 
 pub page-ok-spec : {M : Type 1} → statement M
 page-ok-spec =

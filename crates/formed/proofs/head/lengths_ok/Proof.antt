@@ -29,7 +29,7 @@ returns-4 c =
 returns-5 : tie.Need-returns-5
 returns-5 c =
     let start = c .before .before .before .before .before in
-    refute _ (λ s. omega (arith, fit-are (start .args .bytes) (start .args .keys) (start .args .order) (start .args .words) (start .args .c) (start .args .p) (start .args .j) s .room-hi, c .if5 .taken))
+    refute _ (λ s. omega (arith, fit-are (start .args .bytes) (start .args .keys) (start .args .order) (start .args .words) (start .args .c) (start .args .p) (start .args .j) s .journal-hi, c .if5 .taken))
 
 returns-6 : tie.Need-returns-6
 returns-6 c =
@@ -63,7 +63,7 @@ returns-10 c =
     let at-if2 = at-if3 .before in
     let at-if1 = at-if2 .before in
     let start = at-if1 .before in
-    sym (fit-test (start .args .bytes) (start .args .keys) (start .args .order) (start .args .words) (start .args .c) (start .args .p) (start .args .j) (record { slots-lo = at-if1 .if1 .left; slots-hi = at-if2 .if2 .left; pages-lo = at-if3 .if3 .left; pages-hi = at-if4 .if4 .left; room-hi = at-if5 .if5 .left; in-bytes = at-if6 .if6 .left; in-keys = at-if7 .if7 .left; in-order = at-if8 .if8 .left; in-words = at-if9 .if9 .left }))
+    sym (fit-test (start .args .bytes) (start .args .keys) (start .args .order) (start .args .words) (start .args .c) (start .args .p) (start .args .j) (record { slots-lo = at-if1 .if1 .left; slots-hi = at-if2 .if2 .left; pages-lo = at-if3 .if3 .left; pages-hi = at-if4 .if4 .left; journal-hi = at-if5 .if5 .left; in-bytes = at-if6 .if6 .left; in-keys = at-if7 .if7 .left; in-order = at-if8 .if8 .left; in-words = at-if9 .if9 .left }))
 
 pub lengths-ok-spec : {M : Type 1} → statement M
 lengths-ok-spec =

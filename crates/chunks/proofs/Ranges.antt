@@ -9,40 +9,12 @@ use native.Mathlib.Numerals.{add-one}
 use native.Mathlib.Omega.{arith}
 use lib.Dec.{ltb, leb, eqb}
 use borrow.Author.Tests.{lt-ltb, le-ltb, le-leb, lt-leb, eq-eqb, ne-eqb}
+use Rattle.view.proofs.Missing.{missing-none, missing-more, missing-one}
 use Rattle.index.proofs.Logic.{same-or-not, lt-or-ge}
 use Rattle.view.specs.View.{View}
 use Rattle.view.specs.Steps.{missing}
 use Rattle.view.specs.Inner.{holding}
 use Rattle.view.proofs.Equal.{view-by}
-
--- ---- how many are missing
-module _ (has : ℕ → Bool) (k : ℕ) where
-  pub missing-none : missing has k 0 ≡ 0
-  unfolding missing
-  missing-none = refl
-
-  pub missing-more : (n : ℕ) → missing has k (n + 1) ≡ missing has k n + cond (has (k + n)) 0 1
-  unfolding missing
-  missing-more n = rw (add-one n)
-
-  pub missing-one : missing has k 1 ≡ cond (has k) 0 1
-  missing-one =
-      let z : k + 0 ≡ k = omega arith in
-      let a = missing-more 0 in
-      let b = missing-none in
-      let c : _≡_ {A = ℕ} (cond (has (k + 0)) 0 1) (cond (has k) 0 1) = ap (λ (x : ℕ). cond (has x) 0 1) z in
-      omega arith
-
-  pub missing-le : (n i : ℕ) → i ≤ n → missing has k i ≤ missing has k n
-  missing-le zero i l = let e : i ≡ 0 = omega arith in rw e (le-refl (missing has k 0))
-  missing-le (suc n) i l =
-      ⊎-elim
-      (λ (e : i ≡ suc n). rw e (le-refl (missing has k (suc n))))
-      (λ (ne : i ≡ suc n → ⊥).
-      let h = missing-le n i (omega arith) in
-      let q : missing has k (suc n) ≡ missing has k n + cond (has (k + n)) 0 1 = ap (missing has k) (sym (add-one n)) ∙ missing-more n in
-      omega arith)
-      (same-or-not i (suc n))
 
 -- ---- the chunks of a range
 -- of one

@@ -10,6 +10,7 @@ use lib.Dec.{ltb, leb, eqb}
 use lib.ListN.{length, getD, set, take, drop, length-set, List·getD-eq-default}
 use lib.Seq.{getD-set-other, getD-take}
 use borrow.Author.Tests.{lt-ltb, eq-eqb, ne-eqb, ltb-true}
+use Rattle.view.proofs.Missing.{missing-one}
 use Rattle.index.specs.Index.{indexed, seek, freeCount}
 use Rattle.index.proofs.Logic.{same-or-not, lt-or-ge, lt-by}
 use Rattle.index.proofs.Places.{seek-hit}
@@ -34,7 +35,7 @@ use Rattle.view.specs.Inner.{holding}
 use Rattle.view.proofs.Equal.{view-by}
 use Rattle.chunks.proofs.Asks.{lacks-is}
 use Rattle.chunks.proofs.Grown.{Grown, grown-was, grown-new}
-use Rattle.chunks.proofs.Ranges.{missing-one, only}
+use Rattle.chunks.proofs.Ranges.{only}
 
 -- what is as it was, and what grew
 pub record Took (k : ℕ) (keys order words keys' order' words' : List ℕ) : Type 0 where

@@ -7,6 +7,7 @@ use Prim.Native.Nat.{ℕ, _+_, _≤_, _<_}
 use native.Mathlib.Omega.{arith}
 use lib.ListN.{length, getD, take}
 use borrow.Author.Tests.{ltb-true}
+use Rattle.view.proofs.Missing.{missing-more, missing-one, missing-le}
 use Rattle.formed.proofs.Asks.{slots-asked}
 use Rattle.index.specs.Index.{seek}
 use Rattle.index.proofs.Places.{seek-hit}
@@ -24,7 +25,7 @@ use Rattle.view.specs.Does.{Shows}
 use Rattle.view.specs.Inner.{holding, HoldAsks}
 use Rattle.view.proofs.Hints.{learnt-shows}
 use Rattle.chunks.proofs.Asks.{lacks-is}
-use Rattle.chunks.proofs.Ranges.{missing-more, missing-one, missing-le, next-held, holding-none, holding-more}
+use Rattle.chunks.proofs.Ranges.{next-held, holding-none, holding-more}
 use Rattle.chunks.proofs.Taking.{Took, took, took-shows}
 
 -- one chunk: what `hold` leaves of a well-formed memory, given the key of chunk n of the allocated page p

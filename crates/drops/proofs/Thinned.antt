@@ -8,6 +8,7 @@ use native.Mathlib.Omega.{arith}
 use lib.Dec.{ltb}
 use lib.ListN.{length, getD}
 use borrow.Author.Tests.{ltb-true}
+use Rattle.index.proofs.Logic.{not-held}
 use Rattle.index.specs.Index.{indexed}
 use Rattle.index.proofs.Places.{seek-hit}
 use Rattle.page_ids.specs.declared.Layout.{Layout}
@@ -60,11 +61,6 @@ gone b x y e t = e ∙ ap (λ (c : Bool). cond c 0 y) t
 at-entry : (m : Mem) (q : ℕ) → allocated m q ≡ true → getD (entries m) (entryOf m q) 0 ≡ q + 1
 unfolding allocated
 at-entry m q h = seek-hit (entries m) (q + 1) (ltb-true (entryOf m q) (length (entries m)) h)
-
--- a test that must not tell is false
-refuted : (b : Bool) → (b ≡ true → ⊥) → b ≡ false
-refuted true n = absurd (n refl)
-refuted false n = refl
 
 module _ (P U : ℕ → Bool) (m m' : Mem) (f : WellFormed m) (t : Thinned P U m m') where
   facts : Facts m
@@ -166,7 +162,7 @@ module _ (P U : ℕ → Bool) (m m' : Mem) (f : WellFormed m) (t : Thinned P U m
   fixed-four' e l =
       let w = words-same e (omega arith) in
       let q = facts .fixed-four e l in
-      let k = entry-kept e (refuted (U (getD (entries m) e 0)) (λ u. let h = t .fixed-pages e u in omega arith)) in
+      let k = entry-kept e (not-held (U (getD (entries m) e 0)) (λ u. let h = t .fixed-pages e u in omega arith)) in
       omega arith
 
   -- number x of word i of journal j
@@ -179,7 +175,7 @@ module _ (P U : ℕ → Bool) (m m' : Mem) (f : WellFormed m) (t : Thinned P U m
   -- a slot of a fixed page is as it was
   fixed-kept : (s j k : ℕ) → j < journalCount → k < 33554432 → holder m s ≡ keyOf (journalPlace j) k → holder m' s ≡ holder m s
   fixed-kept s j k lj lk e =
-      holder-kept s (refuted (P (holder m s)) (λ p.
+      holder-kept s (not-held (P (holder m s)) (λ p.
       let h = t .fixed-keys (holder m s) p in
       let w = place-lt j lj in
       let q : keyEntry (holder m s) ≡ journalPlace j = ap keyEntry e ∙ key-entry (journalPlace j) k lk in

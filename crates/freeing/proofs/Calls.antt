@@ -6,7 +6,9 @@ use mathlib.Core.List.{[], _∷_}
 use Prim.Native.Nat.{ℕ, _≤_, _<_}
 use native.Mathlib.Omega.{arith}
 use lib.Dec.{ltb}
-use borrow.Author.Tests.{lt-ltb, le-ltb, ltb-false}
+use borrow.Author.Tests.{lt-ltb, le-ltb, ltb-false, not-false}
+use Rattle.view.proofs.Refused.{first-holds, first-fails, none-first, Refusals, end, next}
+use Rattle.view.specs.Calls.{firstRefusal}
 use Rattle.outcome.specs.Outcome.{refused}
 use Rattle.index.proofs.Logic.{and-left, and-right}
 use Rattle.page_ids.specs.Decode.{Page, none, page, decoded, isNone, isDynamic, isFixed}
@@ -19,10 +21,8 @@ use Rattle.view.specs.Steps.{fromGroup, shortened, truncated}
 use Rattle.view.specs.Checks.{undecodable, freeChecks, truncateChecks}
 use Rattle.view.specs.Does.{Shows}
 use Rattle.view.proofs.Counts.{fixed-only}
-use Rattle.room.specs.Refusals.{firstRefusal}
-use Rattle.room.proofs.Numbers.{first-holds, first-fails, none-first}
-use Rattle.refusals.proofs.Chosen.{chosen-4, past-4, none-is, fixed-is}
-use Rattle.refusals.proofs.Passed.{Refusals, end, next, decodable}
+use Rattle.checks.proofs.Chosen.{chosen-4, past-4, none-is, fixed-is}
+use Rattle.checks.proofs.Passed.{decodable}
 use Rattle.drops.specs.Drops.{PageAsks}
 use Rattle.freeing.specs.Freeing.{emptied, ShortenAsks}
 
@@ -64,11 +64,7 @@ free-passed m p f e =
     let h = none-first (undecodable (settingOf m) p) 3 ((fixed (layoutOf (m .words)) p, refused 5) ∷ (not (allocated m p), refused 7) ∷ []) e in
     let k = none-first (fixed (layoutOf (m .words)) p) 4 ((not (allocated m p), refused 7) ∷ []) (h .1) in
     let l = none-first (not (allocated m p)) 6 [] (k .1) in
-    record { formed = f; listed = on (allocated m p) (l .0); kind = dynamic-by (settingOf m) p (h .0) (k .0) }
-  where
-    on : (b : Bool) → not b ≡ false → b ≡ true
-    on true e = refl
-    on false e = absurd (false≢true (sym e))
+    record { formed = f; listed = not-false (allocated m p) (l .0); kind = dynamic-by (settingOf m) p (h .0) (k .0) }
 
 -- ---- a window: is the page dynamic, and allocated?
 module _ (m : Mem) (p : ℕ) (d : Page) (is : d ≡ decoded (layoutOf (m .words)) p) where

@@ -22,14 +22,14 @@ fn free_refusal(bytes: &[u8], keys: &[u64], order: &[u32], words: &[u64], page: 
     if !formed::well_formed(bytes, keys, order, words) {
         return 3;
     }
-    let decoded = refusals::decode(bytes, keys, order, words, page);
+    let decoded = checks::decode(bytes, keys, order, words, page);
     if page_ids::is_undecodable(decoded) {
         return 4;
     }
     if page_ids::is_fixed(decoded) {
         return 5;
     }
-    if !room::is_allocated(bytes, keys, order, words, page) {
+    if !checks::is_allocated(bytes, keys, order, words, page) {
         return 7;
     }
     0
@@ -58,14 +58,14 @@ fn is_dynamic(bytes: &[u8], keys: &[u64], order: &[u32], words: &[u64], page: u3
     requires { ⌜ WellFormed (mem (now bytes) (now keys) (now order) (now words)) ⌝ }
     ensures { λ r. let m = mem (now (bytes .entry)) (now (keys .entry)) (now (order .entry)) (now (words .entry)) in ⌜ r ≡ (dynamic (layoutOf (now (words .entry))) page && viewOf m .allocated page) ⌝ }
 {
-    let decoded = refusals::decode(bytes, keys, order, words, page);
+    let decoded = checks::decode(bytes, keys, order, words, page);
     if page_ids::is_undecodable(decoded) {
         return false;
     }
     if page_ids::is_fixed(decoded) {
         return false;
     }
-    room::is_allocated(bytes, keys, order, words, page)
+    checks::is_allocated(bytes, keys, order, words, page)
 }
 
 // Shrinks a page to the chunks that a window overlaps. A page that is fixed, undecodable or unallocated stays as it is. vm2: `compact_to_window`.

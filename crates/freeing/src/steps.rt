@@ -15,7 +15,7 @@ use store::head;
 fn window_end(start: u32, length: u32) -> u32
     ensures { λ r. ⌜ r ≡ windowEnd start length ⌝ }
 {
-    let end = (start / 256) as u64 + room::touched(start, length as usize);
+    let end = (start / 256) as u64 + checks::touched(start, length as usize);
     if 16777217 <= end {
         return 16777217;
     }

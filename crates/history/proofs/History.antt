@@ -8,6 +8,7 @@ use native.Mathlib.Omega.{arith}
 use lib.Dec.{ltb}
 use lib.ListN.{length, getD}
 use borrow.Author.Tests.{lt-ltb, le-ltb, ltb-false, not-true, not-false}
+use Rattle.view.proofs.Refused.{refusal-told}
 use Rattle.outcome.specs.Outcome.{Outcome, refused, done, firstOf, carriedOut, refusalNumber}
 use Rattle.store.specs.Mem.{Mem}
 use Rattle.formed.specs.Formed.{wellFormed}
@@ -17,7 +18,6 @@ use Rattle.view.specs.Does.{Shows}
 use Rattle.view.specs.Calls.{Call, Rollback, DeleteHistory, Value, nothing, nextOf, answerOf, CallDoes}
 use Rattle.journal.specs.Steps.{RollBackAsks}
 use Rattle.journal.proofs.Shown.{journal-long}
-use Rattle.room.proofs.Numbers.{told-number}
 
 -- ---- the two tests in their order: w the memory is well formed, h and a the marks are past the journals' lengths
 abbrev tested : Bool → Outcome Value → Outcome Value
@@ -111,7 +111,7 @@ module _ (m : Mem) (heap aux : ℕ) where
   -- the call, refused or carried out
   module _ (n : ℕ) (e : n ≡ refusalNumber answer) where
     pub rollback-refused : (n ≡ 0 → ⊥) → CallDoes m (Rollback heap aux) (refused n) m
-    rollback-refused z = call-refused m (Rollback heap aux) n (told-number answer n e z)
+    rollback-refused z = call-refused m (Rollback heap aux) n (refusal-told answer n e z)
 
     module _ (z : n ≡ 0) where
       passed : (wellFormed m ≡ true) × (H ≡ false) × (A ≡ false)

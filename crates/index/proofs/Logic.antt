@@ -47,3 +47,8 @@ pub both-ways : (a b : Bool) → (a ≡ true → b ≡ true) → (b ≡ true →
 both-ways true b f g = sym (f refl)
 both-ways false true f g = g refl
 both-ways false false f g = refl
+
+-- a test that cannot hold fails
+pub not-held : (b : Bool) → (b ≡ true → ⊥) → b ≡ false
+not-held true h = absurd (h refl)
+not-held false h = refl

@@ -2,11 +2,11 @@
 ghost use mathlib.Core.Path.{_≡_};
 ghost use Prim.Native.Nat.{_+_, _*_, _≤_};
 ghost use lib.ListN.{length};
+ghost use Rattle.view.specs.Calls.{firstRefusal};
 ghost use Rattle.store.specs.Mem.{mem};
 ghost use Rattle.formed.specs.WellFormed.{WellFormed};
 ghost use Rattle.view.specs.View.{settingOf, viewOf};
 ghost use Rattle.view.specs.Checks.{wordWriteChecks, byteWriteChecks};
-ghost use Rattle.room.specs.Refusals.{firstRefusal};
 ghost use Rattle.journal.specs.Steps.{RollBackAsks};
 ghost use Rattle.drops.specs.Drops.{PageAsks};
 use outcome::Answer;

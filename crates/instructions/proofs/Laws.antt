@@ -26,8 +26,7 @@ use Rattle.view.specs.Steps.{run, padded, wordWritten}
 use Rattle.view.specs.Checks.{Check, wordWriteChecks}
 use Rattle.view.specs.Does.{Shows}
 use Rattle.view.specs.Instructions.{Operand, Hook, InstructionResult, running, onHook, heapOf, staticOf, frameAlone, panic, incremented, hooked, accessChecks, loaded, stored, staticLoaded, staticStored, readFrom, readCount, pointed}
-use Rattle.view.specs.Calls.{Call, Value, Load, Store, LoadPointer, LoadStatic, StoreStatic, instructionResult, outcomeOf, nextOf, answerOf}
-use Rattle.room.specs.Refusals.{firstRefusal}
+use Rattle.view.specs.Calls.{Call, Value, Load, Store, LoadPointer, LoadStatic, StoreStatic, instructionResult, outcomeOf, nextOf, answerOf, firstRefusal}
 use Rattle.instructions.specs.Executions.{stopOf, resultOf, statusOutcome, executionOutcome, Runs, carried}
 use Rattle.instructions.specs.declared.Execution.{Execution}
 use Rattle.instructions.specs.declared.ExecutionStatus.{ExecutionStatus}

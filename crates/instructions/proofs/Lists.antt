@@ -6,13 +6,12 @@ use mathlib.Core.List.{List, [], _∷_, _++_}
 use Prim.Native.Nat.{ℕ}
 use native.Mathlib.Omega.{arith}
 use lib.Dec.{ltb}
+use Rattle.view.proofs.Refused.{none-first, Refusals, end, next}
 use Rattle.outcome.specs.Outcome.{Outcome, refused, firstOf}
 use Rattle.view.specs.View.{View, Setting}
 use Rattle.view.specs.Checks.{Check, wordWriteChecks}
-use Rattle.view.specs.Calls.{Value}
-use Rattle.room.specs.Refusals.{firstRefusal}
-use Rattle.room.proofs.Numbers.{none-first}
-use Rattle.refusals.proofs.Passed.{Refusals, end, next, room-refusals}
+use Rattle.view.specs.Calls.{Value, firstRefusal}
+use Rattle.checks.proofs.Passed.{room-refusals}
 
 -- ---- what decides, by its number
 pub by-number : {checks : List (Check Value)} → Refusals checks → (n : ℕ) → n ≡ firstRefusal checks → (n ≡ 0 → ⊥) → (o : Outcome Value) → firstOf checks o ≡ refused n

@@ -8,6 +8,7 @@ use Prim.Native.Nat.{ℕ, _%_, _^_, _<_, _≤_, min}
 use native.Mathlib.Omega.{arith}
 use lib.Dec.{ltb}
 use borrow.Author.Tests.{lt-ltb, le-ltb, le-leb, lt-leb, ltb-true, ltb-false}
+use Rattle.view.specs.Calls.{firstRefusal}
 use Rattle.index.proofs.Logic.{lt-or-ge}
 use Rattle.outcome.specs.Outcome.{refused}
 use Rattle.word.specs.Value.{lastAddress}
@@ -17,7 +18,6 @@ use Rattle.state.specs.declared.Area.the-variants.{Heap, Aux}
 use Rattle.state.specs.declared.Step.{Step}
 use Rattle.state.specs.Access.{newBound, frameGrown, frameAccessed}
 use Rattle.view.proofs.Order.{emptied}
-use Rattle.room.specs.Refusals.{firstRefusal}
 use Rattle.instructions.specs.Executions.{carried}
 use Rattle.instructions.specs.declared.ExecutionStatus.{ExecutionStatus}
 use Rattle.instructions.specs.declared.ExecutionStatus.the-variants.{Running, SuspendedOnHook}

@@ -189,7 +189,7 @@ pub fn store_static(
     }
     let page = parts::static_page(bytes, keys, order, words);
     let address = word::low_u32(operand.word);
-    let refusal = refusals::word_room(bytes, keys, order, words, page, address);
+    let refusal = checks::word_checks(bytes, keys, order, words, page, address);
     if refusal != 0 {
         return parts::refused(refusal, frame);
     }

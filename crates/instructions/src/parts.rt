@@ -4,6 +4,7 @@ ghost use mathlib.Core.Bool.{false, cond, _&&_};
 ghost use mathlib.Core.List.{[], _∷_, _++_};
 ghost use Prim.Native.Nat.{_-_, _%_, _^_, _≤_, min};
 ghost use lib.Dec.{ltb};
+ghost use Rattle.view.specs.Calls.{firstRefusal};
 ghost use Rattle.outcome.specs.Outcome.{refused};
 ghost use Rattle.word.specs.Value.{value};
 ghost use Rattle.state.specs.Access.{frameAccessed};
@@ -12,7 +13,6 @@ ghost use Rattle.formed.specs.WellFormed.{WellFormed};
 ghost use Rattle.view.specs.View.{settingOf, viewOf};
 ghost use Rattle.view.specs.Checks.{wordWriteChecks};
 ghost use Rattle.view.specs.Instructions.{heapOf, staticOf, frameAlone, panic, hooked, incremented};
-ghost use Rattle.room.specs.Refusals.{firstRefusal};
 ghost use Rattle.instructions.specs.Executions.{hookOf, resultOf, carried};
 use crate::Execution;
 use crate::ExecutionStatus;
@@ -84,7 +84,7 @@ pub fn store_refusal(
     requires { ⌜ WellFormed (mem (now bytes) (now keys) (now order) (now words)) ⌝ }
     ensures { λ r. ⌜ r ≡ firstRefusal (wordWriteChecks (settingOf (mem (now (bytes .entry)) (now (keys .entry)) (now (order .entry)) (now (words .entry)))) (viewOf (mem (now (bytes .entry)) (now (keys .entry)) (now (order .entry)) (now (words .entry)))) page address ++ ((hooked (hookOf hook) address && ltb 4294967295 (value (word .limbs)), refused 15) ∷ [])) ⌝ }
 {
-    let refusal = refusals::word_room(bytes, keys, order, words, page, address);
+    let refusal = checks::word_checks(bytes, keys, order, words, page, address);
     if refusal != 0 {
         return refusal;
     }

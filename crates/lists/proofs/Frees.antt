@@ -6,6 +6,7 @@ use mathlib.Core.List.{[]}
 use Prim.Native.Nat.{ℕ}
 use lib.Dec.{leb, eqb}
 use borrow.Author.Tests.{eqb-true}
+use Rattle.view.proofs.Refused.{end}
 use Rattle.index.proofs.Logic.{and-left, and-right}
 use Rattle.store.specs.Mem.{Mem, layoutOf}
 use Rattle.formed.specs.Pages.{dynamic, group}
@@ -13,9 +14,7 @@ use Rattle.formed.specs.WellFormed.{WellFormed}
 use Rattle.view.specs.View.{settingOf, viewOf}
 use Rattle.view.specs.Steps.{touches, fromGroup, freed, windowed, truncated}
 use Rattle.view.specs.Checks.{freeChecks, truncateChecks}
-use Rattle.view.specs.Calls.{Free, Window, Truncate, answerOf}
-use Rattle.room.specs.Refusals.{firstRefusal}
-use Rattle.refusals.proofs.Passed.{end}
+use Rattle.view.specs.Calls.{Free, Window, Truncate, answerOf, firstRefusal}
 use Rattle.freeing.proofs.Groups.{shortened-shows}
 use Rattle.freeing.proofs.Calls.{free-refusals, free-passed, truncate-refusals, truncate-passed, shorten-asked, truncated-shows}
 use Rattle.lists.proofs.Reach.{Reached}

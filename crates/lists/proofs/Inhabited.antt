@@ -10,6 +10,7 @@ use lib.Dec.{ltb, eqb}
 use lib.ListN.{length, set}
 use borrow.Author.Tests.{eqb-true}
 use denote.Ref.{RefT}
+use Rattle.view.proofs.Refused.{Refusals, next, refused-does, passed-formed, done-does}
 use Rattle.formed.proofs.Same.{tab-long}
 use Rattle.outcome.specs.Outcome.{Outcome, refused, panicked, done, carriedOut, answered, refusalNumber, answerOutcome}
 use Rattle.outcome.specs.declared.Answer.{Answer}
@@ -37,8 +38,8 @@ use Rattle.opening.proofs.Starts.{head-width}
 use Rattle.opening.proofs.Refusals.{open-asks, calldata-asks, open-refused, open-done}
 use Rattle.journal.proofs.Cuts.{forget-shows}
 use Rattle.history.proofs.History.{not-formed, call-refused, rollback-refused, rollback-asks, rollback-done, forget-done}
-use Rattle.room.specs.Refusals as refusals
-use Rattle.refusals.proofs.Passed.{Refusals, next, room-refusals, refused-does, passed-formed, done-does}
+use Rattle.checks.specs.Refusals as refusals
+use Rattle.checks.proofs.Passed.{room-refusals}
 use Rattle.lists.proofs.Writing.{word-there, bytes-there, contents-there}
 use Rattle.lists.proofs.Reach.{Reached, started-there, calldata-there, rolled-there}
 use Rattle.lists.specs.Steps.{Step, did-read-word, did-read-partial, did-read-range, did-read-byte, did-dynamic-length, did-lookup, did-lookup-check, did-snapshot, did-open, did-write-word, did-write-bytes, did-allocate, did-allocate-with, did-rollback, did-delete-history}

@@ -20,8 +20,7 @@ use Rattle.view.specs.View.{View, Setting, settingOf, viewOf}
 use Rattle.view.specs.Checks.{Check, wordWriteChecks}
 use Rattle.view.specs.Instructions as view
 use Rattle.view.specs.Instructions.{InstructionResult, Stop, running, onHook, heapOf, staticOf, frameAlone, hooked, accessChecks, loaded, pointerChecks, pointed, staticChecks, staticLoaded, storeChecks, stored, staticStoreChecks, staticStored}
-use Rattle.view.specs.Calls.{Call, Value, Load, Store, LoadPointer, LoadStatic, StoreStatic, instructionResult, outcomeOf, nextOf, answerOf, CallDoes}
-use Rattle.room.specs.Refusals.{firstRefusal}
+use Rattle.view.specs.Calls.{Call, Value, Load, Store, LoadPointer, LoadStatic, StoreStatic, instructionResult, outcomeOf, nextOf, answerOf, CallDoes, firstRefusal}
 use Rattle.reads.proofs.Calls.{only-reads}
 use Rattle.plain.proofs.Tests.{Clear, clear}
 use Rattle.instructions.specs.declared.Operand.{Operand}

@@ -6,6 +6,7 @@ use mathlib.Core.List.{List, []}
 use Prim.Native.Nat.{ℕ, _/_, _≤_, _<_}
 use native.Mathlib.Omega.{arith}
 use lib.ListN.{length}
+use Rattle.view.specs.Calls.{firstRefusal}
 use Rattle.index.proofs.Logic.{same-or-not}
 use Rattle.word.specs.Value.{wordBytes}
 use Rattle.word.proofs.Digits.{digits-long}
@@ -17,8 +18,7 @@ use Rattle.view.specs.View.{View, settingOf, viewOf}
 use Rattle.view.specs.Steps.{touchedCount, alignedCount, wordNotes, alignedNotes, written, wordWritten, bytesWritten, contentsAllocated}
 use Rattle.view.specs.Checks.{wordWriteChecks, byteWriteChecks, allocateChecks}
 use Rattle.view.specs.Inner.{listing, holding, noting, journalling, putting}
-use Rattle.room.specs.Refusals.{firstRefusal}
-use Rattle.refusals.proofs.Passed.{bytes-passed}
+use Rattle.checks.proofs.Passed.{bytes-passed}
 use Rattle.writes.specs.Asks.{JournalAsks}
 use Rattle.bodies.proofs.Puts.{shows-then}
 use Rattle.writes.proofs.Chains.{list-asks, hold-asks, prepared, Cleared, word-cleared, bytes-cleared, contents-cleared, contents-unjournalled, prepare-asks, journal-asks, journal-own, journal-none, note-asks, aligned-asks, word-notes-same, aligned-notes-same, plain-asks, plain-done, put-asks, write-done}

@@ -7,7 +7,7 @@ use Prim.Native.Nat.{ℕ, zero, suc, _+_, _*_, _/_, _≤_, _<_}
 use native.Mathlib.Omega.{arith}
 use lib.Dec.{leb, ltb}
 use lib.ListN.{length}
-use borrow.Author.Tests.{lt-ltb, le-ltb, ltb-false}
+use borrow.Author.Tests.{lt-ltb, le-ltb, ltb-false, not-false}
 use Rattle.outcome.specs.Outcome.{Outcome, refused, done, firstOf, carriedOut, answered}
 use Rattle.page_ids.specs.Decode.{badLayout}
 use Rattle.store.specs.Mem.{Mem}
@@ -123,12 +123,8 @@ module _ {A : Type 0} (a : A) where
       passed : (badLayout (s .layout) ≡ false) × (not (sizesRight s m) ≡ false) × (ltb (s .chunks) (touchedCount 0 n) ≡ false)
       passed = passes (badLayout (s .layout)) (not (sizesRight s m)) (ltb (s .chunks) (touchedCount 0 n)) i z e
 
-      not-off : (b : Bool) → not b ≡ false → b ≡ true
-      not-off true h = refl
-      not-off false h = sym h
-
       pub open-asks : OpenAsks s m
-      open-asks = record { layout = passed .0; sizes = sizes-are s m (not-off (sizesRight s m) (passed .1)) }
+      open-asks = record { layout = passed .0; sizes = sizes-are s m (not-false (sizesRight s m) (passed .1)) }
 
       pub calldata-asks : (m₁ : Mem) → Shows s (emptyView s) m₁ → CalldataAsks m₁ (s .layout .calldata .0) n
       calldata-asks m₁ h =

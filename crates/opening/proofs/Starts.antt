@@ -11,7 +11,7 @@ use lib.Dec.{ltb}
 use lib.ListN.{length, getD, set, take, drop, replicate, length-append, length-drop, length-replicate, drop-of-length-le}
 use lib.Seq.{length-take-le, getD-drop}
 use borrow.Author.Tests.{le-ltb}
-use Rattle.index.proofs.Logic.{both-ways}
+use Rattle.index.proofs.Logic.{both-ways, not-held}
 use Rattle.store.specs.Mem.{Mem, mem}
 use Rattle.store.proofs.Parts.{sub-zero, take-front, drop-front, put-long, rest-part}
 use Rattle.formed.specs.Pages.{LayoutRule, fixed, journalCount}
@@ -47,11 +47,6 @@ head-stores a b c d e f g h i (_ ∷ _ ∷ _ ∷ _ ∷ _ ∷ _ ∷ _ ∷ _ ∷ _
 head-stores a b c d e f g h i (_ ∷ _ ∷ _ ∷ _ ∷ _ ∷ _ ∷ _ ∷ _ ∷ _ ∷ _ ∷ _ ∷ _ ∷ []) l = absurd (omega arith)
 head-stores a b c d e f g h i (_ ∷ _ ∷ _ ∷ _ ∷ _ ∷ _ ∷ _ ∷ _ ∷ _ ∷ _ ∷ _ ∷ _ ∷ _ ∷ []) l = absurd (omega arith)
 head-stores a b c d e f g h i (_ ∷ _ ∷ _ ∷ _ ∷ _ ∷ _ ∷ _ ∷ _ ∷ _ ∷ _ ∷ _ ∷ _ ∷ _ ∷ _ ∷ w) l = refl
-
--- ---- tests
-never : (a : Bool) → (a ≡ true → ⊥) → a ≡ false
-never true h = absurd (h refl)
-never false h = refl
 
 -- ---- the new memory: no chunk has bytes, no slot is held, the four fixed pages are listed, and the head says so
 module _ (s : Setting) (b k o w : List ℕ) (asks : OpenAsks s (mem b k o w)) (width : (i : ℕ) → i < 6 → getD (headed s w) i 0 ≤ 4294967295)
@@ -105,7 +100,7 @@ module _ (s : Setting) (b k o w : List ℕ) (asks : OpenAsks s (mem b k o w)) (w
   no-byte p a = bare _
 
   none-held : (p c : ℕ) → holds m p c ≡ false
-  none-held p c = never (holds m p c) (λ h. let q : 0 < holder m (slotOfChunk m p c) = holds-held m formed p c h .held in let z : holder m (slotOfChunk m p c) ≡ 0 = free (slotOfChunk m p c) in omega arith)
+  none-held p c = not-held (holds m p c) (λ h. let q : 0 < holder m (slotOfChunk m p c) = holds-held m formed p c h .held in let z : holder m (slotOfChunk m p c) ≡ 0 = free (slotOfChunk m p c) in omega arith)
 
   fixed-alone : (p : ℕ) → allocated m p ≡ fixed (s .layout) p
   fixed-alone p =

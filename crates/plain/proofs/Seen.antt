@@ -20,7 +20,7 @@ use Rattle.page_ids.specs.Decode.{Page, none, page, decoded, isNone, isDynamic,
 use Rattle.formed.specs.Pages.{fixedId, fixed, dynamic}
 use Rattle.formed.specs.Parts.{Note}
 use Rattle.view.specs.View.{View, Setting}
-use Rattle.view.specs.Steps.{touchedCount, needs, written, count, pairs, without, shortened, opened, freshPlain as blank, fromGroup}
+use Rattle.view.specs.Steps.{touchedCount, needs, written, count, pairs, without, shortened, opened, emptyView, fromGroup}
 use Rattle.view.specs.Checks.{Check, undecodable, wordWriteChecks, byteWriteChecks, allocateChecks, freeChecks}
 use Rattle.view.specs.Instructions.{Operand, Hook, heapOf, staticOf, hooked, storeChecks, stored, staticStoreChecks, staticStored}
 use Rattle.view.specs.Calls.{Call, Open, Allocate, ReadWord, ReadPartial, ReadRange, ReadByte, DynamicLength, WriteWord, WriteBytes, Lookup, LookupCheck, Free, Window, Truncate, CompareLeft, CompareRight, CompareBoth, Snapshot, Rollback, DeleteHistory, Load, Store, LoadPointer, LoadStatic, StoreStatic, Value, nothing, instructionResult, outcomeOf, nextOf}
@@ -246,7 +246,7 @@ module _ (s : Setting) (m : Plain) where
 abbrev empty : Plain
 empty = record { bytes = λ p a. 0; held = []; pages = []; dynamicLength = 0; journal = λ j. [] }
 
-seen-empty : (s : Setting) → seen s empty ≡ blank s
+seen-empty : (s : Setting) → seen s empty ≡ emptyView s
 unfolding has member
 seen-empty s =
     let pool : s .chunks - 0 ≡ s .chunks = omega arith in

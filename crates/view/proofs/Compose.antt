@@ -9,6 +9,7 @@ use native.Mathlib.Omega.{arith}
 use lib.Dec.{leb, ltb, eqb}
 use lib.ListN.{length, getD}
 use borrow.Author.Tests.{lt-ltb, le-ltb, le-leb, lt-leb, eq-eqb, ne-eqb}
+use Rattle.view.proofs.Missing.{missing-same}
 use Rattle.index.proofs.Logic.{same-or-not, lt-or-ge}
 use Rattle.formed.specs.Pages.{LayoutRule, journalCount, journalPage}
 use Rattle.formed.specs.Parts.{Note}
@@ -36,11 +37,6 @@ over-none p a f q b = go (eqb q p) (leb a b) (ltb b (a + 0)) (none a b)
     go : (x y z : Bool) → (y && z) ≡ false → cond (x && (y && z)) 0 (f q b) ≡ f q b
     go true y z e = rw e refl
     go false y z e = refl
-
-pub missing-same : (f g : ℕ → Bool) → ((k : ℕ) → f k ≡ g k) → (k n : ℕ) → missing f k n ≡ missing g k n
-unfolding missing
-missing-same f g h k zero = refl
-missing-same f g h k (suc n) = rw (missing-same f g h k n, h (k + n)) refl
 
 module _ (l : Layout) (p : ℕ) (v : View) where
   -- the view where the page is allocated

@@ -11,7 +11,7 @@ use lib.Dec.{eqb}
 use lib.ListN.{getD}
 use borrow.Author.Tests.{eq-eqb, ne-eqb}
 use Rattle.index.specs.Index.{usedCount}
-use Rattle.index.proofs.Logic.{and-left, and-right, same-or-not}
+use Rattle.index.proofs.Logic.{and-left, and-right, same-or-not, not-held}
 use Rattle.view.specs.Steps.{count}
 
 -- ---- the count
@@ -114,11 +114,7 @@ further h ks k ne w = go (w .place) (w .there)
 -- so they are as many
 pub used-is : (ks : List ℕ) (f : ℕ → Bool) (n : ℕ) (key number : ℕ → ℕ) → Numbered ks f n key number → usedCount ks ≡ count f n
 unfolding usedCount
-used-is [] f n key number h = sym (count-none f n (λ x l. go (f x) (λ e. let w = h .stands x l e .there in let p = h .used x l e in omega arith)))
-  where
-    go : (b : Bool) → (b ≡ true → ⊥) → b ≡ false
-    go true k = absurd (k refl)
-    go false k = refl
+used-is [] f n key number h = sym (count-none f n (λ x l. not-held (f x) (λ e. let w = h .stands x l e .there in let p = h .used x l e in omega arith)))
 used-is (zero ∷ ks) f n key number h =
     used-is ks f n key number
     (record {

@@ -1,5 +1,6 @@
 -- Laws of views that the crates of the calls share.
 pub mod Equal
+pub mod Missing
 pub mod Compose
 pub mod Counting
 pub mod Counts
@@ -7,3 +8,4 @@ pub mod Dropping
 pub mod Reading
 pub mod Order
 pub mod Hints
+pub mod Refused

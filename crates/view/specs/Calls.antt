@@ -5,7 +5,7 @@ use mathlib.Core.List.{List, []}
 use Prim.Native.Nat.{ℕ, _*_, _-_}
 use lib.Dec.{eqb}
 use lib.ListN.{length}
-use Rattle.outcome.specs.Outcome.{Outcome, refused, done, firstOf}
+use Rattle.outcome.specs.Outcome.{Outcome, refused, done, firstOf, refusalNumber}
 use Rattle.word.specs.Value.{bigEndian, wordBytes}
 use Rattle.state.specs.declared.Frame.{Frame}
 use Rattle.state.specs.declared.Area.{Area}
@@ -14,7 +14,7 @@ use Rattle.formed.specs.Formed.{zeros}
 use Rattle.view.specs.View.{View, Setting, settingOf, viewOf}
 use Rattle.view.specs.Steps.{run, padded, wordWritten, bytesWritten, contentsAllocated, freed, windowed, truncated, alike, marks, rolledBack, forgotten, opened}
 use Rattle.view.specs.Does.{Does}
-use Rattle.view.specs.Checks.{ifFormed, wordWriteChecks, byteWriteChecks, allocateChecks, partialChecks, rangeChecks, lookupChecks, freeChecks, truncateChecks, compareChecks, rollbackChecks, openingChecks, lengthsRight, bytesLength, keysLength, orderLength, wordsLength}
+use Rattle.view.specs.Checks.{Check, ifFormed, wordWriteChecks, byteWriteChecks, allocateChecks, partialChecks, rangeChecks, lookupChecks, freeChecks, truncateChecks, compareChecks, rollbackChecks, openingChecks, lengthsRight, bytesLength, keysLength, orderLength, wordsLength}
 use Rattle.view.specs.Instructions.{Operand, Hook, InstructionResult, heapOf, staticOf, accessChecks, loaded, storeChecks, stored, pointerChecks, pointed, staticChecks, staticLoaded, staticStoreChecks, staticStored}
 
 pub data Call : Type 0 where
@@ -73,6 +73,10 @@ sameLengths s t =
 -- a refused lookup shows an empty part
 abbrev pub shown : View → ℕ → ℕ → List ℕ → List ℕ
 shown v p k z = cond (eqb (length z) 256 && zeros z) (run v p (256 * k) 256) []
+
+-- the number of the first refusal of a list, 0 where there is none
+abbrev pub firstRefusal : List (Check Value) → ℕ
+firstRefusal checks = refusalNumber (firstOf checks (done nothing))
 
 -- THE OUTCOME of a call on a well-formed memory of setting s and view v
 abbrev pub outcomeOf : Setting → Call → View → Outcome Value

@@ -8,6 +8,8 @@ use native.Mathlib.Omega.{arith}
 use lib.Dec.{ltb, leb}
 use lib.ListN.{length}
 use borrow.Author.Tests.{lt-ltb, le-leb, eq-eqb}
+use Rattle.view.proofs.Missing.{missing-same}
+use Rattle.view.specs.Calls.{firstRefusal}
 use Rattle.word.specs.Value.{wordBytes}
 use Rattle.page_ids.specs.declared.Layout.{Layout}
 use Rattle.store.specs.Mem.{Mem, layoutOf, journalWords, holders}
@@ -22,15 +24,14 @@ use Rattle.view.specs.Steps.{run, needs, missing, touchedCount, alignedCount, w
 use Rattle.view.specs.Checks.{undecodable}
 use Rattle.view.specs.Does.{Shows}
 use Rattle.view.specs.Inner.{listing, holding, noting, journalling, putting, ListAsks, HoldAsks, NoteAsks, PutAsks}
-use Rattle.view.proofs.Compose.{over-none, missing-same, listed-held, listed-pool, listed-journal, written-is, plain-write, own-journal, unjournalled}
+use Rattle.view.proofs.Compose.{over-none, listed-held, listed-pool, listed-journal, written-is, plain-write, own-journal, unjournalled}
 use Rattle.journal.specs.Steps.{AlignedAsks, alignedFrom}
 use Rattle.bodies.proofs.Puts.{shows-then, shows-view}
 use Rattle.writes.specs.Asks.{PrepareAsks, JournalAsks}
 use Rattle.index.proofs.Counts.{used-free}
 use Rattle.formed.proofs.Sizes.{holders-long}
 use Rattle.view.specs.Checks.{wordWriteChecks, byteWriteChecks, allocateChecks}
-use Rattle.room.specs.Refusals.{firstRefusal}
-use Rattle.refusals.proofs.Passed.{Room, decodable, word-passed, bytes-passed, allocate-passed}
+use Rattle.checks.proofs.Passed.{Room, decodable, word-passed, bytes-passed, allocate-passed}
 
 -- ---- ranges
 -- each byte's chunk is one of those touched

@@ -9,6 +9,7 @@ use native.Mathlib.Omega.{arith}
 use lib.Dec.{leb, ltb, eqb}
 use lib.ListN.{length}
 use borrow.Author.Tests.{le-leb, lt-leb, lt-ltb, le-ltb, eq-eqb, ne-eqb}
+use Rattle.view.specs.Calls.{firstRefusal}
 use Rattle.index.proofs.Logic.{same-or-not, lt-or-ge}
 use Rattle.index.proofs.Places.{seek-upto}
 use Rattle.store.specs.Mem.{Mem, layoutOf, slotCount, pageCount, entries}
@@ -26,7 +27,6 @@ use Rattle.view.specs.Does.{Shows}
 use Rattle.view.specs.Inner.{listing, holding}
 use Rattle.view.proofs.Compose.{listed-held}
 use Rattle.view.proofs.Equal.{view-by}
-use Rattle.room.specs.Refusals.{firstRefusal}
 use Rattle.pages.proofs.Listing.{listed-already}
 use Rattle.bodies.proofs.Pieces.{held-here}
 use Rattle.bodies.proofs.Puts.{shows-view}

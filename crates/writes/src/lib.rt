@@ -23,7 +23,7 @@ pub fn write_u256(
 ) -> Answer
     ensures { λ r. ⌜ CallDoes (mem (now (bytes .entry)) (now (keys .entry)) (now (order .entry)) (now (words .entry))) (Call.WriteWord (page .0) (address .0) (value (word .limbs))) (answerOutcome nothing r) (mem (now (bytes .exit)) (now (keys .exit)) (now (order .exit)) (now (words .exit))) ⌝ }
 {
-    let refusal = refusals::word_refusal(bytes, keys, order, words, page.0, address.0);
+    let refusal = checks::word_refusal(bytes, keys, order, words, page.0, address.0);
     if refusal != 0 {
         return Answer::Refused(refusal);
     }
@@ -51,7 +51,7 @@ pub fn write_bytes(
 ) -> Answer
     ensures { λ r. ⌜ CallDoes (mem (now (bytes .entry)) (now (keys .entry)) (now (order .entry)) (now (words .entry))) (Call.WriteBytes (page .0) (start .0) (now (src .entry))) (answerOutcome nothing r) (mem (now (bytes .exit)) (now (keys .exit)) (now (order .exit)) (now (words .exit))) ⌝ }
 {
-    let refusal = refusals::bytes_refusal(bytes, keys, order, words, page.0, start.0, src.len());
+    let refusal = checks::bytes_refusal(bytes, keys, order, words, page.0, start.0, src.len());
     if refusal != 0 {
         return Answer::Refused(refusal);
     }
@@ -70,7 +70,7 @@ pub fn allocate_with_content_at(
 ) -> Answer
     ensures { λ r. ⌜ CallDoes (mem (now (bytes .entry)) (now (keys .entry)) (now (order .entry)) (now (words .entry))) (Call.Allocate (page .0) (now (contents .entry))) (answerOutcome nothing r) (mem (now (bytes .exit)) (now (keys .exit)) (now (order .exit)) (now (words .exit))) ⌝ }
 {
-    let refusal = refusals::allocate_refusal(bytes, keys, order, words, page.0, contents.len());
+    let refusal = checks::allocate_refusal(bytes, keys, order, words, page.0, contents.len());
     if refusal != 0 {
         return Answer::Refused(refusal);
     }
@@ -88,7 +88,7 @@ pub fn allocate_at(
 ) -> Answer
     ensures { λ r. ⌜ CallDoes (mem (now (bytes .entry)) (now (keys .entry)) (now (order .entry)) (now (words .entry))) (Call.Allocate (page .0) []) (answerOutcome nothing r) (mem (now (bytes .exit)) (now (keys .exit)) (now (order .exit)) (now (words .exit))) ⌝ }
 {
-    let refusal = refusals::allocate_refusal(bytes, keys, order, words, page.0, 0);
+    let refusal = checks::allocate_refusal(bytes, keys, order, words, page.0, 0);
     if refusal != 0 {
         return Answer::Refused(refusal);
     }

@@ -2,6 +2,7 @@
 ghost use mathlib.Core.Path.{_≡_};
 ghost use Prim.Native.Nat.{_+_, _≤_, _^_};
 ghost use lib.ListN.{length};
+ghost use Rattle.view.specs.Calls.{firstRefusal};
 ghost use Rattle.store.specs.Mem.{mem, layoutOf};
 ghost use Rattle.formed.specs.WellFormed.{WellFormed};
 ghost use Rattle.view.specs.View.{settingOf, viewOf};
@@ -9,7 +10,6 @@ ghost use Rattle.view.specs.Steps.{alignedCount, wordNotes, alignedNotes, wordW
 ghost use Rattle.view.specs.Checks.{wordWriteChecks, byteWriteChecks, allocateChecks};
 ghost use Rattle.view.specs.Does.{Shows};
 ghost use Rattle.view.specs.Inner.{listing, holding, journalling};
-ghost use Rattle.room.specs.Refusals.{firstRefusal};
 ghost use Rattle.writes.specs.Asks.{PrepareAsks, JournalAsks, WordAsks, wordPut, WrittenOrLeft};
 use store::head;
 
@@ -67,7 +67,7 @@ fn journal_range(
     requires { ⌜ (JournalAsks (mem (now bytes) (now keys) (now order) (now words)) page start n (alignedCount start n)) × (start + n ≤ 2 ^ 32) ⌝ }
     ensures { λ _. ⌜ Shows (settingOf (mem (now (bytes .entry)) (now (keys .entry)) (now (order .entry)) (now (words .entry)))) (journalling (layoutOf (now (words .entry))) page (alignedNotes (viewOf (mem (now (bytes .entry)) (now (keys .entry)) (now (order .entry)) (now (words .entry)))) page start n) (viewOf (mem (now (bytes .entry)) (now (keys .entry)) (now (order .entry)) (now (words .entry))))) (mem (now (bytes .exit)) (now (keys .entry)) (now (order .entry)) (now (words .exit))) ⌝ }
 {
-    let count = room::aligned(start, n) as u32;
+    let count = checks::aligned(start, n) as u32;
     if page as u64 == words[head::BOOTLOADER_HEAP] {
         journal::note_aligned(bytes, keys, order, words, 0, start / 32, count);
         return;
@@ -154,7 +154,7 @@ fn write_new(
     requires { ⌜ (WellFormed (mem (now bytes) (now keys) (now order) (now words))) × (firstRefusal (wordWriteChecks (settingOf (mem (now bytes) (now keys) (now order) (now words))) (viewOf (mem (now bytes) (now keys) (now order) (now words))) page address) ≡ 0) ⌝ }
     ensures { λ _. ⌜ Shows (settingOf (mem (now (bytes .entry)) (now (keys .entry)) (now (order .entry)) (now (words .entry)))) (wordWritten (layoutOf (now (words .entry))) page address value (viewOf (mem (now (bytes .entry)) (now (keys .entry)) (now (order .entry)) (now (words .entry))))) (mem (now (bytes .exit)) (now (keys .exit)) (now (order .exit)) (now (words .exit))) ⌝ }
 {
-    let count = room::touched(address, 32) as u32;
+    let count = checks::touched(address, 32) as u32;
     prepare(bytes, keys, order, words, page, address / 256, count);
     write_held(bytes, keys, order, words, page, address, value);
 }
@@ -189,7 +189,7 @@ pub fn write_range(
     requires { ⌜ (WellFormed (mem (now bytes) (now keys) (now order) (now words))) × (firstRefusal (byteWriteChecks (settingOf (mem (now bytes) (now keys) (now order) (now words))) (viewOf (mem (now bytes) (now keys) (now order) (now words))) page start (length (now src))) ≡ 0) ⌝ }
     ensures { λ _. ⌜ Shows (settingOf (mem (now (bytes .entry)) (now (keys .entry)) (now (order .entry)) (now (words .entry)))) (bytesWritten (layoutOf (now (words .entry))) page start (now (src .entry)) (viewOf (mem (now (bytes .entry)) (now (keys .entry)) (now (order .entry)) (now (words .entry))))) (mem (now (bytes .exit)) (now (keys .exit)) (now (order .exit)) (now (words .exit))) ⌝ }
 {
-    let count = room::touched(start, src.len()) as u32;
+    let count = checks::touched(start, src.len()) as u32;
     prepare(bytes, keys, order, words, page, start / 256, count);
     journal_range(bytes, keys, order, words, page, start, src.len());
     bodies::write_from(bytes, keys, order, words, page, start, src);
@@ -207,7 +207,7 @@ pub fn fill(
     requires { ⌜ (WellFormed (mem (now bytes) (now keys) (now order) (now words))) × (firstRefusal (allocateChecks (settingOf (mem (now bytes) (now keys) (now order) (now words))) (viewOf (mem (now bytes) (now keys) (now order) (now words))) page (length (now contents))) ≡ 0) ⌝ }
     ensures { λ _. ⌜ Shows (settingOf (mem (now (bytes .entry)) (now (keys .entry)) (now (order .entry)) (now (words .entry)))) (contentsAllocated (layoutOf (now (words .entry))) page (now (contents .entry)) (viewOf (mem (now (bytes .entry)) (now (keys .entry)) (now (order .entry)) (now (words .entry))))) (mem (now (bytes .exit)) (now (keys .exit)) (now (order .exit)) (now (words .exit))) ⌝ }
 {
-    let count = room::touched(0, contents.len()) as u32;
+    let count = checks::touched(0, contents.len()) as u32;
     prepare(bytes, keys, order, words, page, 0, count);
     bodies::write_from(bytes, keys, order, words, page, 0, contents);
 }

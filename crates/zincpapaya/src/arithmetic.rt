@@ -80,7 +80,11 @@ fn put_decoding(out: &mut [u64], decoding: Decoding) -> u32
 {
     match decoding {
         Decoding::Refused(number) => number,
-        Decoding::Decoded(page) => put_two(out, page_ids::kind_number(page), page_ids::group_number(page)),
+        Decoding::Decoded(page) => put_two(
+            out,
+            page_ids::kind_number(page),
+            page_ids::group_number(page),
+        ),
     }
 }
 

@@ -1,7 +1,7 @@
+use Rattle.view.proofs.Refused.{end, refused-does, done-does}
 use Rattle.freeing.proofs.Calls.{both-asked}
 use Rattle.freeing.proofs.Windows.{window-none}
-use Rattle.refusals.proofs.Passed.{end, refused-does, done-does}
-use Rattle.refusals.proofs.Chosen.{ill-chosen, well-chosen}
+use Rattle.checks.proofs.Chosen.{ill-chosen, well-chosen}
 use Rattle.view.specs.Calls.{Call, nextOf}
 use mathlib.Core.List.{[]}
 use mathlib.Core.Path.{refl}

@@ -1,5 +1,5 @@
 use Rattle.freeing.proofs.Calls.{free-4, free-5, free-7, free-0}
-use Rattle.refusals.proofs.Chosen.{ill-chosen, well-chosen}
+use Rattle.checks.proofs.Chosen.{ill-chosen, well-chosen}
 use Rattle.view.specs.Checks.{freeChecks}
 use Rattle.formed.proofs.Meaning.{well-formed-means}
 use Rattle.view.specs.View.{settingOf, viewOf}

@@ -1,5 +1,5 @@
+use Rattle.view.proofs.Refused.{refused-does, passed-formed, done-does}
 use Rattle.freeing.proofs.Calls.{truncate-refusals, truncate-passed, shorten-asked, truncated-shows}
-use Rattle.refusals.proofs.Passed.{refused-does, passed-formed, done-does}
 use Rattle.view.specs.Calls.{Call, nextOf}
 use Rattle.view.specs.Checks.{truncateChecks}
 use Rattle.view.specs.View.{settingOf, viewOf}

@@ -1,5 +1,5 @@
 use Rattle.freeing.proofs.Calls.{truncate-13, truncate-0}
-use Rattle.refusals.proofs.Chosen.{ill-chosen, well-chosen}
+use Rattle.checks.proofs.Chosen.{ill-chosen, well-chosen}
 use Rattle.view.specs.Checks.{truncateChecks}
 use Rattle.formed.proofs.Meaning.{well-formed-means}
 use Rattle.view.specs.View.{viewOf}

@@ -1,11 +1,12 @@
 use mathlib.Core.Path.{sym, _∙_}
 use lib.ListN.{length}
 use borrow.Author.Needs.{needs}
+use Rattle.view.proofs.Refused.{next, refused-does, passed-formed, done-does}
 use Rattle.store.specs.Mem.{mem}
 use Rattle.view.specs.View.{settingOf, viewOf}
 use Rattle.view.specs.Checks.{allocateChecks}
 use Rattle.view.specs.Calls.{Call, nextOf}
-use Rattle.refusals.proofs.Passed.{next, room-refusals, refused-does, passed-formed, done-does}
+use Rattle.checks.proofs.Passed.{room-refusals}
 use Rattle.writes.proofs.allocate_with_content_at.Statement.{statement}
 use Rattle.writes.proofs.allocate_with_content_at.Tie as tie
 

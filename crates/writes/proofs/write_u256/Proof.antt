@@ -1,10 +1,11 @@
 use mathlib.Core.Path.{sym, _∙_}
 use borrow.Author.Needs.{needs}
+use Rattle.view.proofs.Refused.{next, refused-does, passed-formed, done-does}
 use Rattle.store.specs.Mem.{mem}
 use Rattle.view.specs.View.{settingOf, viewOf}
 use Rattle.view.specs.Checks.{wordWriteChecks}
 use Rattle.view.specs.Calls.{Call, nextOf}
-use Rattle.refusals.proofs.Passed.{next, room-refusals, refused-does, passed-formed, done-does}
+use Rattle.checks.proofs.Passed.{room-refusals}
 use Rattle.word.specs.Value.{value}
 use Rattle.writes.proofs.Chains.{word-shown}
 use Rattle.writes.proofs.write_u256.Statement.{statement}

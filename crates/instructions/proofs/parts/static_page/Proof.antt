@@ -2,7 +2,7 @@ use mathlib.Core.Path.{ap}
 use Rattle.page_ids.specs.declared.Layout.{Layout}
 use Rattle.store.specs.Mem.{mem}
 use Rattle.view.specs.Instructions.{staticOf}
-use Rattle.refusals.proofs.Chosen.{layout-asks}
+use Rattle.checks.proofs.Chosen.{layout-asks}
 use Rattle.instructions.proofs.parts.static_page.Statement.{statement}
 use Rattle.instructions.proofs.parts.static_page.Tie as tie
 

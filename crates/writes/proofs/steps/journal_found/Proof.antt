@@ -3,7 +3,7 @@ use borrow.Author.Needs.{needs}
 use Rattle.store.specs.Mem.{mem}
 use Rattle.view.specs.View.{viewOf}
 use Rattle.view.specs.Steps.{wordNotes}
-use Rattle.refusals.proofs.Chosen.{layout-asks}
+use Rattle.checks.proofs.Chosen.{layout-asks}
 use Rattle.writes.proofs.Chains.{note-asks, journal-own, journal-none}
 use Rattle.writes.proofs.Words.{word-journal, word-slots}
 use Rattle.writes.proofs.steps.journal_found.Statement.{statement}

@@ -3,7 +3,7 @@ use borrow.Author.Needs.{needs}
 use Rattle.store.specs.Mem.{mem}
 use Rattle.view.specs.View.{viewOf}
 use Rattle.view.specs.Steps.{alignedCount, alignedNotes}
-use Rattle.refusals.proofs.Chosen.{layout-asks}
+use Rattle.checks.proofs.Chosen.{layout-asks}
 use Rattle.writes.proofs.Chains.{aligned-top, aligned-asks, counted-by, journal-own, journal-none}
 use Rattle.writes.proofs.steps.journal_range.Statement.{statement}
 use Rattle.writes.proofs.steps.journal_range.Tie as tie

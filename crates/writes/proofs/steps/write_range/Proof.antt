@@ -6,7 +6,7 @@ use Rattle.view.specs.View.{View, settingOf, viewOf}
 use Rattle.view.specs.Steps.{alignedCount, alignedNotes}
 use Rattle.view.specs.Inner.{putting}
 use Rattle.bodies.proofs.Puts.{shows-then}
-use Rattle.refusals.proofs.Passed.{bytes-passed}
+use Rattle.checks.proofs.Passed.{bytes-passed}
 use Rattle.writes.proofs.Chains.{bytes-cleared, count-small, prepare-asks, journal-asks, aligned-notes-same, put-asks, write-done}
 use Rattle.writes.proofs.steps.write_range.Statement.{statement}
 use Rattle.writes.proofs.steps.write_range.Tie as tie

@@ -1,0 +1,91 @@
+use mathlib.Core.Path.{refl, sym, _∙_}
+use mathlib.Core.List.{_∷_}
+use native.Mathlib.Omega.{arith}
+use borrow.Author.Needs.{needs}
+use Rattle.store.specs.Mem.{mem}
+use Rattle.view.specs.View.{settingOf, viewOf}
+use Rattle.view.specs.Checks.{capacityChecksAt}
+use Rattle.checks.proofs.Chosen.{chunks-fit, room-chosen, chosen-4, allocate-5, allocate-6, allocate-room}
+use Rattle.outcome.specs.Outcome.{refused}
+use Rattle.formed.specs.Pages.{fixed}
+use Rattle.checks.proofs.allocate_checks.Statement.{statement}
+use Rattle.checks.proofs.allocate_checks.Tie as tie
+
+decode-requires : tie.Need-decode-requires
+decode-requires c κs =
+    let start = c .before .before .before .before in
+    start .pre
+
+returns : tie.Need-returns
+returns c =
+    let at-if1 = c in
+    let at-is-undecodable = at-if1 .before in
+    let at-decode = at-is-undecodable .before in
+    let start = at-decode .before .before .before .before .before in
+    let m = mem (start .args .bytes .now) (start .args .keys .now) (start .args .order .now) (start .args .words .now) in
+    chosen-4 (settingOf m) (viewOf m) (start .args .page) _ (at-decode .decode .ensures) ((fixed (settingOf m .layout) (start .args .page), refused 5) ∷ (viewOf m .allocated (start .args .page), refused 6) ∷ capacityChecksAt (settingOf m) (viewOf m) (start .args .page) 0 (start .args .n) 0) (sym (at-is-undecodable .is-undecodable .ensures) ∙ at-if1 .if1 .taken)
+
+returns-2 : tie.Need-returns-2
+returns-2 c =
+    let at-if2 = c in
+    let at-is-fixed = at-if2 .before in
+    let at-if1 = at-is-fixed .before in
+    let at-is-undecodable = at-if1 .before in
+    let at-decode = at-is-undecodable .before in
+    let start = at-decode .before .before .before .before .before in
+    let m = mem (start .args .bytes .now) (start .args .keys .now) (start .args .order .now) (start .args .words .now) in
+    allocate-5 (settingOf m) (viewOf m) (start .args .page) _ (at-decode .decode .ensures) (start .args .n) (sym (at-is-undecodable .is-undecodable .ensures) ∙ at-if1 .if1 .left) (sym (at-is-fixed .is-fixed .ensures) ∙ at-if2 .if2 .taken)
+
+is-allocated-requires : tie.Need-is-allocated-requires
+is-allocated-requires c κs =
+    let start = c .before .before .before .before .before .before .before .before .before in
+    start .pre
+
+returns-3 : tie.Need-returns-3
+returns-3 c =
+    let at-if3 = c in
+    let at-is-allocated = at-if3 .before in
+    let at-if2 = at-is-allocated .before in
+    let at-is-fixed = at-if2 .before in
+    let at-if1 = at-is-fixed .before in
+    let at-is-undecodable = at-if1 .before in
+    let at-decode = at-is-undecodable .before in
+    let start = at-decode .before .before .before .before .before in
+    let m = mem (start .args .bytes .now) (start .args .keys .now) (start .args .order .now) (start .args .words .now) in
+    allocate-6 (settingOf m) (viewOf m) (start .args .page) _ (at-decode .decode .ensures) (start .args .n) (sym (at-is-undecodable .is-undecodable .ensures) ∙ at-if1 .if1 .left) (sym (at-is-fixed .is-fixed .ensures) ∙ at-if2 .if2 .left) (sym (at-is-allocated .is-allocated .ensures) ∙ at-if3 .if3 .taken)
+
+capacity-refusal-requires : tie.Need-capacity-refusal-requires
+capacity-refusal-requires c κs =
+    let at-touched = c in
+    let start = at-touched .before .before .before .before .before .before .before .before .before .before .before .before in
+    (start .pre, chunks-fit 0 (start .args .n) _ (at-touched .touched .ensures) (omega arith), omega arith)
+
+returns-4 : tie.Need-returns-4
+returns-4 c =
+    let at-capacity-refusal = c in
+    let at-touched = at-capacity-refusal .before in
+    let at-if3 = at-touched .before in
+    let at-is-allocated = at-if3 .before in
+    let at-if2 = at-is-allocated .before in
+    let at-is-fixed = at-if2 .before in
+    let at-if1 = at-is-fixed .before in
+    let at-is-undecodable = at-if1 .before in
+    let at-decode = at-is-undecodable .before in
+    let start = at-decode .before .before .before .before .before in
+    let m = mem (start .args .bytes .now) (start .args .keys .now) (start .args .order .now) (start .args .words .now) in
+    allocate-room (settingOf m) (viewOf m) (start .args .page) _ (at-decode .decode .ensures) (start .args .n) (sym (at-is-undecodable .is-undecodable .ensures) ∙ at-if1 .if1 .left) (sym (at-is-fixed .is-fixed .ensures) ∙ at-if2 .if2 .left) (sym (at-is-allocated .is-allocated .ensures) ∙ at-if3 .if3 .left) _ (room-chosen 0 (start .args .n) _ (at-touched .touched .ensures) (settingOf m) (viewOf m) (start .args .page) 0 0 _ refl (at-capacity-refusal .capacity-refusal .ensures))
+
+pub allocate-checks-spec : {M : Type 1} → statement M
+allocate-checks-spec =
+    tie.close
+    (tie.spec
+    decode-requires
+    (λ c κs. search needs)
+    returns
+    (λ c κs. search needs)
+    returns-2
+    is-allocated-requires
+    returns-3
+    (λ c κs. search needs)
+    capacity-refusal-requires
+    returns-4)

@@ -1,0 +1,31 @@
+use mathlib.Core.Path.{sym, _∙_}
+use borrow.Author.Needs.{needs}
+use Rattle.store.specs.Mem.{mem}
+use Rattle.view.specs.View.{settingOf, viewOf}
+use Rattle.checks.proofs.Numbers.{room-9, room-10, room-11, room-0}
+use Rattle.checks.proofs.capacity_refusal.Statement.{statement}
+use Rattle.checks.proofs.capacity_refusal.Tie as tie
+
+returns : tie.Need-returns
+returns c = let start = c .before .before .before .before .before .before in room-9 (settingOf (mem (start .args .bytes .now) (start .args .keys .now) (start .args .order .now) (start .args .words .now))) (viewOf (mem (start .args .bytes .now) (start .args .keys .now) (start .args .order .now) (start .args .words .now))) (start .args .page) (start .args .first) (start .args .count) (start .args .w) (sym (c .before .no-entry .ensures) ∙ c .if1 .taken)
+
+returns-2 : tie.Need-returns-2
+returns-2 c = let start = c .before .before .before .before .before .before .before .before in room-10 (settingOf (mem (start .args .bytes .now) (start .args .keys .now) (start .args .order .now) (start .args .words .now))) (viewOf (mem (start .args .bytes .now) (start .args .keys .now) (start .args .order .now) (start .args .words .now))) (start .args .page) (start .args .first) (start .args .count) (start .args .w) (sym (c .before .before .before .no-entry .ensures) ∙ c .before .before .if1 .left) (sym (c .before .short-of-chunks .ensures) ∙ c .if2 .taken)
+
+returns-3 : tie.Need-returns-3
+returns-3 c = let start = c .before .before .before .before .before .before .before .before .before .before in room-11 (settingOf (mem (start .args .bytes .now) (start .args .keys .now) (start .args .order .now) (start .args .words .now))) (viewOf (mem (start .args .bytes .now) (start .args .keys .now) (start .args .order .now) (start .args .words .now))) (start .args .page) (start .args .first) (start .args .count) (start .args .w) (sym (c .before .before .before .before .before .no-entry .ensures) ∙ c .before .before .before .before .if1 .left) (sym (c .before .before .before .short-of-chunks .ensures) ∙ c .before .before .if2 .left) (sym (c .before .short-of-words .ensures) ∙ c .if3 .taken)
+
+returns-4 : tie.Need-returns-4
+returns-4 c = let start = c .before .before .before .before .before .before .before .before .before .before in room-0 (settingOf (mem (start .args .bytes .now) (start .args .keys .now) (start .args .order .now) (start .args .words .now))) (viewOf (mem (start .args .bytes .now) (start .args .keys .now) (start .args .order .now) (start .args .words .now))) (start .args .page) (start .args .first) (start .args .count) (start .args .w) (sym (c .before .before .before .before .before .no-entry .ensures) ∙ c .before .before .before .before .if1 .left) (sym (c .before .before .before .short-of-chunks .ensures) ∙ c .before .before .if2 .left) (sym (c .before .short-of-words .ensures) ∙ c .if3 .left)
+
+pub capacity-refusal-spec : {M : Type 1} → statement M
+capacity-refusal-spec =
+    tie.close
+    (tie.spec
+    (λ c κs. search needs)
+    returns
+    (λ c κs. search needs)
+    returns-2
+    (λ c κs. search needs)
+    returns-3
+    returns-4)

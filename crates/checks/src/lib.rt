@@ -1,0 +1,294 @@
+// Which refusal a write or an allocation gets, or 0: the tests in the order of 01's table.
+ghost use mathlib.Core.Path.{_≡_};
+ghost use mathlib.Core.Bool.{not, _&&_};
+ghost use Prim.Native.Nat.{_+_, _<_, _≤_, _^_};
+ghost use lib.Dec.{eqb, ltb};
+ghost use Rattle.view.specs.Calls.{nothing, firstRefusal};
+ghost use Rattle.page_ids.specs.Decode.{pageOf, decoded};
+ghost use Rattle.outcome.specs.Outcome.{refusalNumber};
+ghost use Rattle.store.specs.Mem.{mem, layoutOf};
+ghost use Rattle.store.specs.Hold.{Indexed};
+ghost use Rattle.formed.specs.Pages.{journalCount};
+ghost use Rattle.formed.specs.WellFormed.{WellFormed};
+ghost use Rattle.view.specs.View.{settingOf, viewOf};
+ghost use Rattle.view.specs.Steps.{missing, touchedCount, alignedCount};
+ghost use Rattle.view.specs.Checks.{overfull, capacityChecks, onMemory, wordWriteChecks, byteWriteChecks, allocateChecks};
+ghost use Rattle.checks.specs.Refusals.{lacksAt};
+use page_ids::DecodedPage;
+use page_ids::PageId;
+use store::head;
+
+// How many chunks n bytes at an address touch.
+pub fn touched(address: u32, n: usize) -> u64
+    requires { ⌜ address + n < 2 ^ 64 ⌝ }
+    ensures { λ r. ⌜ r ≡ touchedCount address n ⌝ }
+{
+    if n == 0 {
+        return 0;
+    }
+    let first = address as u64;
+    (first + (n as u64 - 1)) / 256 - first / 256 + 1
+}
+
+// How many aligned words they touch.
+pub fn aligned(address: u32, n: usize) -> u64
+    requires { ⌜ address + n < 2 ^ 64 ⌝ }
+    ensures { λ r. ⌜ r ≡ alignedCount address n ⌝ }
+{
+    if n == 0 {
+        return 0;
+    }
+    let first = address as u64;
+    (first + (n as u64 - 1)) / 32 - first / 32 + 1
+}
+
+pub fn is_allocated(bytes: &[u8], keys: &[u64], order: &[u32], words: &[u64], page: u32) -> bool
+    requires { ⌜ WellFormed (mem (now bytes) (now keys) (now order) (now words)) ⌝ }
+    ensures { λ r. ⌜ r ≡ viewOf (mem (now (bytes .entry)) (now (keys .entry)) (now (order .entry)) (now (words .entry))) .allocated page ⌝ }
+{
+    let e = store::entry_of(keys, order, words, page);
+    (e as u64) < words[head::PAGES] + 4
+}
+
+// 9: the page needs an entry and none is left.
+fn no_entry(bytes: &[u8], keys: &[u64], order: &[u32], words: &[u64], page: u32) -> bool
+    requires { ⌜ WellFormed (mem (now bytes) (now keys) (now order) (now words)) ⌝ }
+    ensures { λ r. ⌜ r ≡ (not (viewOf (mem (now (bytes .entry)) (now (keys .entry)) (now (order .entry)) (now (words .entry))) .allocated page) && eqb (viewOf (mem (now (bytes .entry)) (now (keys .entry)) (now (order .entry)) (now (words .entry))) .entries) 0) ⌝ }
+{
+    if is_allocated(bytes, keys, order, words, page) {
+        return false;
+    }
+    words[head::ENTRIES] == words[head::PAGES] + 4
+}
+
+// Whether the page at entry e does not hold chunk k.
+fn lacks(keys: &[u64], order: &[u32], words: &[u64], e: usize, k: u64) -> bool
+    requires { ⌜ (Indexed (now keys) (now order) (now words)) × (e ≤ 4100) ⌝ }
+    ensures { λ r. ⌜ r ≡ lacksAt (now (keys .entry)) (now (words .entry)) e k ⌝ }
+{
+    if 16777216 < k {
+        return true;
+    }
+    let s = store::slot_of(keys, order, words, e as u64 * 33554432 + k + 1);
+    words[head::CHUNKS] <= s as u64
+}
+
+// 10: more of the chunks first, .., first + count - 1 are missing than the pool has. It stops as soon as that is sure.
+fn short_of_chunks(
+    bytes: &[u8],
+    keys: &[u64],
+    order: &[u32],
+    words: &[u64],
+    page: u32,
+    first: u64,
+    count: u64,
+) -> bool
+    requires { ⌜ (WellFormed (mem (now bytes) (now keys) (now order) (now words))) × (first + count < 2 ^ 64) ⌝ }
+    ensures { λ r. ⌜ r ≡ ltb (viewOf (mem (now (bytes .entry)) (now (keys .entry)) (now (order .entry)) (now (words .entry))) .pool) (missing (viewOf (mem (now (bytes .entry)) (now (keys .entry)) (now (order .entry)) (now (words .entry))) .held page) first count) ⌝ }
+{
+    let pool = store::pool_count(keys, order, words);
+    let e = store::entry_of(keys, order, words, page);
+    let mut missing: u64 = 0;
+    let mut i: u64 = 0;
+    while i < count {
+        if lacks(keys, order, words, e, first + i) {
+            if missing == pool {
+                return true;
+            }
+            missing += 1;
+        }
+        i += 1;
+    }
+    false
+}
+
+// 11: w more words do not fit the page's journal.
+fn short_of_words(
+    bytes: &[u8],
+    keys: &[u64],
+    order: &[u32],
+    words: &[u64],
+    page: u32,
+    w: u64,
+) -> bool
+    requires { ⌜ (WellFormed (mem (now bytes) (now keys) (now order) (now words))) × (w ≤ 2 ^ 60) ⌝ }
+    ensures { λ r. ⌜ r ≡ overfull (settingOf (mem (now (bytes .entry)) (now (keys .entry)) (now (order .entry)) (now (words .entry)))) (viewOf (mem (now (bytes .entry)) (now (keys .entry)) (now (order .entry)) (now (words .entry)))) page w journalCount ⌝ }
+{
+    if page as u64 == words[head::BOOTLOADER_HEAP] {
+        return words[head::JOURNAL_WORDS] < words[head::HEAP_JOURNAL] + w;
+    }
+    if page as u64 == words[head::BOOTLOADER_AUX] {
+        return words[head::JOURNAL_WORDS] < words[head::AUX_JOURNAL] + w;
+    }
+    false
+}
+
+// 9, 10, 11.
+pub fn capacity_refusal(
+    bytes: &[u8],
+    keys: &[u64],
+    order: &[u32],
+    words: &[u64],
+    page: u32,
+    first: u64,
+    count: u64,
+    w: u64,
+) -> u32
+    requires { ⌜ (WellFormed (mem (now bytes) (now keys) (now order) (now words))) × (first + count < 2 ^ 64) × (w ≤ 2 ^ 60) ⌝ }
+    ensures { λ r. ⌜ r ≡ firstRefusal (capacityChecks (settingOf (mem (now (bytes .entry)) (now (keys .entry)) (now (order .entry)) (now (words .entry)))) (viewOf (mem (now (bytes .entry)) (now (keys .entry)) (now (order .entry)) (now (words .entry)))) page first count w) ⌝ }
+{
+    if no_entry(bytes, keys, order, words, page) {
+        return 9;
+    }
+    if short_of_chunks(bytes, keys, order, words, page, first, count) {
+        return 10;
+    }
+    if short_of_words(bytes, keys, order, words, page, w) {
+        return 11;
+    }
+    0
+}
+
+// What a page id stands for in the memory's layout.
+pub fn decode(bytes: &[u8], keys: &[u64], order: &[u32], words: &[u64], page: u32) -> DecodedPage
+    requires { ⌜ WellFormed (mem (now bytes) (now keys) (now order) (now words)) ⌝ }
+    ensures { λ r. ⌜ pageOf r ≡ decoded (layoutOf (now (words .entry))) page ⌝ }
+{
+    page_ids::decode_page(formed::head::layout_of(words), PageId(page))
+}
+
+// A word write to a well-formed memory.
+pub fn word_checks(
+    bytes: &[u8],
+    keys: &[u64],
+    order: &[u32],
+    words: &[u64],
+    page: u32,
+    address: u32,
+) -> u32
+    requires { ⌜ WellFormed (mem (now bytes) (now keys) (now order) (now words)) ⌝ }
+    ensures { λ r. ⌜ r ≡ firstRefusal (wordWriteChecks (settingOf (mem (now (bytes .entry)) (now (keys .entry)) (now (order .entry)) (now (words .entry)))) (viewOf (mem (now (bytes .entry)) (now (keys .entry)) (now (order .entry)) (now (words .entry)))) page address) ⌝ }
+{
+    if page_ids::is_undecodable(decode(bytes, keys, order, words, page)) {
+        return 4;
+    }
+    let count = touched(address, 32);
+    capacity_refusal(
+        bytes,
+        keys,
+        order,
+        words,
+        page,
+        (address / 256) as u64,
+        count,
+        1,
+    )
+}
+
+pub fn word_refusal(
+    bytes: &[u8],
+    keys: &[u64],
+    order: &[u32],
+    words: &[u64],
+    page: u32,
+    address: u32,
+) -> u32
+    ensures { λ r. ⌜ r ≡ refusalNumber (onMemory (mem (now (bytes .entry)) (now (keys .entry)) (now (order .entry)) (now (words .entry))) (wordWriteChecks (settingOf (mem (now (bytes .entry)) (now (keys .entry)) (now (order .entry)) (now (words .entry)))) (viewOf (mem (now (bytes .entry)) (now (keys .entry)) (now (order .entry)) (now (words .entry)))) page address) nothing) ⌝ }
+{
+    if !formed::well_formed(bytes, keys, order, words) {
+        return 3;
+    }
+    word_checks(bytes, keys, order, words, page, address)
+}
+
+// A write of n bytes to a well-formed memory.
+fn bytes_checks(
+    bytes: &[u8],
+    keys: &[u64],
+    order: &[u32],
+    words: &[u64],
+    page: u32,
+    start: u32,
+    n: usize,
+) -> u32
+    requires { ⌜ WellFormed (mem (now bytes) (now keys) (now order) (now words)) ⌝ }
+    ensures { λ r. ⌜ r ≡ firstRefusal (byteWriteChecks (settingOf (mem (now (bytes .entry)) (now (keys .entry)) (now (order .entry)) (now (words .entry)))) (viewOf (mem (now (bytes .entry)) (now (keys .entry)) (now (order .entry)) (now (words .entry)))) page start n) ⌝ }
+{
+    if page_ids::is_undecodable(decode(bytes, keys, order, words, page)) {
+        return 4;
+    }
+    if (n as u64) > 4294967296 - (start as u64) {
+        return 8;
+    }
+    let count = touched(start, n);
+    let notes = aligned(start, n);
+    capacity_refusal(
+        bytes,
+        keys,
+        order,
+        words,
+        page,
+        (start / 256) as u64,
+        count,
+        notes,
+    )
+}
+
+pub fn bytes_refusal(
+    bytes: &[u8],
+    keys: &[u64],
+    order: &[u32],
+    words: &[u64],
+    page: u32,
+    start: u32,
+    n: usize,
+) -> u32
+    ensures { λ r. ⌜ r ≡ refusalNumber (onMemory (mem (now (bytes .entry)) (now (keys .entry)) (now (order .entry)) (now (words .entry))) (byteWriteChecks (settingOf (mem (now (bytes .entry)) (now (keys .entry)) (now (order .entry)) (now (words .entry)))) (viewOf (mem (now (bytes .entry)) (now (keys .entry)) (now (order .entry)) (now (words .entry)))) page start n) nothing) ⌝ }
+{
+    if !formed::well_formed(bytes, keys, order, words) {
+        return 3;
+    }
+    bytes_checks(bytes, keys, order, words, page, start, n)
+}
+
+// An allocation with n bytes of contents in a well-formed memory.
+fn allocate_checks(
+    bytes: &[u8],
+    keys: &[u64],
+    order: &[u32],
+    words: &[u64],
+    page: u32,
+    n: usize,
+) -> u32
+    requires { ⌜ WellFormed (mem (now bytes) (now keys) (now order) (now words)) ⌝ }
+    ensures { λ r. ⌜ r ≡ firstRefusal (allocateChecks (settingOf (mem (now (bytes .entry)) (now (keys .entry)) (now (order .entry)) (now (words .entry)))) (viewOf (mem (now (bytes .entry)) (now (keys .entry)) (now (order .entry)) (now (words .entry)))) page n) ⌝ }
+{
+    let decoded = decode(bytes, keys, order, words, page);
+    if page_ids::is_undecodable(decoded) {
+        return 4;
+    }
+    if page_ids::is_fixed(decoded) {
+        return 5;
+    }
+    if is_allocated(bytes, keys, order, words, page) {
+        return 6;
+    }
+    let count = touched(0, n);
+    capacity_refusal(bytes, keys, order, words, page, 0, count, 0)
+}
+
+pub fn allocate_refusal(
+    bytes: &[u8],
+    keys: &[u64],
+    order: &[u32],
+    words: &[u64],
+    page: u32,
+    n: usize,
+) -> u32
+    ensures { λ r. ⌜ r ≡ refusalNumber (onMemory (mem (now (bytes .entry)) (now (keys .entry)) (now (order .entry)) (now (words .entry))) (allocateChecks (settingOf (mem (now (bytes .entry)) (now (keys .entry)) (now (order .entry)) (now (words .entry)))) (viewOf (mem (now (bytes .entry)) (now (keys .entry)) (now (order .entry)) (now (words .entry)))) page n) nothing) ⌝ }
+{
+    if !formed::well_formed(bytes, keys, order, words) {
+        return 3;
+    }
+    allocate_checks(bytes, keys, order, words, page, n)
+}

@@ -1,4 +1,0 @@
--- The laws that the proofs of this crate and of those above it share.
-
-pub mod Passed
-pub mod Chosen

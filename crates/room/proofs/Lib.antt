@@ -1,6 +1,0 @@
--- The laws that the proofs of this crate and of those above it share.
-
-pub mod Tables
-pub mod Ranges
-pub mod Journals
-pub mod Numbers

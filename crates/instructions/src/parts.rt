@@ -131,10 +131,10 @@ fn alone(status: ExecutionStatus, frame: Frame) -> Execution
     }
 }
 
-pub fn refused(firstRefusal: u32, frame: Frame) -> Execution
+pub fn refused(number: u32, frame: Frame) -> Execution
     ensures { λ r. ⌜ (r .status ≡ ExecutionStatus.Refused firstRefusal) × (resultOf r ≡ frameAlone frame) ⌝ }
 {
-    alone(ExecutionStatus::Refused(firstRefusal), frame)
+    alone(ExecutionStatus::Refused(number), frame)
 }
 
 // A panic sets the mark.

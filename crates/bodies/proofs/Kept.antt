@@ -10,11 +10,12 @@ use native.Mathlib.Omega.{arith}
 use lib.Dec.{ltb}
 use lib.ListN.{length, getD, take}
 use lib.Seq.{getD-take}
+use Rattle.store.specs.Keys.{keyChunk}
 use Rattle.index.proofs.Logic.{lt-or-ge}
 use Rattle.store.specs.Mem.{Mem, mem, slotCount, journalLength, chunks}
 use Rattle.formed.specs.Pages.{journalCount}
 use Rattle.formed.specs.Parts.{Note, tab, noteAddress, oldAt, slotOfChunk, holds, byteAt, allocated, journal}
-use Rattle.formed.specs.WellFormed.{holder, keyChunk, WellFormed}
+use Rattle.formed.specs.WellFormed.{holder, WellFormed}
 use Rattle.formed.proofs.Meaning.{facts-of, formed-by}
 use Rattle.view.specs.View.{View, settingOf, viewOf}
 use Rattle.view.specs.Does.{Shows}

@@ -8,9 +8,10 @@ use native.Mathlib.Omega.{arith}
 use lib.ListN.{length, getD, take, drop, length-drop}
 use lib.Seq.{getD-take, getD-drop, length-take-le}
 use borrow.Author.Tests.{lt-ltb}
+use Rattle.store.specs.Keys.{keyChunk}
 use Rattle.store.specs.Mem.{Mem, slotCount, holders, chunks}
 use Rattle.formed.specs.Parts.{slotOfChunk, holds, byteAt}
-use Rattle.formed.specs.WellFormed.{holder, keyChunk, HeldAt, WellFormed}
+use Rattle.formed.specs.WellFormed.{holder, HeldAt, WellFormed}
 use Rattle.formed.proofs.Sizes.{holders-long}
 use Rattle.formed.proofs.Keys.{in-table}
 use Rattle.formed.proofs.Sense.{holds-held, held-byte}

@@ -7,10 +7,11 @@ use Prim.Native.Nat.{ℕ, _+_, _*_, _-_, _/_, _%_, _≤_, _<_}
 use native.Mathlib.Omega.{arith}
 use lib.ListN.{length, getD}
 use lib.Seq.{getD-take}
+use Rattle.store.specs.Keys.{keyChunk}
 use Rattle.index.proofs.Logic.{lt-or-ge}
 use Rattle.store.specs.Mem.{Mem, slotCount, chunks}
 use Rattle.formed.specs.Parts.{tab, slotOfChunk, byteAt}
-use Rattle.formed.specs.WellFormed.{holder, keyChunk, HeldAt, WellFormed}
+use Rattle.formed.specs.WellFormed.{holder, HeldAt, WellFormed}
 use Rattle.formed.proofs.Same.{tab-at, tab-long}
 use Rattle.formed.proofs.Sense.{held-byte}
 use Rattle.view.specs.View.{settingOf, viewOf}

@@ -8,6 +8,8 @@ ghost use Rattle.view.specs.View.{settingOf, viewOf};
 ghost use Rattle.view.specs.Does.{Shows};
 ghost use Rattle.view.specs.Inner.{putting, PutAsks};
 ghost use Rattle.bodies.specs.Words.{placeIn, Spread, InSlots};
+use page_ids::Address;
+use page_ids::PageId;
 
 // Copies n bytes. Between two parts of one buffer they go through a local array.
 pub fn copy(src: &[u8], from: usize, dst: &mut [u8], to: usize, n: usize)
@@ -69,16 +71,16 @@ pub fn write_from(
     keys: &[u64],
     order: &[u32],
     words: &[u64],
-    page: u32,
-    address: u32,
+    page: PageId,
+    address: Address,
     src: &[u8],
 )
-    requires { ⌜ PutAsks (mem (now bytes) (now keys) (now order) (now words)) page address (length (now src)) ⌝ }
-    ensures { λ _. ⌜ Shows (settingOf (mem (now (bytes .entry)) (now (keys .entry)) (now (order .entry)) (now (words .entry)))) (putting page address (now (src .entry)) (viewOf (mem (now (bytes .entry)) (now (keys .entry)) (now (order .entry)) (now (words .entry))))) (mem (now (bytes .exit)) (now (keys .entry)) (now (order .entry)) (now (words .entry))) ⌝ }
+    requires { ⌜ PutAsks (mem (now bytes) (now keys) (now order) (now words)) (page .0) (address .0) (length (now src)) ⌝ }
+    ensures { λ _. ⌜ Shows (settingOf (mem (now (bytes .entry)) (now (keys .entry)) (now (order .entry)) (now (words .entry)))) (putting (page .0) (address .0) (now (src .entry)) (viewOf (mem (now (bytes .entry)) (now (keys .entry)) (now (order .entry)) (now (words .entry))))) (mem (now (bytes .exit)) (now (keys .entry)) (now (order .entry)) (now (words .entry))) ⌝ }
 {
     let mut pos = 0;
     while pos < src.len() {
-        let abs = address as u64 + pos as u64;
+        let abs = address.0 as u64 + pos as u64;
         let s = store::place_of(keys, order, words, page, (abs / 256) as u32);
         let n = piece(abs, src.len() - pos);
         copy(src, pos, bytes, 256 * s + (abs % 256) as usize, n);

@@ -10,10 +10,11 @@ use native.Mathlib.Nat.{le-refl}
 use lib.Dec.{ltb, leb, eqb}
 use lib.ListN.{take}
 use borrow.Author.Tests.{eq-eqb, ne-eqb, lt-ltb, le-ltb, lt-leb, le-leb}
+use Rattle.store.specs.Keys.{keyOf}
 use Rattle.index.specs.Index.{seek}
 use Rattle.index.proofs.Logic.{lt-or-ge}
 use Rattle.store.specs.Mem.{Mem, slotCount, pageCount, inUse}
-use Rattle.formed.specs.Parts.{keyOf, entryOf, allocated, entriesLeft, holds, slotOfChunk}
+use Rattle.formed.specs.Parts.{entryOf, allocated, entriesLeft, holds, slotOfChunk}
 use Rattle.formed.specs.WellFormed.{WellFormed}
 use Rattle.formed.proofs.Sizes.{entries-long}
 use Rattle.formed.proofs.Sense.{left-is}

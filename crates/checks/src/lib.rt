@@ -14,46 +14,47 @@ ghost use Rattle.view.specs.View.{settingOf, viewOf};
 ghost use Rattle.view.specs.Steps.{missing, touchedCount, alignedCount};
 ghost use Rattle.view.specs.Checks.{overfull, capacityChecks, onMemory, wordWriteChecks, byteWriteChecks, allocateChecks};
 ghost use Rattle.checks.specs.Refusals.{lacksAt};
+use page_ids::Address;
 use page_ids::DecodedPage;
 use page_ids::PageId;
 use store::head;
 
 // How many chunks n bytes at an address touch.
-pub fn touched(address: u32, n: usize) -> u64
-    requires { ⌜ address + n < 2 ^ 64 ⌝ }
-    ensures { λ r. ⌜ r ≡ touchedCount address n ⌝ }
+pub fn touched(address: Address, n: usize) -> u64
+    requires { ⌜ (address .0) + n < 2 ^ 64 ⌝ }
+    ensures { λ r. ⌜ r ≡ touchedCount (address .0) n ⌝ }
 {
     if n == 0 {
         return 0;
     }
-    let first = address as u64;
+    let first = address.0 as u64;
     (first + (n as u64 - 1)) / 256 - first / 256 + 1
 }
 
 // How many aligned words they touch.
-pub fn aligned(address: u32, n: usize) -> u64
-    requires { ⌜ address + n < 2 ^ 64 ⌝ }
-    ensures { λ r. ⌜ r ≡ alignedCount address n ⌝ }
+pub fn aligned(address: Address, n: usize) -> u64
+    requires { ⌜ (address .0) + n < 2 ^ 64 ⌝ }
+    ensures { λ r. ⌜ r ≡ alignedCount (address .0) n ⌝ }
 {
     if n == 0 {
         return 0;
     }
-    let first = address as u64;
+    let first = address.0 as u64;
     (first + (n as u64 - 1)) / 32 - first / 32 + 1
 }
 
-pub fn is_allocated(bytes: &[u8], keys: &[u64], order: &[u32], words: &[u64], page: u32) -> bool
+pub fn is_allocated(bytes: &[u8], keys: &[u64], order: &[u32], words: &[u64], page: PageId) -> bool
     requires { ⌜ WellFormed (mem (now bytes) (now keys) (now order) (now words)) ⌝ }
-    ensures { λ r. ⌜ r ≡ viewOf (mem (now (bytes .entry)) (now (keys .entry)) (now (order .entry)) (now (words .entry))) .allocated page ⌝ }
+    ensures { λ r. ⌜ r ≡ viewOf (mem (now (bytes .entry)) (now (keys .entry)) (now (order .entry)) (now (words .entry))) .allocated (page .0) ⌝ }
 {
     let e = store::entry_of(keys, order, words, page);
     (e as u64) < words[head::PAGES] + 4
 }
 
 // 9: the page needs an entry and none is left.
-fn no_entry(bytes: &[u8], keys: &[u64], order: &[u32], words: &[u64], page: u32) -> bool
+fn no_entry(bytes: &[u8], keys: &[u64], order: &[u32], words: &[u64], page: PageId) -> bool
     requires { ⌜ WellFormed (mem (now bytes) (now keys) (now order) (now words)) ⌝ }
-    ensures { λ r. ⌜ r ≡ (not (viewOf (mem (now (bytes .entry)) (now (keys .entry)) (now (order .entry)) (now (words .entry))) .allocated page) && eqb (viewOf (mem (now (bytes .entry)) (now (keys .entry)) (now (order .entry)) (now (words .entry))) .entries) 0) ⌝ }
+    ensures { λ r. ⌜ r ≡ (not (viewOf (mem (now (bytes .entry)) (now (keys .entry)) (now (order .entry)) (now (words .entry))) .allocated (page .0)) && eqb (viewOf (mem (now (bytes .entry)) (now (keys .entry)) (now (order .entry)) (now (words .entry))) .entries) 0) ⌝ }
 {
     if is_allocated(bytes, keys, order, words, page) {
         return false;
@@ -66,10 +67,10 @@ fn lacks(keys: &[u64], order: &[u32], words: &[u64], e: usize, k: u64) -> bool
     requires { ⌜ (Indexed (now keys) (now order) (now words)) × (e ≤ 4100) ⌝ }
     ensures { λ r. ⌜ r ≡ lacksAt (now (keys .entry)) (now (words .entry)) e k ⌝ }
 {
-    if 16777216 < k {
+    if k > store::LAST_CHUNK as u64 {
         return true;
     }
-    let s = store::slot_of(keys, order, words, e as u64 * 33554432 + k + 1);
+    let s = store::slot_at_entry(keys, order, words, e, k);
     words[head::CHUNKS] <= s as u64
 }
 
@@ -79,12 +80,12 @@ fn short_of_chunks(
     keys: &[u64],
     order: &[u32],
     words: &[u64],
-    page: u32,
+    page: PageId,
     first: u64,
     count: u64,
 ) -> bool
     requires { ⌜ (WellFormed (mem (now bytes) (now keys) (now order) (now words))) × (first + count < 2 ^ 64) ⌝ }
-    ensures { λ r. ⌜ r ≡ ltb (viewOf (mem (now (bytes .entry)) (now (keys .entry)) (now (order .entry)) (now (words .entry))) .pool) (missing (viewOf (mem (now (bytes .entry)) (now (keys .entry)) (now (order .entry)) (now (words .entry))) .held page) first count) ⌝ }
+    ensures { λ r. ⌜ r ≡ ltb (viewOf (mem (now (bytes .entry)) (now (keys .entry)) (now (order .entry)) (now (words .entry))) .pool) (missing (viewOf (mem (now (bytes .entry)) (now (keys .entry)) (now (order .entry)) (now (words .entry))) .held (page .0)) first count) ⌝ }
 {
     let pool = store::pool_count(keys, order, words);
     let e = store::entry_of(keys, order, words, page);
@@ -108,19 +109,17 @@ fn short_of_words(
     keys: &[u64],
     order: &[u32],
     words: &[u64],
-    page: u32,
+    page: PageId,
     w: u64,
 ) -> bool
     requires { ⌜ (WellFormed (mem (now bytes) (now keys) (now order) (now words))) × (w ≤ 2 ^ 60) ⌝ }
-    ensures { λ r. ⌜ r ≡ overfull (settingOf (mem (now (bytes .entry)) (now (keys .entry)) (now (order .entry)) (now (words .entry)))) (viewOf (mem (now (bytes .entry)) (now (keys .entry)) (now (order .entry)) (now (words .entry)))) page w journalCount ⌝ }
+    ensures { λ r. ⌜ r ≡ overfull (settingOf (mem (now (bytes .entry)) (now (keys .entry)) (now (order .entry)) (now (words .entry)))) (viewOf (mem (now (bytes .entry)) (now (keys .entry)) (now (order .entry)) (now (words .entry)))) (page .0) w journalCount ⌝ }
 {
-    if page as u64 == words[head::BOOTLOADER_HEAP] {
-        return words[head::JOURNAL_WORDS] < words[head::HEAP_JOURNAL] + w;
+    let j = formed::journals::journal_of(words, page);
+    if j == head::JOURNAL_COUNT {
+        return false;
     }
-    if page as u64 == words[head::BOOTLOADER_AUX] {
-        return words[head::JOURNAL_WORDS] < words[head::AUX_JOURNAL] + w;
-    }
-    false
+    words[head::JOURNAL_WORDS] < words[head::JOURNALS + j] + w
 }
 
 // 9, 10, 11.
@@ -129,13 +128,13 @@ pub fn capacity_refusal(
     keys: &[u64],
     order: &[u32],
     words: &[u64],
-    page: u32,
+    page: PageId,
     first: u64,
     count: u64,
     w: u64,
 ) -> u32
     requires { ⌜ (WellFormed (mem (now bytes) (now keys) (now order) (now words))) × (first + count < 2 ^ 64) × (w ≤ 2 ^ 60) ⌝ }
-    ensures { λ r. ⌜ r ≡ firstRefusal (capacityChecks (settingOf (mem (now (bytes .entry)) (now (keys .entry)) (now (order .entry)) (now (words .entry)))) (viewOf (mem (now (bytes .entry)) (now (keys .entry)) (now (order .entry)) (now (words .entry)))) page first count w) ⌝ }
+    ensures { λ r. ⌜ r ≡ firstRefusal (capacityChecks (settingOf (mem (now (bytes .entry)) (now (keys .entry)) (now (order .entry)) (now (words .entry)))) (viewOf (mem (now (bytes .entry)) (now (keys .entry)) (now (order .entry)) (now (words .entry)))) (page .0) first count w) ⌝ }
 {
     if no_entry(bytes, keys, order, words, page) {
         return 9;
@@ -150,11 +149,11 @@ pub fn capacity_refusal(
 }
 
 // What a page id stands for in the memory's layout.
-pub fn decode(bytes: &[u8], keys: &[u64], order: &[u32], words: &[u64], page: u32) -> DecodedPage
+pub fn decode(bytes: &[u8], keys: &[u64], order: &[u32], words: &[u64], page: PageId) -> DecodedPage
     requires { ⌜ WellFormed (mem (now bytes) (now keys) (now order) (now words)) ⌝ }
-    ensures { λ r. ⌜ pageOf r ≡ decoded (layoutOf (now (words .entry))) page ⌝ }
+    ensures { λ r. ⌜ pageOf r ≡ decoded (layoutOf (now (words .entry))) (page .0) ⌝ }
 {
-    page_ids::decode_page(formed::head::layout_of(words), PageId(page))
+    page_ids::decode_page(formed::head::layout_of(words), page)
 }
 
 // A word write to a well-formed memory.
@@ -163,11 +162,11 @@ pub fn word_checks(
     keys: &[u64],
     order: &[u32],
     words: &[u64],
-    page: u32,
-    address: u32,
+    page: PageId,
+    address: Address,
 ) -> u32
     requires { ⌜ WellFormed (mem (now bytes) (now keys) (now order) (now words)) ⌝ }
-    ensures { λ r. ⌜ r ≡ firstRefusal (wordWriteChecks (settingOf (mem (now (bytes .entry)) (now (keys .entry)) (now (order .entry)) (now (words .entry)))) (viewOf (mem (now (bytes .entry)) (now (keys .entry)) (now (order .entry)) (now (words .entry)))) page address) ⌝ }
+    ensures { λ r. ⌜ r ≡ firstRefusal (wordWriteChecks (settingOf (mem (now (bytes .entry)) (now (keys .entry)) (now (order .entry)) (now (words .entry)))) (viewOf (mem (now (bytes .entry)) (now (keys .entry)) (now (order .entry)) (now (words .entry)))) (page .0) (address .0)) ⌝ }
 {
     if page_ids::is_undecodable(decode(bytes, keys, order, words, page)) {
         return 4;
@@ -179,7 +178,7 @@ pub fn word_checks(
         order,
         words,
         page,
-        (address / 256) as u64,
+        (address.0 / 256) as u64,
         count,
         1,
     )
@@ -190,10 +189,10 @@ pub fn word_refusal(
     keys: &[u64],
     order: &[u32],
     words: &[u64],
-    page: u32,
-    address: u32,
+    page: PageId,
+    address: Address,
 ) -> u32
-    ensures { λ r. ⌜ r ≡ refusalNumber (onMemory (mem (now (bytes .entry)) (now (keys .entry)) (now (order .entry)) (now (words .entry))) (wordWriteChecks (settingOf (mem (now (bytes .entry)) (now (keys .entry)) (now (order .entry)) (now (words .entry)))) (viewOf (mem (now (bytes .entry)) (now (keys .entry)) (now (order .entry)) (now (words .entry)))) page address) nothing) ⌝ }
+    ensures { λ r. ⌜ r ≡ refusalNumber (onMemory (mem (now (bytes .entry)) (now (keys .entry)) (now (order .entry)) (now (words .entry))) (wordWriteChecks (settingOf (mem (now (bytes .entry)) (now (keys .entry)) (now (order .entry)) (now (words .entry)))) (viewOf (mem (now (bytes .entry)) (now (keys .entry)) (now (order .entry)) (now (words .entry)))) (page .0) (address .0)) nothing) ⌝ }
 {
     if !formed::well_formed(bytes, keys, order, words) {
         return 3;
@@ -207,17 +206,17 @@ fn bytes_checks(
     keys: &[u64],
     order: &[u32],
     words: &[u64],
-    page: u32,
-    start: u32,
+    page: PageId,
+    start: Address,
     n: usize,
 ) -> u32
     requires { ⌜ WellFormed (mem (now bytes) (now keys) (now order) (now words)) ⌝ }
-    ensures { λ r. ⌜ r ≡ firstRefusal (byteWriteChecks (settingOf (mem (now (bytes .entry)) (now (keys .entry)) (now (order .entry)) (now (words .entry)))) (viewOf (mem (now (bytes .entry)) (now (keys .entry)) (now (order .entry)) (now (words .entry)))) page start n) ⌝ }
+    ensures { λ r. ⌜ r ≡ firstRefusal (byteWriteChecks (settingOf (mem (now (bytes .entry)) (now (keys .entry)) (now (order .entry)) (now (words .entry)))) (viewOf (mem (now (bytes .entry)) (now (keys .entry)) (now (order .entry)) (now (words .entry)))) (page .0) (start .0) n) ⌝ }
 {
     if page_ids::is_undecodable(decode(bytes, keys, order, words, page)) {
         return 4;
     }
-    if (n as u64) > 4294967296 - (start as u64) {
+    if (n as u64) > 4294967296 - (start.0 as u64) {
         return 8;
     }
     let count = touched(start, n);
@@ -228,7 +227,7 @@ fn bytes_checks(
         order,
         words,
         page,
-        (start / 256) as u64,
+        (start.0 / 256) as u64,
         count,
         notes,
     )
@@ -239,11 +238,11 @@ pub fn bytes_refusal(
     keys: &[u64],
     order: &[u32],
     words: &[u64],
-    page: u32,
-    start: u32,
+    page: PageId,
+    start: Address,
     n: usize,
 ) -> u32
-    ensures { λ r. ⌜ r ≡ refusalNumber (onMemory (mem (now (bytes .entry)) (now (keys .entry)) (now (order .entry)) (now (words .entry))) (byteWriteChecks (settingOf (mem (now (bytes .entry)) (now (keys .entry)) (now (order .entry)) (now (words .entry)))) (viewOf (mem (now (bytes .entry)) (now (keys .entry)) (now (order .entry)) (now (words .entry)))) page start n) nothing) ⌝ }
+    ensures { λ r. ⌜ r ≡ refusalNumber (onMemory (mem (now (bytes .entry)) (now (keys .entry)) (now (order .entry)) (now (words .entry))) (byteWriteChecks (settingOf (mem (now (bytes .entry)) (now (keys .entry)) (now (order .entry)) (now (words .entry)))) (viewOf (mem (now (bytes .entry)) (now (keys .entry)) (now (order .entry)) (now (words .entry)))) (page .0) (start .0) n) nothing) ⌝ }
 {
     if !formed::well_formed(bytes, keys, order, words) {
         return 3;
@@ -257,11 +256,11 @@ fn allocate_checks(
     keys: &[u64],
     order: &[u32],
     words: &[u64],
-    page: u32,
+    page: PageId,
     n: usize,
 ) -> u32
     requires { ⌜ WellFormed (mem (now bytes) (now keys) (now order) (now words)) ⌝ }
-    ensures { λ r. ⌜ r ≡ firstRefusal (allocateChecks (settingOf (mem (now (bytes .entry)) (now (keys .entry)) (now (order .entry)) (now (words .entry)))) (viewOf (mem (now (bytes .entry)) (now (keys .entry)) (now (order .entry)) (now (words .entry)))) page n) ⌝ }
+    ensures { λ r. ⌜ r ≡ firstRefusal (allocateChecks (settingOf (mem (now (bytes .entry)) (now (keys .entry)) (now (order .entry)) (now (words .entry)))) (viewOf (mem (now (bytes .entry)) (now (keys .entry)) (now (order .entry)) (now (words .entry)))) (page .0) n) ⌝ }
 {
     let decoded = decode(bytes, keys, order, words, page);
     if page_ids::is_undecodable(decoded) {
@@ -273,7 +272,7 @@ fn allocate_checks(
     if is_allocated(bytes, keys, order, words, page) {
         return 6;
     }
-    let count = touched(0, n);
+    let count = touched(Address(0), n);
     capacity_refusal(bytes, keys, order, words, page, 0, count, 0)
 }
 
@@ -282,10 +281,10 @@ pub fn allocate_refusal(
     keys: &[u64],
     order: &[u32],
     words: &[u64],
-    page: u32,
+    page: PageId,
     n: usize,
 ) -> u32
-    ensures { λ r. ⌜ r ≡ refusalNumber (onMemory (mem (now (bytes .entry)) (now (keys .entry)) (now (order .entry)) (now (words .entry))) (allocateChecks (settingOf (mem (now (bytes .entry)) (now (keys .entry)) (now (order .entry)) (now (words .entry)))) (viewOf (mem (now (bytes .entry)) (now (keys .entry)) (now (order .entry)) (now (words .entry)))) page n) nothing) ⌝ }
+    ensures { λ r. ⌜ r ≡ refusalNumber (onMemory (mem (now (bytes .entry)) (now (keys .entry)) (now (order .entry)) (now (words .entry))) (allocateChecks (settingOf (mem (now (bytes .entry)) (now (keys .entry)) (now (order .entry)) (now (words .entry)))) (viewOf (mem (now (bytes .entry)) (now (keys .entry)) (now (order .entry)) (now (words .entry)))) (page .0) n) nothing) ⌝ }
 {
     if !formed::well_formed(bytes, keys, order, words) {
         return 3;

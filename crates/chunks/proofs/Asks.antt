@@ -3,9 +3,10 @@
 use mathlib.Core.Path.{_≡_}
 use mathlib.Core.Bool.{cond}
 use Prim.Native.Nat.{ℕ, _≤_}
+use Rattle.store.specs.Keys.{keyOf}
 use Rattle.store.specs.Mem.{Mem, holders}
 use Rattle.store.specs.Hold.{lacks}
-use Rattle.formed.specs.Parts.{keyOf, entryOf, holds}
+use Rattle.formed.specs.Parts.{entryOf, holds}
 use Rattle.formed.specs.WellFormed.{WellFormed}
 use Rattle.formed.proofs.Sizes.{holders-long}
 use Rattle.formed.proofs.Sense.{holds-near}

@@ -10,6 +10,7 @@ use lib.Dec.{ltb, leb, eqb}
 use lib.ListN.{length, getD, set, take, drop, length-set, List·getD-eq-default}
 use lib.Seq.{getD-set-other, getD-take}
 use borrow.Author.Tests.{lt-ltb, eq-eqb, ne-eqb, ltb-true}
+use Rattle.store.specs.Keys.{keyOf, keyEntry, keyChunk}
 use Rattle.view.proofs.Missing.{missing-one}
 use Rattle.index.specs.Index.{indexed, seek, freeCount}
 use Rattle.index.proofs.Logic.{same-or-not, lt-or-ge, lt-by}
@@ -20,8 +21,8 @@ use Rattle.store.specs.Hold.{lacks, Indexed, Taken, Held}
 use Rattle.store.proofs.Parts.{take-set, drop-set}
 use Rattle.store.proofs.Holds.{cut-keys}
 use Rattle.formed.specs.Pages.{LayoutRule, dynamic, group, journalCount, journalPlace}
-use Rattle.formed.specs.Parts.{tab, Note, keyOf, entryOf, allocated, slotOfChunk, holds, byteAt, journal, noteAt, noteAddress, noteFirst, noteLast, oldAt}
-use Rattle.formed.specs.WellFormed.{WellFormed, Lengths, NotedRight, holder, keyEntry, keyChunk, slotByte}
+use Rattle.formed.specs.Parts.{tab, Note, entryOf, allocated, slotOfChunk, holds, byteAt, journal, noteAt, noteAddress, noteFirst, noteLast, oldAt}
+use Rattle.formed.specs.WellFormed.{WellFormed, Lengths, NotedRight, holder, slotByte}
 use Rattle.formed.proofs.Sizes.{holders-long, chunks-long}
 use Rattle.formed.proofs.Same.{layout-same, tab-same}
 use Rattle.formed.proofs.Keys.{le-or-gt, in-table}

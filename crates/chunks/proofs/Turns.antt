@@ -7,6 +7,7 @@ use Prim.Native.Nat.{ℕ, _+_, _≤_, _<_}
 use native.Mathlib.Omega.{arith}
 use lib.ListN.{length, getD, take}
 use borrow.Author.Tests.{ltb-true}
+use Rattle.store.specs.Keys.{keyOf, keyEntry, keyChunk}
 use Rattle.view.proofs.Missing.{missing-more, missing-one, missing-le}
 use Rattle.formed.proofs.Asks.{slots-asked}
 use Rattle.index.specs.Index.{seek}
@@ -15,8 +16,8 @@ use Rattle.store.specs.Mem.{Mem, mem, slotCount, heldNow, holders, entries}
 use Rattle.store.specs.Hold.{lacks, Held}
 use Rattle.store.specs.Find.{slotFor, Learnt}
 use Rattle.store.proofs.Holds.{held-was}
-use Rattle.formed.specs.Parts.{keyOf, entryOf, allocated, holds}
-use Rattle.formed.specs.WellFormed.{WellFormed, keyEntry, keyChunk}
+use Rattle.formed.specs.Parts.{entryOf, allocated, holds}
+use Rattle.formed.specs.WellFormed.{WellFormed}
 use Rattle.formed.proofs.Keys.{key-entry, key-chunk}
 use Rattle.formed.proofs.Sense.{pool-is}
 use Rattle.view.specs.View.{View, viewOf, settingOf}

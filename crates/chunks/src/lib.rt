@@ -1,10 +1,12 @@
 // Chunks: the missing ones of a range, taken from the pool.
 ghost use mathlib.Core.Path.{_≡_};
+ghost use Rattle.store.specs.Keys.{keyOf};
 ghost use Rattle.store.specs.Mem.{mem, entries};
-ghost use Rattle.formed.specs.Parts.{keyOf, entryOf};
+ghost use Rattle.formed.specs.Parts.{entryOf};
 ghost use Rattle.view.specs.View.{settingOf, viewOf};
 ghost use Rattle.view.specs.Does.{Shows};
 ghost use Rattle.view.specs.Inner.{holding, HoldAsks};
+use page_ids::PageId;
 use store::head;
 
 // The page, which is allocated, holds the chunk, whose key is k. Where a hint knows its slot, nothing is left to do. The pages keep their entries.
@@ -13,13 +15,13 @@ fn hold_chunk(
     keys: &mut [u64],
     order: &mut [u32],
     words: &mut [u64],
-    page: u32,
+    page: PageId,
     chunk: u32,
     k: u64,
 )
-    requires { ⌜ HoldAsks (mem (now bytes) (now keys) (now order) (now words)) page chunk 1 ⌝ }
-    requires { ⌜ k ≡ keyOf (entryOf (mem (now bytes) (now keys) (now order) (now words)) page) chunk ⌝ }
-    ensures { λ _. ⌜ Shows (settingOf (mem (now (bytes .entry)) (now (keys .entry)) (now (order .entry)) (now (words .entry)))) (holding page chunk 1 (viewOf (mem (now (bytes .entry)) (now (keys .entry)) (now (order .entry)) (now (words .entry))))) (mem (now (bytes .entry)) (now (keys .exit)) (now (order .exit)) (now (words .exit))) ⌝ }
+    requires { ⌜ HoldAsks (mem (now bytes) (now keys) (now order) (now words)) (page .0) chunk 1 ⌝ }
+    requires { ⌜ k ≡ keyOf (entryOf (mem (now bytes) (now keys) (now order) (now words)) (page .0)) chunk ⌝ }
+    ensures { λ _. ⌜ Shows (settingOf (mem (now (bytes .entry)) (now (keys .entry)) (now (order .entry)) (now (words .entry)))) (holding (page .0) chunk 1 (viewOf (mem (now (bytes .entry)) (now (keys .entry)) (now (order .entry)) (now (words .entry))))) (mem (now (bytes .entry)) (now (keys .exit)) (now (order .exit)) (now (words .exit))) ⌝ }
     ensures { λ _. ⌜ entries (mem (now (bytes .entry)) (now (keys .exit)) (now (order .exit)) (now (words .exit))) ≡ entries (mem (now (bytes .entry)) (now (keys .entry)) (now (order .entry)) (now (words .entry))) ⌝ }
 {
     let known = store::hinted(keys, order, words, page, chunk);
@@ -36,16 +38,16 @@ pub fn hold_chunks(
     keys: &mut [u64],
     order: &mut [u32],
     words: &mut [u64],
-    page: u32,
+    page: PageId,
     first: u32,
     count: u32,
 )
-    requires { ⌜ HoldAsks (mem (now bytes) (now keys) (now order) (now words)) page first count ⌝ }
-    ensures { λ _. ⌜ Shows (settingOf (mem (now (bytes .entry)) (now (keys .entry)) (now (order .entry)) (now (words .entry)))) (holding page first count (viewOf (mem (now (bytes .entry)) (now (keys .entry)) (now (order .entry)) (now (words .entry))))) (mem (now (bytes .entry)) (now (keys .exit)) (now (order .exit)) (now (words .exit))) ⌝ }
+    requires { ⌜ HoldAsks (mem (now bytes) (now keys) (now order) (now words)) (page .0) first count ⌝ }
+    ensures { λ _. ⌜ Shows (settingOf (mem (now (bytes .entry)) (now (keys .entry)) (now (order .entry)) (now (words .entry)))) (holding (page .0) first count (viewOf (mem (now (bytes .entry)) (now (keys .entry)) (now (order .entry)) (now (words .entry))))) (mem (now (bytes .entry)) (now (keys .exit)) (now (order .exit)) (now (words .exit))) ⌝ }
 {
     let e = store::entry_of(keys, order, words, page);
     // The key of the first chunk; the next ones follow it.
-    let k = e as u64 * 33554432 + 1 + first as u64;
+    let k = store::key_of(e, first as u64);
     let mut i = 0;
     while i < count {
         hold_chunk(bytes, keys, order, words, page, first + i, k + i as u64);

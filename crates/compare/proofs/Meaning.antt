@@ -7,12 +7,13 @@ use Prim.Native.Nat.{ℕ, _+_, _*_, _-_, _/_, _%_, _≤_, _<_}
 use native.Mathlib.Omega.{arith}
 use lib.ListN.{length, getD}
 use borrow.Author.Tests.{lt-ltb, le-ltb, ltb-true}
+use Rattle.store.specs.Keys.{keyOf, keyEntry, keyChunk}
 use Rattle.index.specs.Index.{seek}
 use Rattle.index.proofs.Logic.{lt-or-ge}
 use Rattle.index.proofs.Places.{seek-hit, seek-upto}
 use Rattle.store.specs.Mem.{Mem, pageCount, holders, entries, chunks}
-use Rattle.formed.specs.Parts.{keyOf, entryOf, allocated, slotOfChunk, holds, byteAt}
-use Rattle.formed.specs.WellFormed.{holder, keyEntry, keyChunk, slotByte, HeldAt, WellFormed}
+use Rattle.formed.specs.Parts.{entryOf, allocated, slotOfChunk, holds, byteAt}
+use Rattle.formed.specs.WellFormed.{holder, slotByte, HeldAt, WellFormed}
 use Rattle.formed.proofs.Keys.{in-table}
 use Rattle.formed.proofs.Sizes.{entries-long}
 use Rattle.formed.proofs.Meaning.{facts-of}

@@ -8,11 +8,11 @@ use native.Mathlib.Omega.{arith}
 use lib.ListN.{getD}
 use lib.Seq.{getD-take, getD-drop, length-take-le}
 use borrow.Author.Count.{below-more}
+use Rattle.store.specs.Keys.{keyOf, keyEntry, keyChunk}
 use Rattle.index.specs.Index.{seek}
 use Rattle.index.proofs.Logic.{lt-or-ge}
 use Rattle.store.specs.Mem.{Mem, slotCount, pageCount, heldNow, holders, entries, slotOrder, chunks}
-use Rattle.formed.specs.Parts.{keyOf}
-use Rattle.formed.specs.WellFormed.{holder, keyEntry, keyChunk, slotByte, WellFormed}
+use Rattle.formed.specs.WellFormed.{holder, slotByte, WellFormed}
 use Rattle.formed.proofs.Keys.{in-table}
 use Rattle.formed.proofs.Sizes.{holders-long, entries-long}
 use Rattle.formed.proofs.Meaning.{facts-of}

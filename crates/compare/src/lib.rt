@@ -2,17 +2,18 @@
 ghost use mathlib.Core.Path.{_≡_};
 ghost use Prim.Native.Nat.{_+_, _*_, _<_, _≤_};
 ghost use lib.ListN.{length, getD, take};
+ghost use Rattle.store.specs.Keys.{keyOf, keyChunk};
 ghost use Rattle.index.specs.Index.{seek};
 ghost use Rattle.store.specs.Mem.{mem, layoutOf, slotCount};
 ghost use Rattle.store.specs.Hold.{Indexed};
-ghost use Rattle.formed.specs.Parts.{keyOf};
-ghost use Rattle.formed.specs.WellFormed.{keyChunk, WellFormed};
+ghost use Rattle.formed.specs.WellFormed.{WellFormed};
 ghost use Rattle.view.specs.View.{viewOf};
 ghost use Rattle.view.specs.Steps.{alike};
 ghost use Rattle.view.specs.Checks.{sameLayout};
 ghost use Rattle.view.specs.Calls.{comparisonOf};
 ghost use Rattle.compare.specs.Verdict.{comparisonOutcome};
 ghost use Rattle.compare.specs.Covers.{covers};
+use page_ids::PageId;
 use store::head;
 
 pub enum Comparison {
@@ -42,12 +43,7 @@ fn slot_beside(keys: &[u64], order: &[u32], words: &[u64], e: usize, key: u64) -
     requires { ⌜ (e ≤ 4100) × (0 < key) ⌝ }
     ensures { λ r. ⌜ r ≡ seek (take (slotCount (now (words .entry))) (now (keys .entry))) (keyOf e (keyChunk key)) ⌝ }
 {
-    store::slot_of(
-        keys,
-        order,
-        words,
-        e as u64 * 33554432 + (key - 1) % 33554432 + 1,
-    )
+    store::slot_at_entry(keys, order, words, e, store::key_chunk(key))
 }
 
 // Byte j of slot t, or 0 where there is no such slot.
@@ -88,7 +84,12 @@ fn covered(
     'pages: while e < pages {
         let listed = left_keys[slots + e];
         if listed != 0 {
-            let f = store::entry_of(right_keys, right_order, right_words, (listed - 1) as u32);
+            let f = store::entry_of(
+                right_keys,
+                right_order,
+                right_words,
+                PageId((listed - 1) as u32),
+            );
             if f >= right_pages {
                 equal = false;
                 break 'pages;
@@ -96,7 +97,7 @@ fn covered(
             'chunks: while i < held {
                 let s = left_order[i] as usize;
                 let key = left_keys[s];
-                if key > (e as u64 + 1) * 33554432 {
+                if store::key_entry(key) > e {
                     break 'chunks;
                 }
                 let t = slot_beside(right_keys, right_order, right_words, f, key);

@@ -10,6 +10,7 @@ use lib.Dec.{leb, ltb, eqb}
 use lib.ListN.{length, getD, set, take, drop, length-set, length-append, length-drop, List·getD-eq-default}
 use lib.Seq.{getD-take, getD-set-same, getD-set-other, length-take-le}
 use borrow.Author.Tests.{leb-true, ltb-true, eq-eqb, ne-eqb, eqb-true}
+use Rattle.store.specs.Keys.{keyEntry, keyChunk}
 use Rattle.index.specs.Index.{indexed, seek, keyAt, LowerBound, Removed}
 use Rattle.index.proofs.Logic.{same-or-not, lt-or-ge, and-left, and-right, le-of-not-lt, both-ways}
 use Rattle.index.proofs.Orders.{index-fits}
@@ -21,7 +22,7 @@ use Rattle.store.proofs.Parts.{rest-low, rest-high, rest-part}
 use Rattle.store.proofs.Gives.{within-yes}
 use Rattle.formed.specs.Pages.{dynamic}
 use Rattle.formed.specs.Parts.{entryOf, allocated, slotOfChunk, holds}
-use Rattle.formed.specs.WellFormed.{WellFormed, HeldAt, holder, keyEntry, keyChunk, slotByte}
+use Rattle.formed.specs.WellFormed.{WellFormed, HeldAt, holder, slotByte}
 use Rattle.formed.proofs.Sizes.{holders-long, entries-long}
 use Rattle.formed.proofs.Keys.{seek-is, key-again}
 use Rattle.formed.proofs.Pages.{is-fixed}

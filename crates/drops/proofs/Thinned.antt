@@ -8,14 +8,15 @@ use native.Mathlib.Omega.{arith}
 use lib.Dec.{ltb}
 use lib.ListN.{length, getD}
 use borrow.Author.Tests.{ltb-true}
+use Rattle.store.specs.Keys.{keyOf, keyEntry, keyChunk}
 use Rattle.index.proofs.Logic.{not-held}
 use Rattle.index.specs.Index.{indexed}
 use Rattle.index.proofs.Places.{seek-hit}
 use Rattle.page_ids.specs.declared.Layout.{Layout}
 use Rattle.store.specs.Mem.{Mem, layoutOf, slotCount, journalWords, journalLength, heldNow, inUse, dynamicLength, holders, entries, slotOrder, pageOrder}
 use Rattle.formed.specs.Pages.{LayoutRule, dynamic, group, journalCount, journalPlace}
-use Rattle.formed.specs.Parts.{Note, tab, keyOf, entryOf, allocated, slotOfChunk, holds, byteAt, journal, noteAt, noteAddress, noteFirst, noteLast, oldAt}
-use Rattle.formed.specs.WellFormed.{WellFormed, Lengths, NotedRight, HeldAt, holder, keyEntry, keyChunk, slotByte}
+use Rattle.formed.specs.Parts.{Note, tab, entryOf, allocated, slotOfChunk, holds, byteAt, journal, noteAt, noteAddress, noteFirst, noteLast, oldAt}
+use Rattle.formed.specs.WellFormed.{WellFormed, Lengths, NotedRight, HeldAt, holder, slotByte}
 use Rattle.formed.proofs.Sizes.{holders-long}
 use Rattle.formed.proofs.Same.{layout-same, tab-same}
 use Rattle.formed.proofs.Keys.{in-table, key-entry}

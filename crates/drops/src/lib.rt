@@ -5,6 +5,7 @@ ghost use Rattle.view.specs.View.{settingOf, viewOf};
 ghost use Rattle.view.specs.Steps.{freed};
 ghost use Rattle.view.specs.Does.{Shows};
 ghost use Rattle.drops.specs.Drops.{dropping, unlisting, EntriesBut, PageAsks, DropAsks, UnlistAsks};
+use page_ids::PageId;
 use store::head;
 
 // Drops the chunks from lo up to, but without, hi of a dynamic page. Their keys follow each other.
@@ -13,26 +14,27 @@ pub fn drop_chunks(
     keys: &mut [u64],
     order: &mut [u32],
     words: &mut [u64],
-    page: u32,
+    page: PageId,
     lo: u32,
     hi: u32,
 )
-    requires { ⌜ DropAsks (mem (now bytes) (now keys) (now order) (now words)) page lo hi ⌝ }
-    ensures { λ _. let m = mem (now (bytes .entry)) (now (keys .entry)) (now (order .entry)) (now (words .entry)) in let m' = mem (now (bytes .exit)) (now (keys .exit)) (now (order .exit)) (now (words .exit)) in ⌜ (Shows (settingOf m) (dropping (settingOf m) page lo hi (viewOf m)) m') × (entries m' ≡ entries m) ⌝ }
+    requires { ⌜ DropAsks (mem (now bytes) (now keys) (now order) (now words)) (page .0) lo hi ⌝ }
+    ensures { λ _. let m = mem (now (bytes .entry)) (now (keys .entry)) (now (order .entry)) (now (words .entry)) in let m' = mem (now (bytes .exit)) (now (keys .exit)) (now (order .exit)) (now (words .exit)) in ⌜ (Shows (settingOf m) (dropping (settingOf m) (page .0) lo hi (viewOf m)) m') × (entries m' ≡ entries m) ⌝ }
 {
     let e = store::entry_of(keys, order, words, page);
-    let k = e as u64 * 33554432 + 1;
-    store::give(bytes, keys, order, words, k + lo as u64, k + hi as u64);
+    let from = store::key_of(e, lo as u64);
+    let to = store::key_of(e, hi as u64);
+    store::give(bytes, keys, order, words, from, to);
 }
 
 // Frees the entry of a dynamic page that holds no chunk.
-fn unlist_page(bytes: &[u8], keys: &mut [u64], order: &mut [u32], words: &mut [u64], page: u32)
-    requires { ⌜ UnlistAsks (mem (now bytes) (now keys) (now order) (now words)) page ⌝ }
-    ensures { λ _. let m = mem (now (bytes .entry)) (now (keys .entry)) (now (order .entry)) (now (words .entry)) in let m' = mem (now (bytes .entry)) (now (keys .exit)) (now (order .exit)) (now (words .exit)) in ⌜ (Shows (settingOf m) (unlisting (settingOf m) page (viewOf m)) m') × EntriesBut page m m' ⌝ }
+fn unlist_page(bytes: &[u8], keys: &mut [u64], order: &mut [u32], words: &mut [u64], page: PageId)
+    requires { ⌜ UnlistAsks (mem (now bytes) (now keys) (now order) (now words)) (page .0) ⌝ }
+    ensures { λ _. let m = mem (now (bytes .entry)) (now (keys .entry)) (now (order .entry)) (now (words .entry)) in let m' = mem (now (bytes .entry)) (now (keys .exit)) (now (order .exit)) (now (words .exit)) in ⌜ (Shows (settingOf m) (unlisting (settingOf m) (page .0) (viewOf m)) m') × EntriesBut (page .0) m m' ⌝ }
 {
     let c = words[head::CHUNKS] as usize;
     let n = words[head::ENTRIES] as usize;
-    let r = index::rank_below(&keys[c..], &order[c..], n, page as u64 + 1);
+    let r = index::rank_below(&keys[c..], &order[c..], n, page.0 as u64 + 1);
     index::remove(&mut keys[c..], &mut order[c..], n, r, r + 1);
     words[head::ENTRIES] = (n - 1) as u64;
 }
@@ -43,11 +45,11 @@ pub fn free_page(
     keys: &mut [u64],
     order: &mut [u32],
     words: &mut [u64],
-    page: u32,
+    page: PageId,
 )
-    requires { ⌜ PageAsks (mem (now bytes) (now keys) (now order) (now words)) page ⌝ }
-    ensures { λ _. let m = mem (now (bytes .entry)) (now (keys .entry)) (now (order .entry)) (now (words .entry)) in let m' = mem (now (bytes .exit)) (now (keys .exit)) (now (order .exit)) (now (words .exit)) in ⌜ (Shows (settingOf m) (freed (settingOf m) page (viewOf m)) m') × EntriesBut page m m' ⌝ }
+    requires { ⌜ PageAsks (mem (now bytes) (now keys) (now order) (now words)) (page .0) ⌝ }
+    ensures { λ _. let m = mem (now (bytes .entry)) (now (keys .entry)) (now (order .entry)) (now (words .entry)) in let m' = mem (now (bytes .exit)) (now (keys .exit)) (now (order .exit)) (now (words .exit)) in ⌜ (Shows (settingOf m) (freed (settingOf m) (page .0) (viewOf m)) m') × EntriesBut (page .0) m m' ⌝ }
 {
-    drop_chunks(bytes, keys, order, words, page, 0, 16777217);
+    drop_chunks(bytes, keys, order, words, page, 0, store::LAST_CHUNK + 1);
     unlist_page(bytes, keys, order, words, page);
 }

@@ -8,7 +8,7 @@ use lib.ListN.{set, replicate}
 use Rattle.index.specs.Index.{all, keyBefore, usedCount, indexed}
 use Rattle.store.specs.Mem.{mem}
 use Rattle.formed.specs.Pages.{dynamic}
-use Rattle.formed.specs.Formed.{zeros, heldRight, slotRight, sized, narrow, headRight, entryRight, journalOf, contents, wellFormed}
+use Rattle.formed.specs.Formed.{zeros, heldRight, slotRight, sized, narrow, headRight, entryRight, journalRight, contents, wellFormed}
 use Rattle.formed.specs.WellFormed.{WellFormed}
 use Rattle.formed.proofs.Meaning.{well-formed-means}
 
@@ -29,7 +29,7 @@ abbrev stained : ℕ → List ℕ → List ℕ → List ℕ → Bool
 stained b k o w = wellFormed (mem (set (replicate 576 0) b 1) k o w)
 
 pub passes : some keys₀ order₀ words₀ ≡ true
-unfolding wellFormed sized headRight narrow contents entryRight journalOf dynamic indexed all keyBefore usedCount slotRight heldRight zeros
+unfolding wellFormed sized headRight narrow contents entryRight journalRight dynamic indexed all keyBefore usedCount slotRight heldRight zeros
 passes = refl
 
 pub inhabited : WellFormed (mem (replicate 576 0) keys₀ order₀ words₀)
@@ -59,7 +59,7 @@ pub record Table : Type 0 where
   pub journal-full : some keys₀ order₀ (set words₀ 12 2) ≡ false
 
 pub table : Table
-unfolding wellFormed sized headRight narrow contents entryRight journalOf dynamic indexed all keyBefore usedCount slotRight heldRight zeros
+unfolding wellFormed sized headRight narrow contents entryRight journalRight dynamic indexed all keyBefore usedCount slotRight heldRight zeros
 table = record {
   miscounted = refl;
   two-chunks = refl;

@@ -9,20 +9,20 @@ use native.Mathlib.Omega.{arith}
 use lib.Dec.{leb, eqb}
 use lib.ListN.{length, getD, take, drop}
 use borrow.Author.Tests.{lt-ltb, le-ltb, le-leb, eq-eqb}
+use Rattle.store.specs.Keys.{keyOf, keyEntry, keyChunk}
 use Rattle.page_ids.specs.Decode.{badLayout}
 use Rattle.index.specs.Index.{all, indexed}
 use Rattle.index.proofs.Logic.{and-both, same-or-not, lt-or-ge}
 use Rattle.index.proofs.All.{all-intro}
 use Rattle.store.specs.Mem.{Mem, layoutOf, slotCount, journalWords, journalLength, heldNow, inUse, dynamicLength, holders, entries, slotOrder, pageOrder, chunks}
 use Rattle.formed.specs.Pages.{LayoutRule, dynamic, group, journalCount, journalPlace}
-use Rattle.formed.specs.Parts.{keyOf}
-use Rattle.formed.specs.Formed.{chunk, slotAt, sized, narrow, headRight, entryRight, noted, journalOf, contents, wellFormed}
-use Rattle.formed.specs.WellFormed.{holder, keyEntry, keyChunk, slotByte, Lengths, NotedRight}
+use Rattle.formed.specs.Formed.{chunk, slotAt, sized, narrow, headRight, entryRight, noted, journalRight, contents, wellFormed}
+use Rattle.formed.specs.WellFormed.{holder, slotByte, Lengths, NotedRight}
 use Rattle.formed.proofs.Bools.{or-left}
 use Rattle.formed.proofs.Sizes.{sized-test, holders-long, narrow-test}
 use Rattle.formed.proofs.Pages.{layout-test, page-test}
 use Rattle.formed.proofs.Slots.{zero-chunk, zero-tail, held-test, slot-pooled, slot-held}
-use Rattle.formed.proofs.Journals.{noted-test}
+use Rattle.formed.proofs.Noted.{noted-test}
 
 -- an entry past the fixed ones, in use with the number x, lists a page that is dynamic and below the dynamic length
 pub record PageRight (w : List ℕ) (x : ℕ) : Type 0 where
@@ -80,8 +80,8 @@ module _ (m : Mem) (f : Facts m) where
       ∙ held-test (entries m) (holder m s) (chunk (chunks m) s) (r .entry) (r .top) (λ e. zero-tail (chunks m) s (r .tail e)))
       (same-or-not (holder m s) 0)
 
-  journal-pass : (j : ℕ) → j < journalCount → journalOf (holders m) (m .words) j ≡ true
-  unfolding journalOf
+  journal-pass : (j : ℕ) → j < journalCount → journalRight (holders m) (m .words) j ≡ true
+  unfolding journalRight
   journal-pass j l =
       let c = f .in-capacity j l in
       and-both (leb (journalLength (m .words) j) (journalWords (m .words))) _ (le-leb (journalLength (m .words) j) (journalWords (m .words)) c)
@@ -98,4 +98,4 @@ module _ (m : Mem) (f : Facts m) where
       (and-both (indexed (holders m) (slotOrder m) (heldNow (m .words))) (indexed (entries m) (pageOrder m) (inUse (m .words))) (f .slots) (f .pages))
       (and-both (all (entryRight (m .words) (entries m)) (length (entries m))) _ (all-intro (entryRight (m .words) (entries m)) (length (entries m)) entry-pass)
       (and-both (all (slotAt (entries m) (holders m) (chunks m)) (length (holders m))) _ (all-intro (slotAt (entries m) (holders m) (chunks m)) (length (holders m)) slot-pass)
-      (all-intro (journalOf (holders m) (m .words)) journalCount journal-pass)))))
+      (all-intro (journalRight (holders m) (m .words)) journalCount journal-pass)))))

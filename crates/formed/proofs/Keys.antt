@@ -7,11 +7,10 @@ use Prim.Native.Nat.{ℕ, _≤_, _<_}
 use native.Mathlib.Nat.{lt-of-not-le}
 use native.Mathlib.Omega.{arith}
 use lib.ListN.{length, getD, List·getD-eq-default}
+use Rattle.store.specs.Keys.{keyOf, keyEntry, keyChunk}
 use Rattle.index.specs.Index.{seek}
 use Rattle.index.proofs.Logic.{lt-or-ge}
 use Rattle.index.proofs.Places.{seek-hit, seek-upto}
-use Rattle.formed.specs.Parts.{keyOf}
-use Rattle.formed.specs.WellFormed.{keyEntry, keyChunk}
 
 pub le-or-gt : (a b : ℕ) → (a ≤ b) ⊎ (b < a)
 le-or-gt a b = ⊎-elim (λ (l : b < a). inr l) (λ (l : a ≤ b). inl l) (lt-or-ge b a)

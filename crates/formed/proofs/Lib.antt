@@ -5,7 +5,7 @@ pub mod Sizes
 pub mod Pages
 pub mod Keys
 pub mod Slots
-pub mod Journals
+pub mod Noted
 pub mod Facts
 pub mod Stages
 pub mod Meaning

@@ -8,6 +8,7 @@ use native.Mathlib.Omega.{arith}
 use lib.Dec.{leb, eqb}
 use lib.ListN.{length, getD, take, drop, List·getD-eq-default}
 use borrow.Author.Tests.{lt-ltb, le-ltb, le-leb, lt-leb, leb-true, eqb-true}
+use Rattle.store.specs.Keys.{keyOf, keyEntry, keyChunk}
 use Rattle.page_ids.specs.Decode.{badLayout}
 use Rattle.index.specs.Index.{all, indexed, seek}
 use Rattle.index.proofs.Logic.{and-left, and-right, same-or-not, lt-or-ge}
@@ -16,15 +17,15 @@ use Rattle.index.proofs.Places.{seek-hit, seek-upto}
 use Rattle.index.proofs.Meaning.{index-means, index-test, once}
 use Rattle.store.specs.Mem.{Mem, layoutOf, slotCount, pageCount, journalWords, journalLength, heldNow, inUse, dynamicLength, holders, entries, slotOrder, pageOrder, chunks}
 use Rattle.formed.specs.Pages.{LayoutRule, fixedId, dynamic, group, fixed, journalCount, journalPlace, journalPage}
-use Rattle.formed.specs.Parts.{keyOf, entryOf, slotOfChunk, holds, byteAt, noteAddress, noteFirst, noteLast}
-use Rattle.formed.specs.Formed.{zeros, chunk, slotAt, sized, narrow, headRight, entryRight, noted, journalOf, contents, wellFormed}
-use Rattle.formed.specs.WellFormed.{holder, keyEntry, keyChunk, slotByte, Pooled, HeldAt, OnePlace, ListedAt, ListedPage, Lengths, NotedRight, WellFormed}
+use Rattle.formed.specs.Parts.{entryOf, slotOfChunk, holds, byteAt, noteAddress, noteFirst, noteLast}
+use Rattle.formed.specs.Formed.{zeros, chunk, slotAt, sized, narrow, headRight, entryRight, noted, journalRight, contents, wellFormed}
+use Rattle.formed.specs.WellFormed.{holder, slotByte, Pooled, HeldAt, OnePlace, ListedAt, ListedPage, Lengths, NotedRight, WellFormed}
 use Rattle.formed.proofs.Bools.{refute}
 use Rattle.formed.proofs.Sizes.{lengths-are, holders-long, entries-long, chunks-long, width-head, width-length}
 use Rattle.formed.proofs.Pages.{layout-rule, fixed-id, is-fixed, place-lt, page-means}
 use Rattle.formed.proofs.Keys.{le-or-gt, in-table, seek-is, same-key, key-chunk, key-again}
 use Rattle.formed.proofs.Slots.{chunk-zero, tail-zero, held-means, slot-pool, slot-hold}
-use Rattle.formed.proofs.Journals.{noted-means}
+use Rattle.formed.proofs.Noted.{noted-means}
 use Rattle.formed.proofs.Facts.{SlotRight, Facts, facts-pass}
 
 -- ---- THE TEST MEANS THE SENTENCE
@@ -48,7 +49,7 @@ module _ (m : Mem) (f : wellFormed m ≡ true) where
   T₂ = all (slotAt (entries m) (holders m) (chunks m)) (length (holders m))
 
   abbrev T₃ : Bool
-  T₃ = all (journalOf (holders m) (m .words)) journalCount
+  T₃ = all (journalRight (holders m) (m .words)) journalCount
 
   len : Lengths m
   unfolding wellFormed
@@ -187,18 +188,18 @@ module _ (m : Mem) (f : wellFormed m ≡ true) where
       (lt-or-ge (keyEntry (holder m s)) 4)
 
   -- the journals
-  journal-right : (j : ℕ) → j < journalCount → journalOf (holders m) (m .words) j ≡ true
-  journal-right j l = all-at (journalOf (holders m) (m .words)) journalCount j t₃ l
+  journal-right : (j : ℕ) → j < journalCount → journalRight (holders m) (m .words) j ≡ true
+  journal-right j l = all-at (journalRight (holders m) (m .words)) journalCount j t₃ l
 
   abbrev J₂ : ℕ → Bool
   J₂ j = all (noted (holders m) (take (3 * journalWords (m .words)) (drop (16 + 3 * journalWords (m .words) * j) (m .words))) (keyOf (journalPlace j) 0)) (journalLength (m .words) j)
 
   room : (j : ℕ) → j < journalCount → journalLength (m .words) j ≤ journalWords (m .words)
-  unfolding journalOf
+  unfolding journalRight
   room j l = leb-true (journalLength (m .words) j) (journalWords (m .words)) (and-left (leb (journalLength (m .words) j) (journalWords (m .words))) (J₂ j) (journal-right j l))
 
   note : (j i : ℕ) → j < journalCount → i < journalLength (m .words) j → NotedRight m j i
-  unfolding journalOf
+  unfolding journalRight
   note j i l h =
       let c = room j l in
       noted-means m j i (omega arith)

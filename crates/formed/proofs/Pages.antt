@@ -208,6 +208,11 @@ place-lt zero l = omega arith
 place-lt (suc zero) l = omega arith
 place-lt (suc (suc j)) l = absurd (omega arith)
 
+pub place-other : (j : ℕ) → j < journalCount → (j ≡ 0 → ⊥) → 3 ≡ journalPlace j
+place-other zero l n = absurd (n refl)
+place-other (suc zero) l n = refl
+place-other (suc (suc j)) l n = absurd (omega arith)
+
 -- an entry past the fixed ones
 module _ (l : Layout) (d x p : ℕ) (e : x ≡ p + 1) where
   less : x - 1 ≡ p

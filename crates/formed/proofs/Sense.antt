@@ -8,6 +8,7 @@ use native.Mathlib.Omega.{arith}
 use lib.Dec.{ltb}
 use lib.ListN.{length, getD, List·getD-eq-default}
 use borrow.Author.Tests.{lt-ltb, le-leb, lt-leb, ltb-true, ltb-false}
+use Rattle.store.specs.Keys.{keyOf, keyEntry, keyChunk}
 use Rattle.index.specs.Index.{seek}
 use Rattle.index.proofs.Logic.{lt-or-ge}
 use Rattle.index.proofs.Counts.{used-free}
@@ -15,8 +16,8 @@ use Rattle.index.proofs.Orders.{index-count}
 use Rattle.index.proofs.Places.{seek-hit, seek-upto}
 use Rattle.store.specs.Mem.{Mem, layoutOf, slotCount, pageCount, heldNow, inUse, holders, entries, slotOrder, pageOrder, chunks}
 use Rattle.formed.specs.Pages.{fixed}
-use Rattle.formed.specs.Parts.{keyOf, entryOf, allocated, entriesLeft, slotOfChunk, holds, pool, byteAt}
-use Rattle.formed.specs.WellFormed.{holder, keyEntry, keyChunk, slotByte, HeldAt, OnePlace, ListedPage, WellFormed}
+use Rattle.formed.specs.Parts.{entryOf, allocated, entriesLeft, slotOfChunk, holds, pool, byteAt}
+use Rattle.formed.specs.WellFormed.{holder, slotByte, HeldAt, OnePlace, ListedPage, WellFormed}
 use Rattle.formed.proofs.Bools.{refute}
 use Rattle.formed.proofs.Sizes.{holders-long, entries-long, chunks-long}
 use Rattle.formed.proofs.Pages.{is-fixed, fixed-at}

@@ -13,8 +13,8 @@ use lib.Dec.{ltb, leb, eqb}
 use lib.ListN.{length, getD, take, drop, length-drop}
 use lib.Seq.{drop-cons, drop-length, getD-take, getD-drop}
 use borrow.Author.Tests.{lt-ltb, le-leb, eq-eqb, ne-eqb, leb-true, ltb-true, eqb-true}
+use Rattle.store.specs.Keys.{keyEntry, keyChunk}
 use Rattle.index.proofs.Logic.{and-left, and-right, and-both, same-or-not}
-use Rattle.formed.specs.WellFormed.{keyEntry, keyChunk}
 use Rattle.formed.specs.Formed.{zeros, chunk, heldRight, slotRight, slotAt}
 
 or-zero : (a b : ℕ) → eqb (bitOr a b) 0 ≡ (eqb a 0 && eqb b 0)

@@ -11,7 +11,7 @@ use Rattle.index.proofs.Logic.{and-left}
 use Rattle.store.specs.Mem.{Mem, layoutOf, slotCount, heldNow, inUse, holders, entries, slotOrder, pageOrder, chunks}
 use Rattle.store.proofs.Parts.{sub-zero, rest-part}
 use Rattle.formed.specs.Pages.{journalCount}
-use Rattle.formed.specs.Formed.{narrow, headRight, entryRight, slotAt, journalOf, contents, sized, wellFormed}
+use Rattle.formed.specs.Formed.{narrow, headRight, entryRight, slotAt, journalRight, contents, sized, wellFormed}
 use Rattle.formed.proofs.Bools.{and-stop, and-pass}
 
 pub head-narrow : (w : List ℕ) → headRight w ≡ true → narrow w ≡ true
@@ -30,7 +30,7 @@ module _ (m : Mem) where
       ≡ all (slotAt (entries m) (holders m) (chunks m)) (length (holders m))
   lent-slots = rw (rest-part (m .keys) c, sub-zero c, sub-zero (256 * c))
 
-  pub lent-journals : all (journalOf (take (c - 0) (m .keys)) (m .words)) journalCount ≡ all (journalOf (holders m) (m .words)) journalCount
+  pub lent-journals : all (journalRight (take (c - 0) (m .keys)) (m .words)) journalCount ≡ all (journalRight (holders m) (m .words)) journalCount
   lent-journals = rw (sub-zero c)
 
   -- tables, pages, slots, journals
@@ -44,7 +44,7 @@ module _ (m : Mem) where
   T₂ = all (slotAt (entries m) (holders m) (chunks m)) (length (holders m))
 
   abbrev T₃ : Bool
-  T₃ = all (journalOf (holders m) (m .words)) journalCount
+  T₃ = all (journalRight (holders m) (m .words)) journalCount
 
   pub stop-tables : X ≡ false → false ≡ (X && contents m)
   stop-tables x = and-stop X (contents m) x

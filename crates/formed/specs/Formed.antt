@@ -5,12 +5,12 @@ use mathlib.Core.List.{List, [], _∷_}
 use Prim.Native.Nat.{ℕ, _+_, _*_, _-_, _/_, _%_}
 use lib.Dec.{ltb, leb, eqb}
 use lib.ListN.{length, getD, take, drop}
+use Rattle.store.specs.Keys.{lastChunk, keyOf, keyEntry, keyChunk}
 use Rattle.page_ids.specs.Decode.{badLayout}
 use Rattle.index.specs.Index.{all, indexed}
 use Rattle.store.specs.Mem.{Mem, headLength, layoutOf, slotCount, pageCount, journalWords, heldNow, inUse, dynamicLength, journalLength, holders, entries, slotOrder, pageOrder, chunks}
 use Rattle.formed.specs.Pages.{dynamic, group, journalCount, journalPlace}
 use Rattle.formed.specs.Buffers.{lengthsFit}
-use Rattle.formed.specs.Parts.{keyOf}
 
 -- the counts are in bounds, and the lengths b, k, o of the other buffers and that of w are those for them
 unfoldable pub sized : ℕ → ℕ → ℕ → List ℕ → Bool
@@ -46,7 +46,7 @@ chunk bs s = take 256 (drop (256 * s) bs)
 -- the holder k has an entry that is in use, and a chunk number up to 16,777,216, whose bytes from 31 on are zero if it is that one
 unfoldable pub heldRight : List ℕ → ℕ → List ℕ → Bool
 heldRight es k b =
-    ltb 0 (getD es ((k - 1) / 33554432) 0) && (leb ((k - 1) % 33554432) 16777216 && cond (eqb ((k - 1) % 33554432) 16777216) (zeros (drop 31 b)) true)
+    ltb 0 (getD es (keyEntry k) 0) && (leb (keyChunk k) lastChunk && cond (eqb (keyChunk k) lastChunk) (zeros (drop 31 b)) true)
 
 -- a pooled chunk is zero, a held one is rightly held
 unfoldable pub slotRight : List ℕ → ℕ → List ℕ → Bool
@@ -62,8 +62,8 @@ noted hs ns k i =
     && (eqb (getD hs (getD ns (3 * i + 1) 0) 0) (k + getD ns (3 * i) 0 / 256) && eqb (getD hs (getD ns (3 * i + 2) 0) 0) (k + (getD ns (3 * i) 0 + 31) / 256))
 
 -- journal j is within its room, and the chunks of each of its words are held
-unfoldable pub journalOf : List ℕ → List ℕ → ℕ → Bool
-journalOf hs w j =
+unfoldable pub journalRight : List ℕ → List ℕ → ℕ → Bool
+journalRight hs w j =
     leb (journalLength w j) (journalWords w)
     && all (noted hs (take (3 * journalWords w) (drop (headLength + 3 * journalWords w * j) w)) (keyOf (journalPlace j) 0)) (journalLength w j)
 
@@ -72,7 +72,7 @@ unfoldable pub contents : Mem → Bool
 contents m =
     all (entryRight (m .words) (entries m)) (length (entries m))
     && (all (slotAt (entries m) (holders m) (chunks m)) (length (holders m))
-    && all (journalOf (holders m) (m .words)) journalCount)
+    && all (journalRight (holders m) (m .words)) journalCount)
 
 -- WELL FORMED: refusal 3 is that this is false
 unfoldable pub wellFormed : Mem → Bool

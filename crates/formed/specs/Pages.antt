@@ -40,3 +40,8 @@ journalPlace (suc (suc j)) = 4
 
 abbrev pub journalPage : Layout → ℕ → ℕ
 journalPage l j = fixedId l (journalPlace j)
+
+-- j is the number of page p's journal, or p has none and j is the number of journals
+pub record JournalOf (l : Layout) (p j : ℕ) : Type 0 where
+  pub own : j < journalCount → p ≡ journalPage l j
+  pub none : journalCount ≤ j → (i : ℕ) → i < journalCount → p ≡ journalPage l i → ⊥

@@ -5,6 +5,8 @@ use mathlib.Core.List.{List, [], _∷_}
 use Prim.Native.Nat.{ℕ, zero, suc, _+_, _*_, _/_, _%_}
 use lib.Dec.{ltb, leb}
 use lib.ListN.{length, getD}
+use Rattle.store.specs.Keys.{lastChunk}
+use Rattle.store.specs.Find.{slotFor}
 use Rattle.index.specs.Index.{seek, freeCount}
 use Rattle.store.specs.Mem.{Mem, headLength, slotCount, journalWords, journalLength, holders, entries, chunks}
 
@@ -24,13 +26,9 @@ allocated m p = ltb (entryOf m p) (length (entries m))
 abbrev pub entriesLeft : Mem → ℕ
 entriesLeft m = freeCount (entries m)
 
--- the key of chunk k of the page at entry e
-abbrev pub keyOf : ℕ → ℕ → ℕ
-keyOf e k = e * 33554432 + k + 1
-
--- the slot of chunk k of page p, or the number of slots; no chunk lies above 16,777,216
+-- the slot of chunk k of page p, or the number of slots; no chunk lies above the last one
 unfoldable pub slotOfChunk : Mem → ℕ → ℕ → ℕ
-slotOfChunk m p k = cond (leb k 16777216) (seek (holders m) (keyOf (entryOf m p) k)) (slotCount (m .words))
+slotOfChunk m p k = cond (leb k lastChunk) (slotFor (m .keys) (m .words) p k) (slotCount (m .words))
 
 unfoldable pub holds : Mem → ℕ → ℕ → Bool
 holds m p k = ltb (slotOfChunk m p k) (slotCount (m .words))

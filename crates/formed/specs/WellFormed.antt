@@ -3,24 +3,19 @@
 use mathlib.Core.Path.{_≡_}
 use mathlib.Core.Bool.{true}
 use mathlib.Core.Logic.{_⊎_}
-use Prim.Native.Nat.{ℕ, _+_, _*_, _-_, _/_, _%_, _<_, _≤_}
+use Prim.Native.Nat.{ℕ, _+_, _*_, _/_, _<_, _≤_}
 use lib.ListN.{length, getD}
+use Rattle.store.specs.Keys.{lastChunk, keyOf, keyEntry, keyChunk}
 use Rattle.index.specs.Index.{Index}
 use Rattle.store.specs.Mem.{Mem, layoutOf, slotCount, pageCount, journalWords, heldNow, inUse, dynamicLength, journalLength, holders, entries, slotOrder, pageOrder, chunks}
 use Rattle.formed.specs.Pages.{LayoutRule, fixedId, fixed, dynamic, group, journalCount, journalPlace, journalPage}
 use Rattle.formed.specs.Buffers.{bytesFor, keysFor, orderFor, wordsFor}
-use Rattle.formed.specs.Parts.{keyOf, holds, byteAt, noteAddress, noteFirst, noteLast}
+use Rattle.formed.specs.Parts.{holds, byteAt, noteAddress, noteFirst, noteLast}
 
 -- ---- chunks by slot, pages by entry: the words in which the sentence speaks of page ids and chunk numbers
--- the key that slot s holds, 0 where it is pooled; the entry and the chunk number of a key
+-- the key that slot s holds, 0 where it is pooled
 abbrev pub holder : Mem → ℕ → ℕ
 holder m s = getD (holders m) s 0
-
-abbrev pub keyEntry : ℕ → ℕ
-keyEntry k = (k - 1) / 33554432
-
-abbrev pub keyChunk : ℕ → ℕ
-keyChunk k = (k - 1) % 33554432
 
 -- byte r of slot s
 abbrev pub slotByte : Mem → ℕ → ℕ → ℕ
@@ -89,7 +84,7 @@ pub record WellFormed (m : Mem) : Type 0 where
   -- no place has two chunks
   pub no-two : (s t p k : ℕ) → HeldAt m s p k → HeldAt m t p k → s ≡ t
   -- and none lies above chunk 16,777,216
-  pub none-above : (s p k : ℕ) → HeldAt m s p k → k ≤ 16777216
+  pub none-above : (s p k : ℕ) → HeldAt m s p k → k ≤ lastChunk
   -- bytes past 4,294,967,326 are zero
   pub zero-past : (p a : ℕ) → 4294967326 < a → byteAt m p a ≡ 0
   -- pooled chunks are zero

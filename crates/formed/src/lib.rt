@@ -10,7 +10,7 @@ ghost use Rattle.formed.specs.Formed.{narrow, contents, wellFormed};
 
 pub mod entry;
 pub mod head;
-pub mod journal;
+pub mod journals;
 pub mod slot;
 
 // Whether the slots and the entries are indexed. Both tables are cut at c; n slots are held, u entries are in use.
@@ -47,7 +47,7 @@ fn parts_ok(bytes: &[u8], keys: &[u64], order: &[u32], words: &[u64]) -> bool
     if !slot::slots_ok(&keys[c..], &keys[0..c], &bytes[0..end]) {
         return false;
     }
-    journal::journals_ok(&keys[0..c], words)
+    journals::journals_ok(&keys[0..c], words)
 }
 
 // Whether a lent memory is well formed.

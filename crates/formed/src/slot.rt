@@ -23,18 +23,18 @@ fn held_ok(entries: &[u64], k: u64, chunk: &[u8]) -> bool
     requires { ⌜ (0 < k) × (length (now chunk) ≡ 256) ⌝ }
     ensures { λ r. ⌜ r ≡ heldRight (now (entries .entry)) k (now (chunk .entry)) ⌝ }
 {
-    let e = ((k - 1) / 33554432) as usize;
+    let e = store::key_entry(k);
     if entries.len() <= e {
         return false;
     }
     if entries[e] == 0 {
         return false;
     }
-    let c = (k - 1) % 33554432;
-    if 16777216 < c {
+    let c = store::key_chunk(k);
+    if c > store::LAST_CHUNK as u64 {
         return false;
     }
-    if c == 16777216 {
+    if c == store::LAST_CHUNK as u64 {
         return all_zero(&chunk[31..]);
     }
     true

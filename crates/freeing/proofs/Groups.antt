@@ -10,6 +10,7 @@ use lib.Dec.{leb, ltb, eqb}
 use lib.ListN.{length, getD, set, take, drop, length-set}
 use lib.Seq.{getD-set-same, getD-set-other, getD-drop}
 use borrow.Author.Tests.{ltb-true, le-leb, eq-eqb, ne-eqb}
+use Rattle.store.specs.Keys.{keyEntry}
 use Rattle.index.specs.Index.{indexed, freeCount}
 use Rattle.index.proofs.Logic.{same-or-not, lt-or-ge, and-right}
 use Rattle.index.proofs.Places.{seek-hit}
@@ -17,7 +18,7 @@ use Rattle.page_ids.specs.declared.Layout.{Layout}
 use Rattle.store.specs.Mem.{Mem, mem, headLength, layoutOf, slotCount, pageCount, journalWords, journalLength, dynamicLength, heldNow, inUse, holders, entries}
 use Rattle.formed.specs.Pages.{LayoutRule, dynamic, group, journalCount}
 use Rattle.formed.specs.Parts.{Note, tab, entryOf, allocated, slotOfChunk, holds, byteAt, journal, noteAddress, oldAt}
-use Rattle.formed.specs.WellFormed.{WellFormed, Lengths, NotedRight, keyEntry}
+use Rattle.formed.specs.WellFormed.{WellFormed, Lengths, NotedRight}
 use Rattle.formed.proofs.Same.{layout-same, tab-same}
 use Rattle.formed.proofs.Sizes.{entries-long}
 use Rattle.formed.proofs.Pages.{is-fixed}

@@ -16,8 +16,8 @@ use store::head;
 pub mod steps;
 
 // The number with which a free is refused, or 0.
-fn free_refusal(bytes: &[u8], keys: &[u64], order: &[u32], words: &[u64], page: u32) -> u32
-    ensures { λ r. let m = mem (now (bytes .entry)) (now (keys .entry)) (now (order .entry)) (now (words .entry)) in ⌜ r ≡ refusalNumber (onMemory m (freeChecks (settingOf m) (viewOf m) page) nothing) ⌝ }
+fn free_refusal(bytes: &[u8], keys: &[u64], order: &[u32], words: &[u64], page: PageId) -> u32
+    ensures { λ r. let m = mem (now (bytes .entry)) (now (keys .entry)) (now (order .entry)) (now (words .entry)) in ⌜ r ≡ refusalNumber (onMemory m (freeChecks (settingOf m) (viewOf m) (page .0)) nothing) ⌝ }
 {
     if !formed::well_formed(bytes, keys, order, words) {
         return 3;
@@ -45,18 +45,18 @@ pub fn deallocate(
 ) -> Answer
     ensures { λ r. ⌜ CallDoes (mem (now (bytes .entry)) (now (keys .entry)) (now (order .entry)) (now (words .entry))) (Call.Free (page .0)) (answerOutcome nothing r) (mem (now (bytes .exit)) (now (keys .exit)) (now (order .exit)) (now (words .exit))) ⌝ }
 {
-    let refusal = free_refusal(bytes, keys, order, words, page.0);
+    let refusal = free_refusal(bytes, keys, order, words, page);
     if refusal != 0 {
         return Answer::Refused(refusal);
     }
-    drops::free_page(bytes, keys, order, words, page.0);
+    drops::free_page(bytes, keys, order, words, page);
     Answer::Done
 }
 
 // Whether a page is dynamic and allocated.
-fn is_dynamic(bytes: &[u8], keys: &[u64], order: &[u32], words: &[u64], page: u32) -> bool
+fn is_dynamic(bytes: &[u8], keys: &[u64], order: &[u32], words: &[u64], page: PageId) -> bool
     requires { ⌜ WellFormed (mem (now bytes) (now keys) (now order) (now words)) ⌝ }
-    ensures { λ r. let m = mem (now (bytes .entry)) (now (keys .entry)) (now (order .entry)) (now (words .entry)) in ⌜ r ≡ (dynamic (layoutOf (now (words .entry))) page && viewOf m .allocated page) ⌝ }
+    ensures { λ r. let m = mem (now (bytes .entry)) (now (keys .entry)) (now (order .entry)) (now (words .entry)) in ⌜ r ≡ (dynamic (layoutOf (now (words .entry))) (page .0) && viewOf m .allocated (page .0)) ⌝ }
 {
     let decoded = checks::decode(bytes, keys, order, words, page);
     if page_ids::is_undecodable(decoded) {
@@ -83,10 +83,10 @@ pub fn compact_to_window(
     if !formed::well_formed(bytes, keys, order, words) {
         return Answer::Refused(3);
     }
-    if !is_dynamic(bytes, keys, order, words, page.0) {
+    if !is_dynamic(bytes, keys, order, words, page) {
         return Answer::Done;
     }
-    steps::retain_window(bytes, keys, order, words, page.0, start.0, length);
+    steps::retain_window(bytes, keys, order, words, page, start, length);
     Answer::Done
 }
 

@@ -9,15 +9,17 @@ ghost use Rattle.view.specs.Steps.{windowed, shortened};
 ghost use Rattle.view.specs.Does.{Shows};
 ghost use Rattle.drops.specs.Drops.{PageAsks};
 ghost use Rattle.freeing.specs.Freeing.{windowEnd, emptied, isFrom, VisitAsks, Visited, ShortenAsks};
+use page_ids::Address;
+use page_ids::PageId;
 use store::head;
 
 // The first chunk past a window, or past the page.
-fn window_end(start: u32, length: u32) -> u32
-    ensures { λ r. ⌜ r ≡ windowEnd start length ⌝ }
+fn window_end(start: Address, length: u32) -> u32
+    ensures { λ r. ⌜ r ≡ windowEnd (start .0) length ⌝ }
 {
-    let end = (start / 256) as u64 + checks::touched(start, length as usize);
-    if 16777217 <= end {
-        return 16777217;
+    let end = (start.0 / 256) as u64 + checks::touched(start, length as usize);
+    if end > store::LAST_CHUNK as u64 {
+        return store::LAST_CHUNK + 1;
     }
     end as u32
 }
@@ -28,16 +30,16 @@ pub fn retain_window(
     keys: &mut [u64],
     order: &mut [u32],
     words: &mut [u64],
-    page: u32,
-    start: u32,
+    page: PageId,
+    start: Address,
     length: u32,
 )
-    requires { ⌜ PageAsks (mem (now bytes) (now keys) (now order) (now words)) page ⌝ }
-    ensures { λ _. let m = mem (now (bytes .entry)) (now (keys .entry)) (now (order .entry)) (now (words .entry)) in ⌜ Shows (settingOf m) (windowed (settingOf m) page start length (viewOf m)) (mem (now (bytes .exit)) (now (keys .exit)) (now (order .exit)) (now (words .exit))) ⌝ }
+    requires { ⌜ PageAsks (mem (now bytes) (now keys) (now order) (now words)) (page .0) ⌝ }
+    ensures { λ _. let m = mem (now (bytes .entry)) (now (keys .entry)) (now (order .entry)) (now (words .entry)) in ⌜ Shows (settingOf m) (windowed (settingOf m) (page .0) (start .0) length (viewOf m)) (mem (now (bytes .exit)) (now (keys .exit)) (now (order .exit)) (now (words .exit))) ⌝ }
 {
     let end = window_end(start, length);
-    drops::drop_chunks(bytes, keys, order, words, page, 0, start / 256);
-    drops::drop_chunks(bytes, keys, order, words, page, end, 16777217);
+    drops::drop_chunks(bytes, keys, order, words, page, 0, start.0 / 256);
+    drops::drop_chunks(bytes, keys, order, words, page, end, store::LAST_CHUNK + 1);
 }
 
 // Whether an entry's number tells a page of a group from `len` up.
@@ -65,7 +67,7 @@ fn free_entry(
 {
     let x = keys[words[head::CHUNKS] as usize + e];
     if is_from(words, x, len) {
-        drops::free_page(bytes, keys, order, words, (x - 1) as u32);
+        drops::free_page(bytes, keys, order, words, PageId((x - 1) as u32));
     }
 }
 

@@ -60,7 +60,7 @@ pub fn load(
         return parts::panicked(after);
     }
     let page = parts::page_of(frame, area);
-    let address = word::low_u32(operand.word);
+    let address = Address(word::low_u32(operand.word));
     let read = reads::steps::read_word(bytes, keys, order, words, page, address);
     let word = word::from_big_endian(read);
     parts::carried_out(
@@ -95,7 +95,7 @@ pub fn store(
         return parts::panicked(after);
     }
     let page = parts::page_of(frame, area);
-    let address = word::low_u32(operand.word);
+    let address = Address(word::low_u32(operand.word));
     let number = parts::store_refusal(bytes, keys, order, words, page, address, word, hook);
     if number != 0 {
         return parts::refused(number, frame);
@@ -131,9 +131,10 @@ pub fn load_pointer(
         return parts::refused(14, frame);
     }
     let end = pointer.start + pointer.length;
-    let start = pointer.start + parts::lesser(pointer.offset, pointer.length);
-    let n = parts::count(start, end);
-    let page = pointer.memory_page.0;
+    let first = pointer.start + parts::lesser(pointer.offset, pointer.length);
+    let n = parts::count(first, end);
+    let page = pointer.memory_page;
+    let start = Address(first);
     let read = reads::steps::read_padded(bytes, keys, order, words, page, start, n);
     let word = word::from_big_endian(read);
     parts::carried_out(ExecutionStatus::Running, word, operand, true, frame)
@@ -157,7 +158,7 @@ pub fn load_static(
         return parts::panicked(frame);
     }
     let page = parts::static_page(bytes, keys, order, words);
-    let address = word::low_u32(operand.word);
+    let address = Address(word::low_u32(operand.word));
     let read = reads::steps::read_word(bytes, keys, order, words, page, address);
     let word = word::from_big_endian(read);
     parts::carried_out(
@@ -188,7 +189,7 @@ pub fn store_static(
         return parts::panicked(frame);
     }
     let page = parts::static_page(bytes, keys, order, words);
-    let address = word::low_u32(operand.word);
+    let address = Address(word::low_u32(operand.word));
     let refusal = checks::word_checks(bytes, keys, order, words, page, address);
     if refusal != 0 {
         return parts::refused(refusal, frame);

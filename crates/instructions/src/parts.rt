@@ -19,6 +19,7 @@ use crate::ExecutionStatus;
 use crate::Hook;
 use crate::Operand;
 use page_ids::Address;
+use page_ids::PageId;
 use state::Area;
 use state::Frame;
 use state::Step;
@@ -26,24 +27,24 @@ use word::Word;
 
 // ---- pages and growth
 
-pub fn page_of(frame: Frame, area: Area) -> u32
-    ensures { λ r. ⌜ r ≡ heapOf frame area ⌝ }
+pub fn page_of(frame: Frame, area: Area) -> PageId
+    ensures { λ r. ⌜ r .0 ≡ heapOf frame area ⌝ }
 {
     match area {
-        Area::Heap => frame.heap.0,
-        Area::Aux => frame.aux.0,
+        Area::Heap => frame.heap,
+        Area::Aux => frame.aux,
     }
 }
 
-pub fn static_page(bytes: &[u8], keys: &[u64], order: &[u32], words: &[u64]) -> u32
+pub fn static_page(bytes: &[u8], keys: &[u64], order: &[u32], words: &[u64]) -> PageId
     requires { ⌜ WellFormed (mem (now bytes) (now keys) (now order) (now words)) ⌝ }
-    ensures { λ r. ⌜ r ≡ staticOf (layoutOf (now (words .entry))) ⌝ }
+    ensures { λ r. ⌜ r .0 ≡ staticOf (layoutOf (now (words .entry))) ⌝ }
 {
     let layout = formed::head::layout_of(words);
-    layout.static_memory.0
+    layout.static_memory
 }
 
-// The access of a load or a store: paid, or not, and then the frame is that of the panic, without its mark.
+// Pays for the growth of a load or a store. If it is not paid, the step has the frame of the panic, with `panicked` not yet set.
 pub fn reach(frame: Frame, area: Area, operand: Word) -> Step
     ensures { λ r. ⌜ r ≡ frameAccessed frame area (value (operand .limbs)) ⌝ }
 {
@@ -61,13 +62,13 @@ pub fn reach(frame: Frame, area: Area, operand: Word) -> Step
 
 // ---- the hook
 
-pub fn hits(hook: Hook, address: u32) -> bool
-    ensures { λ r. ⌜ r ≡ hooked (hookOf hook) address ⌝ }
+pub fn hits(hook: Hook, address: Address) -> bool
+    ensures { λ r. ⌜ r ≡ hooked (hookOf hook) (address .0) ⌝ }
 {
     if !hook.on {
         return false;
     }
-    address == hook.address.0
+    address.0 == hook.address.0
 }
 
 // Which refusal a store to a well-formed memory gets, or 0.
@@ -76,13 +77,13 @@ pub fn store_refusal(
     keys: &[u64],
     order: &[u32],
     words: &[u64],
-    page: u32,
-    address: u32,
+    page: PageId,
+    address: Address,
     word: Word,
     hook: Hook,
 ) -> u32
     requires { ⌜ WellFormed (mem (now bytes) (now keys) (now order) (now words)) ⌝ }
-    ensures { λ r. ⌜ r ≡ firstRefusal (wordWriteChecks (settingOf (mem (now (bytes .entry)) (now (keys .entry)) (now (order .entry)) (now (words .entry)))) (viewOf (mem (now (bytes .entry)) (now (keys .entry)) (now (order .entry)) (now (words .entry)))) page address ++ ((hooked (hookOf hook) address && ltb 4294967295 (value (word .limbs)), refused 15) ∷ [])) ⌝ }
+    ensures { λ r. ⌜ r ≡ firstRefusal (wordWriteChecks (settingOf (mem (now (bytes .entry)) (now (keys .entry)) (now (order .entry)) (now (words .entry)))) (viewOf (mem (now (bytes .entry)) (now (keys .entry)) (now (order .entry)) (now (words .entry)))) (page .0) (address .0) ++ ((hooked (hookOf hook) (address .0) && ltb 4294967295 (value (word .limbs)), refused 15) ∷ [])) ⌝ }
 {
     let refusal = checks::word_checks(bytes, keys, order, words, page, address);
     if refusal != 0 {
@@ -97,8 +98,8 @@ pub fn store_refusal(
     15
 }
 
-pub fn stop_of(hook: Hook, address: u32, word: Word) -> ExecutionStatus
-    ensures { λ r. ⌜ r ≡ cond (hooked (hookOf hook) address) (ExecutionStatus.SuspendedOnHook (value (word .limbs) % 2 ^ 32)) ExecutionStatus.Running ⌝ }
+pub fn stop_of(hook: Hook, address: Address, word: Word) -> ExecutionStatus
+    ensures { λ r. ⌜ r ≡ cond (hooked (hookOf hook) (address .0)) (ExecutionStatus.SuspendedOnHook (value (word .limbs) % 2 ^ 32)) ExecutionStatus.Running ⌝ }
 {
     if hits(hook, address) {
         return ExecutionStatus::SuspendedOnHook(word::low_u32(word));
@@ -132,7 +133,7 @@ fn alone(status: ExecutionStatus, frame: Frame) -> Execution
 }
 
 pub fn refused(number: u32, frame: Frame) -> Execution
-    ensures { λ r. ⌜ (r .status ≡ ExecutionStatus.Refused firstRefusal) × (resultOf r ≡ frameAlone frame) ⌝ }
+    ensures { λ r. ⌜ (r .status ≡ ExecutionStatus.Refused number) × (resultOf r ≡ frameAlone frame) ⌝ }
 {
     alone(ExecutionStatus::Refused(number), frame)
 }

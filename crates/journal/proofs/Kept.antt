@@ -8,12 +8,13 @@ use native.Mathlib.Omega.{arith}
 use lib.Dec.{ltb, leb}
 use lib.ListN.{length, getD, take, drop}
 use lib.Seq.{getD-take, length-take-le, ext-getD}
+use Rattle.store.specs.Keys.{keyOf, keyEntry}
 use Rattle.page_ids.specs.declared.Layout.{Layout}
 use Rattle.index.specs.Index.{indexed, seek, freeCount}
 use Rattle.store.specs.Mem.{Mem, mem, layoutOf, slotCount, journalWords, journalLength, heldNow, inUse, dynamicLength, holders, entries, slotOrder, pageOrder, chunks}
 use Rattle.formed.specs.Pages.{LayoutRule, dynamic, group, journalCount, journalPlace}
-use Rattle.formed.specs.Parts.{keyOf, tab, Note, byteAt, slotOfChunk, holds, pool, allocated, entriesLeft, journal, noteAddress, noteFirst, noteLast}
-use Rattle.formed.specs.WellFormed.{holder, keyEntry, Lengths, NotedRight}
+use Rattle.formed.specs.Parts.{tab, Note, byteAt, slotOfChunk, holds, pool, allocated, entriesLeft, journal, noteAddress, noteFirst, noteLast}
+use Rattle.formed.specs.WellFormed.{holder, Lengths, NotedRight}
 use Rattle.formed.proofs.Facts.{Facts, SlotRight, PageRight}
 use Rattle.view.specs.View.{View, settingOf, viewOf}
 use Rattle.view.proofs.Equal.{view-by}

@@ -30,8 +30,3 @@ number-apart r j k i x li lx e =
     (λ (n : j ≡ k → ⊥).
     ⊎-elim (λ (l : j < k). absurd (before r j k i x l li e)) (λ (l : k ≤ j). absurd (before r k j x i (omega arith) lx (sym e))) (lt-or-ge j k))
     (same-or-not j k)
-
-pub place-other : (j : ℕ) → j < journalCount → (j ≡ 0 → ⊥) → 3 ≡ journalPlace j
-place-other zero l n = absurd (n refl)
-place-other (suc zero) l n = refl
-place-other (suc (suc j)) l n = absurd (omega arith)

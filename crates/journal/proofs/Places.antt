@@ -7,13 +7,14 @@ use Prim.Native.Nat.{ℕ, _+_, _*_, _≤_, _<_}
 use native.Mathlib.Omega.{arith}
 use lib.ListN.{getD}
 use borrow.Author.Tests.{ltb-true}
+use Rattle.store.specs.Keys.{keyOf, keyEntry, keyChunk}
 use Rattle.index.specs.Index.{seek}
 use Rattle.index.proofs.Places.{seek-hit}
 use Rattle.store.specs.Mem.{Mem, mem, layoutOf, slotCount, holders, entries}
 use Rattle.store.specs.Hold.{Indexed}
 use Rattle.formed.specs.Pages.{journalCount, journalPlace, journalPage}
-use Rattle.formed.specs.Parts.{keyOf, entryOf, slotOfChunk, holds}
-use Rattle.formed.specs.WellFormed.{WellFormed, HeldAt, holder, keyEntry, keyChunk}
+use Rattle.formed.specs.Parts.{entryOf, slotOfChunk, holds}
+use Rattle.formed.specs.WellFormed.{WellFormed, HeldAt, holder}
 use Rattle.formed.proofs.Sizes.{holders-long}
 use Rattle.formed.proofs.Pages.{place-lt}
 use Rattle.formed.proofs.Keys.{seek-is, key-entry, key-chunk}

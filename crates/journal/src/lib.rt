@@ -2,7 +2,7 @@
 ghost use mathlib.Core.Path.{_≡_};
 ghost use Prim.Native.Nat.{_+_, _*_, _<_};
 ghost use Rattle.store.specs.Mem.{mem, layoutOf, journalWords};
-ghost use Rattle.formed.specs.Pages.{journalCount, journalPlace, journalPage};
+ghost use Rattle.formed.specs.Pages.{journalCount, journalPage};
 ghost use Rattle.formed.specs.WellFormed.{WellFormed};
 ghost use Rattle.view.specs.View.{settingOf, viewOf};
 ghost use Rattle.view.specs.Steps.{wordNotes, marks, rolledBack, forgotten};
@@ -10,18 +10,8 @@ ghost use Rattle.view.specs.Does.{Shows};
 ghost use Rattle.view.specs.Inner.{noting, NoteAsks};
 ghost use Rattle.journal.specs.Words.{wordNumber, Numbered, NoteRoom, NotedAt, BackAsks, PutBack};
 ghost use Rattle.journal.specs.Steps.{NoteSlots, alignedFrom, AlignedAsks, undoing, UndoAsks, RollBackAsks};
+use page_ids::Address;
 use store::head;
-
-// The entry of journal j's page.
-fn place(j: usize) -> u64
-    requires { ⌜ j < journalCount ⌝ }
-    ensures { λ r. ⌜ (r ≡ journalPlace j) × (r < 4) ⌝ }
-{
-    if j == 0 {
-        return 2;
-    }
-    3
-}
 
 // The number of word i of journal j among those of all journals.
 fn number(words: &[u64], j: usize, i: usize) -> usize
@@ -32,17 +22,17 @@ fn number(words: &[u64], j: usize, i: usize) -> usize
 }
 
 // Notes the word at an address, whose first and last chunk are held at the slots s and t, as the newest of journal j.
-fn note_at(bytes: &mut [u8], words: &mut [u64], j: usize, address: u32, s: usize, t: usize)
+fn note_at(bytes: &mut [u8], words: &mut [u64], j: usize, address: Address, s: usize, t: usize)
     requires { ⌜ NoteRoom (now bytes) (now words) j s t ⌝ }
-    ensures { λ _. ⌜ NotedAt (now (bytes .entry)) (now (words .entry)) j address s t (now (bytes .exit)) (now (words .exit)) ⌝ }
+    ensures { λ _. ⌜ NotedAt (now (bytes .entry)) (now (words .entry)) j (address .0) s t (now (bytes .exit)) (now (words .exit)) ⌝ }
 {
     let i = words[head::JOURNALS + j];
     let n = number(words, j, i as usize);
     let c = words[head::CHUNKS] as usize;
-    let old = bodies::word_in(bytes, s, t, (address % 256) as usize);
+    let old = bodies::word_in(bytes, s, t, (address.0 % 256) as usize);
     bodies::copy(&old, 0, bytes, 256 * c + 32 * n, 32);
-    let at = 16 + 3 * n;
-    words[at] = address as u64;
+    let at = head::LENGTH + 3 * n;
+    words[at] = address.0 as u64;
     words[at + 1] = s as u64;
     words[at + 2] = t as u64;
     words[head::JOURNALS + j] = i + 1;
@@ -55,25 +45,32 @@ pub fn note_found(
     order: &[u32],
     words: &mut [u64],
     j: usize,
-    address: u32,
+    address: Address,
     s: usize,
     t: usize,
 )
-    requires { ⌜ NoteAsks (mem (now bytes) (now keys) (now order) (now words)) j address ⌝ }
-    requires { ⌜ NoteSlots (mem (now bytes) (now keys) (now order) (now words)) j address s t ⌝ }
-    ensures { λ _. ⌜ Shows (settingOf (mem (now (bytes .entry)) (now (keys .entry)) (now (order .entry)) (now (words .entry)))) (noting j (wordNotes (viewOf (mem (now (bytes .entry)) (now (keys .entry)) (now (order .entry)) (now (words .entry)))) (journalPage (layoutOf (now (words .entry))) j) address) (viewOf (mem (now (bytes .entry)) (now (keys .entry)) (now (order .entry)) (now (words .entry))))) (mem (now (bytes .exit)) (now (keys .entry)) (now (order .entry)) (now (words .exit))) ⌝ }
+    requires { ⌜ NoteAsks (mem (now bytes) (now keys) (now order) (now words)) j (address .0) ⌝ }
+    requires { ⌜ NoteSlots (mem (now bytes) (now keys) (now order) (now words)) j (address .0) s t ⌝ }
+    ensures { λ _. ⌜ Shows (settingOf (mem (now (bytes .entry)) (now (keys .entry)) (now (order .entry)) (now (words .entry)))) (noting j (wordNotes (viewOf (mem (now (bytes .entry)) (now (keys .entry)) (now (order .entry)) (now (words .entry)))) (journalPage (layoutOf (now (words .entry))) j) (address .0)) (viewOf (mem (now (bytes .entry)) (now (keys .entry)) (now (order .entry)) (now (words .entry))))) (mem (now (bytes .exit)) (now (keys .entry)) (now (order .entry)) (now (words .exit))) ⌝ }
 {
     note_at(bytes, words, j, address, s, t);
 }
 
 // The same, where the slots are searched for.
-fn note(bytes: &mut [u8], keys: &[u64], order: &[u32], words: &mut [u64], j: usize, address: u32)
-    requires { ⌜ NoteAsks (mem (now bytes) (now keys) (now order) (now words)) j address ⌝ }
-    ensures { λ _. ⌜ Shows (settingOf (mem (now (bytes .entry)) (now (keys .entry)) (now (order .entry)) (now (words .entry)))) (noting j (wordNotes (viewOf (mem (now (bytes .entry)) (now (keys .entry)) (now (order .entry)) (now (words .entry)))) (journalPage (layoutOf (now (words .entry))) j) address) (viewOf (mem (now (bytes .entry)) (now (keys .entry)) (now (order .entry)) (now (words .entry))))) (mem (now (bytes .exit)) (now (keys .entry)) (now (order .entry)) (now (words .exit))) ⌝ }
+fn note(
+    bytes: &mut [u8],
+    keys: &[u64],
+    order: &[u32],
+    words: &mut [u64],
+    j: usize,
+    address: Address,
+)
+    requires { ⌜ NoteAsks (mem (now bytes) (now keys) (now order) (now words)) j (address .0) ⌝ }
+    ensures { λ _. ⌜ Shows (settingOf (mem (now (bytes .entry)) (now (keys .entry)) (now (order .entry)) (now (words .entry)))) (noting j (wordNotes (viewOf (mem (now (bytes .entry)) (now (keys .entry)) (now (order .entry)) (now (words .entry)))) (journalPage (layoutOf (now (words .entry))) j) (address .0)) (viewOf (mem (now (bytes .entry)) (now (keys .entry)) (now (order .entry)) (now (words .entry))))) (mem (now (bytes .exit)) (now (keys .entry)) (now (order .entry)) (now (words .exit))) ⌝ }
 {
-    let k = place(j) * 33554432 + 1;
-    let s = store::slot_of(keys, order, words, k + (address / 256) as u64);
-    let t = store::slot_of(keys, order, words, k + (address as u64 + 31) / 256);
+    let e = formed::journals::place(j);
+    let s = store::slot_at_entry(keys, order, words, e, (address.0 / 256) as u64);
+    let t = store::slot_at_entry(keys, order, words, e, (address.0 as u64 + 31) / 256);
     note_found(bytes, keys, order, words, j, address, s, t);
 }
 
@@ -95,7 +92,7 @@ fn put_back(bytes: &mut [u8], words: &[u64], j: usize, i: usize)
     let c = words[head::CHUNKS] as usize;
     let mut old = [0u8; 32];
     bodies::copy(bytes, 256 * c + 32 * n, &mut old, 0, 32);
-    let at = 16 + 3 * n;
+    let at = head::LENGTH + 3 * n;
     bodies::put_word(
         bytes,
         words[at + 1] as usize,
@@ -149,7 +146,7 @@ pub fn note_aligned(
 {
     let mut i = 0;
     while i < count {
-        note(bytes, keys, order, words, j, 32 * (first + i));
+        note(bytes, keys, order, words, j, Address(32 * (first + i)));
         i += 1;
     }
 }

@@ -12,7 +12,7 @@ use borrow.Author.Tests.{eqb-true}
 use denote.Ref.{RefT}
 use Rattle.view.proofs.Refused.{Refusals, next, refused-does, passed-formed, done-does}
 use Rattle.formed.proofs.Same.{tab-long}
-use Rattle.outcome.specs.Outcome.{Outcome, refused, panicked, done, carriedOut, answered, refusalNumber, answerOutcome}
+use Rattle.outcome.specs.Outcome.{Outcome, refused, panicked, done, carriedOut, answered, refusalNumber, answerOutcome, unitOutcome}
 use Rattle.outcome.specs.declared.Answer.{Answer}
 use Rattle.outcome.specs.declared.Answer.the-variants.{Done, Refused}
 use Rattle.word.specs.Value.{value, bigEndian}
@@ -22,7 +22,7 @@ use Rattle.formed.specs.WellFormed.{WellFormed}
 use Rattle.view.specs.View.{View, viewOf, Setting, settingOf}
 use Rattle.view.specs.Steps.{run, padded, touchedCount, alignedCount}
 use Rattle.view.specs.Checks.{onMemory, partialChecks, rangeChecks, lookupChecks, countsRight, lengthsRight, Check, wordWriteChecks, byteWriteChecks, allocateChecks}
-use Rattle.view.specs.Calls.{Call, Value, ReadWord, ReadPartial, ReadRange, ReadByte, DynamicLength, Lookup, LookupCheck, Snapshot, bytes, shown, answerOf, Open, Rollback, DeleteHistory, nothing, CallDoes, OpenDoes, Allocate, WriteWord, WriteBytes, nextOf}
+use Rattle.view.specs.Calls.{Call, Value, ReadWord, ReadPartial, ReadRange, ReadByte, DynamicLength, Lookup, LookupCheck, Snapshot, bytes, shown, answerOf, Open, Rollback, DeleteHistory, nothing, CallDoes, OpenDoes, Allocate, WriteWord, WriteBytes, nextOf, firstRefusal}
 use Rattle.reads.specs.declared.WordRead.{WordRead}
 use Rattle.reads.specs.declared.ByteRead.{ByteRead}
 use Rattle.reads.specs.declared.LengthRead.{LengthRead}
@@ -38,7 +38,6 @@ use Rattle.opening.proofs.Starts.{head-width}
 use Rattle.opening.proofs.Refusals.{open-asks, calldata-asks, open-refused, open-done}
 use Rattle.journal.proofs.Cuts.{forget-shows}
 use Rattle.history.proofs.History.{not-formed, call-refused, rollback-refused, rollback-asks, rollback-done, forget-done}
-use Rattle.checks.specs.Refusals as refusals
 use Rattle.checks.proofs.Passed.{room-refusals}
 use Rattle.lists.proofs.Writing.{word-there, bytes-there, contents-there}
 use Rattle.lists.proofs.Reach.{Reached, started-there, calldata-there, rolled-there}
@@ -107,7 +106,7 @@ answerTo (refused n) = Refused n
 answerTo (panicked a) = Done
 answerTo (done a) = Done
 
-told-to : (o : Outcome (Unit {0})) → Right o → answerOutcome tt (answerTo o) ≡ o
+told-to : (o : Outcome (Unit {0})) → Right o → unitOutcome (answerTo o) ≡ o
 told-to (refused n) r = refl
 told-to (panicked a) r = absurd r
 told-to (done tt) r = refl
@@ -171,7 +170,7 @@ taken (refused n) l bs = l
 taken (panicked u) l bs = l
 taken (done u) l bs = bs
 
-range-does : (o : Outcome (Unit {0})) (l bs : List ℕ) → Right o → RangeDoes o (answerOutcome tt (answerTo o)) bs l (taken o l bs)
+range-does : (o : Outcome (Unit {0})) (l bs : List ℕ) → Right o → RangeDoes o (unitOutcome (answerTo o)) bs l (taken o l bs)
 range-does (panicked u) l bs r = absurd r
 range-does (refused n) l bs r = record { answer = refl; kept = λ _. refl; read = λ e. absurd (true≢false (sym e)) }
 range-does (done tt) l bs r = record { answer = refl; kept = λ e. absurd (true≢false e); read = λ _. refl }
@@ -187,7 +186,7 @@ taken-long m p x y l = go (wellFormed m) (eqb (length l) (y - x)) refl
 
 pub can-read-range : (p x y : ℕ) (l : List ℕ) → Answers (ReadRange p x y (length l))
 can-read-range p x y l m =
-    subst (λ (o : Outcome Value). Step m (ReadRange p x y (length l)) o m) (range-call m p x y l (taken out l bs) (answerOutcome tt (answerTo out)) (range-does out l bs right) .answer)
+    subst (λ (o : Outcome Value). Step m (ReadRange p x y (length l)) o m) (range-call m p x y l (taken out l bs) (unitOutcome (answerTo out)) (range-does out l bs right) .answer)
     (did-read-range
     (record {
       lifetimes = ([], ([], ([], ([], ([], tt)))));
@@ -283,7 +282,7 @@ can-look-up p k z m =
 
 pub can-check : (p k : ℕ) (z : List ℕ) → Answers (LookupCheck p k z)
 can-check p k z m =
-    subst (λ (o : Outcome Value). Step m (LookupCheck p k z) o m) (check-call m p k z (answerOutcome tt (answerTo out)) (told-to out right) .answer)
+    subst (λ (o : Outcome Value). Step m (LookupCheck p k z) o m) (check-call m p k z (unitOutcome (answerTo out)) (told-to out right) .answer)
     (did-lookup-check
     (record {
       lifetimes = ([], ([], ([], ([], ([], tt)))));
@@ -390,7 +389,7 @@ can-delete m = go (wellFormed m) refl
 -- ---- a call that goes by a list of tests: where one holds it is refused, else there is the memory that it leaves
 module _ (m : Mem) (c : Call) (checks : List (Check Value)) (tests : Refusals checks) (is : answerOf m c ≡ onMemory m checks nothing)
     (step : (r : Answer) (m' : Mem) → Same m m' → CallDoes m c (answerOutcome nothing r) m' → Step m c (answerOutcome nothing r) m')
-    (there : (WellFormed m) × (refusals.firstRefusal checks ≡ 0) → Reached (settingOf m) (nextOf (settingOf m) c (viewOf m))) where
+    (there : (WellFormed m) × (firstRefusal checks ≡ 0) → Reached (settingOf m) (nextOf (settingOf m) c (viewOf m))) where
   pub goes : Goes m c (answerOf m c)
   goes = go (refusalNumber (onMemory m checks nothing)) refl
     where

@@ -8,6 +8,7 @@ use native.Mathlib.Numerals.{add-one}
 use native.Mathlib.Omega.{arith}
 use lib.ListN.{length, getD, set, take, drop, length-set, length-drop, length-append, replicate}
 use lib.Seq.{length-take-le}
+use Rattle.store.specs.Keys.{keyOf}
 use Rattle.formed.proofs.Same.{tab-at}
 use Rattle.formed.proofs.Asks.{slots-asked}
 use Rattle.index.specs.Index.{seek}
@@ -18,7 +19,7 @@ use Rattle.store.specs.Find.{slotFor}
 use Rattle.store.proofs.Holds.{part-room, insertable, taken, lacking, held-new, held-was}
 use Rattle.store.proofs.Parts.{rest-part}
 use Rattle.formed.specs.Pages.{group, journalCount, journalPlace, journalPage}
-use Rattle.formed.specs.Parts.{keyOf, entryOf, tab}
+use Rattle.formed.specs.Parts.{entryOf, tab}
 use Rattle.view.specs.View.{View, Setting, settingOf, viewOf}
 use Rattle.view.specs.Steps.{wordNotes, marks, rolledBack, emptyView, opened}
 use Rattle.view.specs.Does.{Shows}

@@ -10,13 +10,14 @@ use lib.Dec.{leb}
 use lib.ListN.{length, getD, set, take, drop, length-set, length-append, length-map, length-drop, List·getD-eq-default}
 use lib.Seq.{getD-take, getD-set-same, getD-set-other, length-take-le}
 use borrow.Author.Tests.{le-leb, leb-true}
+use Rattle.store.specs.Keys.{keyEntry, keyChunk}
 use Rattle.formed.proofs.Same.{tab-at, tab-long}
 use Rattle.index.proofs.Logic.{lt-or-ge, and-left, le-of-not-lt}
 use Rattle.store.specs.Mem.{Mem, mem, layoutOf, slotCount, heldNow, inUse, holders, entries, slotOrder, pageOrder}
 use Rattle.store.proofs.Parts.{take-front, drop-front}
 use Rattle.formed.specs.Pages.{dynamic}
 use Rattle.formed.specs.Parts.{tab}
-use Rattle.formed.specs.WellFormed.{WellFormed, HeldAt, holder, keyEntry, keyChunk, slotByte}
+use Rattle.formed.specs.WellFormed.{WellFormed, HeldAt, holder, slotByte}
 use Rattle.formed.proofs.Bools.{refute}
 use Rattle.formed.proofs.Sizes.{holders-long}
 use Rattle.formed.proofs.Pages.{is-fixed}

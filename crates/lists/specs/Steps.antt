@@ -11,7 +11,7 @@ use contract.Lifetimes.{Lfts}
 use denote.Triple.Clauses.{Lasts, AtExit, atExit}
 use denote.Triple.Walked.{Fit}
 use denote.Ref.{RefT, now}
-use Rattle.outcome.specs.Outcome.{Outcome, done, mapped, answerOutcome}
+use Rattle.outcome.specs.Outcome.{Outcome, done, mapped, answerOutcome, unitOutcome}
 use Rattle.store.specs.Mem.{Mem, mem}
 use Rattle.word.specs.Value.{value}
 use Rattle.view.specs.Calls.{Call, Value, Open, Allocate, WriteWord, WriteBytes, ReadWord, ReadPartial, ReadRange, ReadByte, DynamicLength, Lookup, LookupCheck, Free, Window, Truncate, CompareLeft, CompareRight, CompareBoth, Snapshot, Rollback, DeleteHistory, nothing, number, bytes, Load, Store, LoadPointer, LoadStatic, StoreStatic}
@@ -127,7 +127,7 @@ pub data Step : Mem → Call → Outcome Value → Mem → Type 0 where
       Step
       (lent (w .args))
       (ReadRange (rest (w .args) .0 .0) (rest (w .args) .1 .0 .0) (rest (w .args) .1 .1 .0 .0) (length (now (rest (w .args) .1 .1 .1 .0))))
-      (mapped (λ _. bytes (now (rest (exits w) .1 .1 .1 .0))) (answerOutcome tt (w .result)))
+      (mapped (λ _. bytes (now (rest (exits w) .1 .1 .1 .0))) (unitOutcome (w .result)))
       (lent (exits w))
   did-read-byte :
       (w : Went byte-kinds.ps byte-kinds.r byte-reads.Asked byte-reads.Learnt) →
@@ -156,7 +156,7 @@ pub data Step : Mem → Call → Outcome Value → Mem → Type 0 where
       Step
       (lent (w .args))
       (LookupCheck (rest (w .args) .0 .0) (rest (w .args) .1 .0) (now (rest (w .args) .1 .1 .0)))
-      (mapped (λ _. nothing) (answerOutcome tt (w .result)))
+      (mapped (λ _. nothing) (unitOutcome (w .result)))
       (lent (exits w))
   did-snapshot :
       (w : Went snapshot-kinds.ps snapshot-kinds.r snapshot-reads.Asked snapshot-reads.Learnt) →

@@ -12,6 +12,7 @@ ghost use Rattle.page_ids.specs.declared.Layout.{Layout};
 ghost use Rattle.opening.specs.Opening.{layoutFrom, setting, headed, sizesRight, OpenAsks, FixedAsks, FirstPages, openingOutcome, CalldataAsks};
 use outcome::Answer;
 use page_ids::Layout;
+use page_ids::PageId;
 use store::head;
 
 // Every byte becomes 0.
@@ -211,15 +212,15 @@ fn put_calldata(
     keys: &mut [u64],
     order: &mut [u32],
     words: &mut [u64],
-    page: u32,
+    page: PageId,
     calldata: &[u8],
 )
-    requires { ⌜ CalldataAsks (mem (now bytes) (now keys) (now order) (now words)) page (length (now calldata)) ⌝ }
+    requires { ⌜ CalldataAsks (mem (now bytes) (now keys) (now order) (now words)) (page .0) (length (now calldata)) ⌝ }
     ensures { λ _. let s = settingOf (mem (now (bytes .entry)) (now (keys .entry)) (now (order .entry)) (now (words .entry))) in ⌜ Shows s (opened s (now (calldata .entry))) (mem (now (bytes .exit)) (now (keys .exit)) (now (order .exit)) (now (words .exit))) ⌝ }
 {
     let count = ((calldata.len() + 255) / 256) as u32;
     chunks::hold_chunks(bytes, keys, order, words, page, 0, count);
-    bodies::write_from(bytes, keys, order, words, page, 0, calldata);
+    bodies::write_from(bytes, keys, order, words, page, Address(0), calldata);
 }
 
 // Opens a memory: vm2's `Heaps::new`, in lent buffers. Calldata is put on its page; all else is zero.
@@ -251,7 +252,7 @@ pub fn open(
         return Answer::Refused(n);
     }
     start(bytes, keys, order, words, layout, chunks, pages, room);
-    let page = layout.calldata.0;
+    let page = layout.calldata;
     put_calldata(bytes, keys, order, words, page, calldata);
     Answer::Done
 }

@@ -45,6 +45,10 @@ abbrev pub answerOutcome : {A : Type 0} → A → Answer → Outcome A
 answerOutcome a Done = done a
 answerOutcome a (Refused n) = refused n
 
+-- that of a call whose value lies in an output, or that has none
+abbrev pub unitOutcome : Answer → Outcome (Unit {0})
+unitOutcome a = answerOutcome tt a
+
 -- the status of an answer: 0, or the number of the refusal
 abbrev pub statusOf : Answer → ℕ
 statusOf Done = 0

@@ -11,6 +11,7 @@ use lib.Dec.{ltb, eqb}
 use lib.ListN.{length, getD, set, take, drop, length-set, length-drop, List·getD-eq-default}
 use lib.Seq.{getD-set-same, getD-set-other}
 use borrow.Author.Tests.{lt-ltb, le-ltb, eq-eqb, ne-eqb}
+use Rattle.store.specs.Keys.{keyOf, keyEntry}
 use Rattle.page_ids.specs.declared.Layout.{Layout}
 use Rattle.index.specs.Index.{indexed, seek, freeCount}
 use Rattle.index.proofs.Logic.{same-or-not, lt-or-ge}
@@ -19,8 +20,8 @@ use Rattle.index.proofs.Places.{seek-hit, seek-le, seek-other}
 use Rattle.index.proofs.Meaning.{once}
 use Rattle.store.specs.Mem.{Mem, mem, layoutOf, slotCount, pageCount, journalWords, journalLength, inUse, dynamicLength, holders, entries, slotOrder, pageOrder, chunks}
 use Rattle.formed.specs.Pages.{LayoutRule, fixed, dynamic, group, journalPlace}
-use Rattle.formed.specs.Parts.{Note, tab, keyOf, entryOf, allocated, entriesLeft, slotOfChunk, holds, byteAt, noteAt, noteAddress, noteFirst, noteLast, oldAt, journal}
-use Rattle.formed.specs.WellFormed.{WellFormed, Lengths, ListedPage, NotedRight, holder, keyEntry}
+use Rattle.formed.specs.Parts.{Note, tab, entryOf, allocated, entriesLeft, slotOfChunk, holds, byteAt, noteAt, noteAddress, noteFirst, noteLast, oldAt, journal}
+use Rattle.formed.specs.WellFormed.{WellFormed, Lengths, ListedPage, NotedRight, holder}
 use Rattle.formed.proofs.Bools.{refute, or-off}
 use Rattle.formed.proofs.Keys.{le-or-gt, seek-is, key-entry}
 use Rattle.formed.proofs.Asks.{pages-asked}

@@ -7,6 +7,7 @@ ghost use Rattle.view.specs.View.{settingOf};
 ghost use Rattle.view.specs.Does.{Shows};
 ghost use Rattle.view.specs.Inner.{listing, ListAsks};
 ghost use Rattle.pages.specs.Entry.{EntryAsks, EntryTaken};
+use page_ids::PageId;
 use store::head;
 
 // Raises the dynamic length to `least`, if it is below.
@@ -21,29 +22,29 @@ fn raise(words: &mut [u64], least: u64)
 }
 
 // Gives a free entry to a dynamic page that has none, and makes the dynamic length reach past its group.
-fn take_entry(keys: &mut [u64], order: &mut [u32], words: &mut [u64], page: u32)
-    requires { ⌜ EntryAsks (now keys) (now order) (now words) page ⌝ }
-    ensures { λ _. ⌜ EntryTaken page (now (keys .entry)) (now (order .entry)) (now (words .entry)) (now (keys .exit)) (now (order .exit)) (now (words .exit)) ⌝ }
+fn take_entry(keys: &mut [u64], order: &mut [u32], words: &mut [u64], page: PageId)
+    requires { ⌜ EntryAsks (now keys) (now order) (now words) (page .0) ⌝ }
+    ensures { λ _. ⌜ EntryTaken (page .0) (now (keys .entry)) (now (order .entry)) (now (words .entry)) (now (keys .exit)) (now (order .exit)) (now (words .exit)) ⌝ }
 {
     let c = words[head::CHUNKS] as usize;
     let n = words[head::ENTRIES] as usize;
-    let group = (page as u64 - words[head::BASE]) / words[head::STRIDE];
+    let group = (page.0 as u64 - words[head::BASE]) / words[head::STRIDE];
     let e = store::free_place(&keys[c..], n);
     index::insert(
         &mut keys[c..],
         &mut order[c..],
         n,
         e as u32,
-        page as u64 + 1,
+        page.0 as u64 + 1,
     );
     words[head::ENTRIES] = (n + 1) as u64;
     raise(words, group + 1);
 }
 
 // Allocates a page that can be; one that is stays as it is.
-pub fn list_page(bytes: &[u8], keys: &mut [u64], order: &mut [u32], words: &mut [u64], page: u32)
-    requires { ⌜ ListAsks (mem (now bytes) (now keys) (now order) (now words)) page ⌝ }
-    ensures { λ _. ⌜ Shows (settingOf (mem (now (bytes .entry)) (now (keys .entry)) (now (order .entry)) (now (words .entry)))) (listing (mem (now (bytes .entry)) (now (keys .entry)) (now (order .entry)) (now (words .entry))) page) (mem (now (bytes .entry)) (now (keys .exit)) (now (order .exit)) (now (words .exit))) ⌝ }
+pub fn list_page(bytes: &[u8], keys: &mut [u64], order: &mut [u32], words: &mut [u64], page: PageId)
+    requires { ⌜ ListAsks (mem (now bytes) (now keys) (now order) (now words)) (page .0) ⌝ }
+    ensures { λ _. ⌜ Shows (settingOf (mem (now (bytes .entry)) (now (keys .entry)) (now (order .entry)) (now (words .entry)))) (listing (mem (now (bytes .entry)) (now (keys .entry)) (now (order .entry)) (now (words .entry))) (page .0)) (mem (now (bytes .entry)) (now (keys .exit)) (now (order .exit)) (now (words .exit))) ⌝ }
 {
     let e = store::entry_of(keys, order, words, page);
     if (e as u64) < words[head::PAGES] + 4 {

@@ -11,7 +11,7 @@ ghost use mathlib.Core.List.{[]};
 ghost use Prim.Native.Nat.{_-_};
 ghost use lib.Dec.{eqb};
 ghost use lib.ListN.{length};
-ghost use Rattle.outcome.specs.Outcome.{answered, answerOutcome};
+ghost use Rattle.outcome.specs.Outcome.{answered, unitOutcome};
 ghost use Rattle.word.specs.Value.{value, bigEndian};
 ghost use Rattle.store.specs.Mem.{mem};
 ghost use Rattle.formed.specs.Formed.{zeros, wellFormed};
@@ -47,10 +47,10 @@ pub struct Marks {
 }
 
 // How far `end` lies past `start`: 0 where it does not.
-fn span(start: u32, end: u32) -> u32
-    ensures { λ r. ⌜ r ≡ end - start ⌝ }
+fn span(start: Address, end: Address) -> u32
+    ensures { λ r. ⌜ r ≡ (end .0) - (start .0) ⌝ }
 {
-    if end < start {
+    if end.0 < start.0 {
         return 0;
     }
     end - start
@@ -92,7 +92,7 @@ pub fn read_u256(
     if !formed::well_formed(bytes, keys, order, words) {
         return no_word(3);
     }
-    let read = steps::read_word(bytes, keys, order, words, page.0, address.0);
+    let read = steps::read_word(bytes, keys, order, words, page, address);
     WordRead {
         refusal: 0,
         word: word::from_big_endian(read),
@@ -114,11 +114,11 @@ pub fn read_u256_partially(
     if !formed::well_formed(bytes, keys, order, words) {
         return no_word(3);
     }
-    let n = span(start.0, end.0);
+    let n = span(start, end);
     if n > 32 {
         return no_word(8);
     }
-    let read = steps::read_padded(bytes, keys, order, words, page.0, start.0, n as usize);
+    let read = steps::read_padded(bytes, keys, order, words, page, start, n as usize);
     WordRead {
         refusal: 0,
         word: word::from_big_endian(read),
@@ -136,16 +136,16 @@ pub fn read_range_big_endian(
     end: Address,
     output: &mut [u8],
 ) -> Answer
-    ensures { λ r. let m = mem (now (bytes .entry)) (now (keys .entry)) (now (order .entry)) (now (words .entry)) in ⌜ RangeDoes (onMemory m (rangeChecks (start .0) (end .0) (length (now (output .entry)))) tt) (answerOutcome tt r) (run (viewOf m) (page .0) (start .0) (end .0 - start .0)) (now (output .entry)) (now (output .exit)) ⌝ }
+    ensures { λ r. let m = mem (now (bytes .entry)) (now (keys .entry)) (now (order .entry)) (now (words .entry)) in ⌜ RangeDoes (onMemory m (rangeChecks (start .0) (end .0) (length (now (output .entry)))) tt) (unitOutcome r) (run (viewOf m) (page .0) (start .0) (end .0 - start .0)) (now (output .entry)) (now (output .exit)) ⌝ }
 {
     if !formed::well_formed(bytes, keys, order, words) {
         return Answer::Refused(3);
     }
-    let n = span(start.0, end.0);
+    let n = span(start, end);
     if output.len() != n as usize {
         return Answer::Refused(8);
     }
-    steps::read_into(bytes, keys, order, words, page.0, start.0, output);
+    steps::read_into(bytes, keys, order, words, page, start, output);
     Answer::Done
 }
 
@@ -167,7 +167,7 @@ pub fn read_byte(
     }
     ByteRead {
         refusal: 0,
-        byte: steps::byte_at(bytes, keys, order, words, page.0, address.0),
+        byte: steps::byte_at(bytes, keys, order, words, page, address),
     }
 }
 
@@ -234,7 +234,7 @@ pub fn chunk_check(
     number: u32,
     block: &[u8],
 ) -> Answer
-    ensures { λ r. let m = mem (now (bytes .entry)) (now (keys .entry)) (now (order .entry)) (now (words .entry)) in ⌜ answerOutcome tt r ≡ onMemory m (lookupChecks (now (block .entry))) tt ⌝ }
+    ensures { λ r. let m = mem (now (bytes .entry)) (now (keys .entry)) (now (order .entry)) (now (words .entry)) in ⌜ unitOutcome r ≡ onMemory m (lookupChecks (now (block .entry))) tt ⌝ }
 {
     if !formed::well_formed(bytes, keys, order, words) {
         return Answer::Refused(3);

@@ -12,6 +12,8 @@ ghost use Rattle.formed.specs.WellFormed.{WellFormed};
 ghost use Rattle.view.specs.View.{viewOf};
 ghost use Rattle.view.specs.Steps.{run, padded};
 ghost use Rattle.reads.specs.Reading.{Put};
+use page_ids::Address;
+use page_ids::PageId;
 use store::head;
 
 // The lesser of two numbers above 0.
@@ -38,11 +40,11 @@ fn fill(out: &mut [u8], to: usize, n: usize)
 }
 
 // The slot of chunk k of a page, or the number of slots where none holds it; no byte bears on it.
-fn slot_at(keys: &[u64], order: &[u32], words: &[u64], page: u32, k: usize) -> usize
+fn slot_at(keys: &[u64], order: &[u32], words: &[u64], page: PageId, k: usize) -> usize
     requires { ⌜ Findable (now keys) (now order) (now words) ⌝ }
-    ensures { λ r. ⌜ ((b : List ℕ) → r ≡ slotOfChunk (mem b (now (keys .entry)) (now (order .entry)) (now (words .entry))) page k) ⌝ }
+    ensures { λ r. ⌜ ((b : List ℕ) → r ≡ slotOfChunk (mem b (now (keys .entry)) (now (order .entry)) (now (words .entry))) (page .0) k) ⌝ }
 {
-    if k > 16777216 {
+    if k > store::LAST_CHUNK as usize {
         return words[head::CHUNKS] as usize;
     }
     store::place_of(keys, order, words, page, k as u32)
@@ -54,7 +56,7 @@ fn read_part(
     keys: &[u64],
     order: &[u32],
     words: &[u64],
-    page: u32,
+    page: PageId,
     a: usize,
     n: usize,
     out: &mut [u8],
@@ -62,7 +64,7 @@ fn read_part(
 )
     requires { ⌜ WellFormed (mem (now bytes) (now keys) (now order) (now words)) ⌝ }
     requires { ⌜ (a % 256 + n ≤ 256) × (to + n ≤ length (now out)) ⌝ }
-    ensures { λ _. ⌜ Put (λ i. byteAt (mem (now (bytes .entry)) (now (keys .entry)) (now (order .entry)) (now (words .entry))) page (a + i)) to n (now (out .entry)) (now (out .exit)) ⌝ }
+    ensures { λ _. ⌜ Put (λ i. byteAt (mem (now (bytes .entry)) (now (keys .entry)) (now (order .entry)) (now (words .entry))) (page .0) (a + i)) to n (now (out .entry)) (now (out .exit)) ⌝ }
 {
     let s = slot_at(keys, order, words, page, a / 256);
     if s >= words[head::CHUNKS] as usize {
@@ -78,17 +80,17 @@ pub fn read_into(
     keys: &[u64],
     order: &[u32],
     words: &[u64],
-    page: u32,
-    start: u32,
+    page: PageId,
+    start: Address,
     out: &mut [u8],
 )
     requires { ⌜ WellFormed (mem (now bytes) (now keys) (now order) (now words)) ⌝ }
     requires { ⌜ length (now out) ≤ 4294967296 ⌝ }
-    ensures { λ _. ⌜ now (out .exit) ≡ run (viewOf (mem (now (bytes .entry)) (now (keys .entry)) (now (order .entry)) (now (words .entry)))) page start (length (now (out .entry))) ⌝ }
+    ensures { λ _. ⌜ now (out .exit) ≡ run (viewOf (mem (now (bytes .entry)) (now (keys .entry)) (now (order .entry)) (now (words .entry)))) (page .0) (start .0) (length (now (out .entry))) ⌝ }
 {
     let mut pos: usize = 0;
     while pos < out.len() {
-        let a = start as usize + pos;
+        let a = start.0 as usize + pos;
         let n = least(256 - a % 256, out.len() - pos);
         read_part(bytes, keys, order, words, page, a, n, out, pos);
         pos += n;
@@ -101,18 +103,18 @@ pub fn read_word(
     keys: &[u64],
     order: &[u32],
     words: &[u64],
-    page: u32,
-    address: u32,
+    page: PageId,
+    address: Address,
 ) -> [u8; 32]
     requires { ⌜ WellFormed (mem (now bytes) (now keys) (now order) (now words)) ⌝ }
-    ensures { λ r. ⌜ r ≡ run (viewOf (mem (now (bytes .entry)) (now (keys .entry)) (now (order .entry)) (now (words .entry)))) page address 32 ⌝ }
+    ensures { λ r. ⌜ r ≡ run (viewOf (mem (now (bytes .entry)) (now (keys .entry)) (now (order .entry)) (now (words .entry)))) (page .0) (address .0) 32 ⌝ }
 {
     let c = words[head::CHUNKS] as usize;
-    let s = store::hinted(keys, order, words, page, address / 256);
+    let s = store::hinted(keys, order, words, page, address.0 / 256);
     if s < c {
         let t = store::hinted_last(keys, order, words, page, address, s);
         if t < c {
-            return bodies::word_in(bytes, s, t, (address % 256) as usize);
+            return bodies::word_in(bytes, s, t, (address.0 % 256) as usize);
         }
     }
     search_word(bytes, keys, order, words, page, address)
@@ -124,14 +126,14 @@ fn search_word(
     keys: &[u64],
     order: &[u32],
     words: &[u64],
-    page: u32,
-    address: u32,
+    page: PageId,
+    address: Address,
 ) -> [u8; 32]
     requires { ⌜ WellFormed (mem (now bytes) (now keys) (now order) (now words)) ⌝ }
-    ensures { λ r. ⌜ r ≡ run (viewOf (mem (now (bytes .entry)) (now (keys .entry)) (now (order .entry)) (now (words .entry)))) page address 32 ⌝ }
+    ensures { λ r. ⌜ r ≡ run (viewOf (mem (now (bytes .entry)) (now (keys .entry)) (now (order .entry)) (now (words .entry)))) (page .0) (address .0) 32 ⌝ }
 {
     let mut out = [0u8; 32];
-    let a = address as usize;
+    let a = address.0 as usize;
     let r = a % 256;
     if r <= 224 {
         read_part(bytes, keys, order, words, page, a, 32, &mut out, 0);
@@ -172,13 +174,13 @@ pub fn read_padded(
     keys: &[u64],
     order: &[u32],
     words: &[u64],
-    page: u32,
-    start: u32,
+    page: PageId,
+    start: Address,
     n: usize,
 ) -> [u8; 32]
     requires { ⌜ WellFormed (mem (now bytes) (now keys) (now order) (now words)) ⌝ }
     requires { ⌜ n ≤ 32 ⌝ }
-    ensures { λ r. ⌜ r ≡ padded (run (viewOf (mem (now (bytes .entry)) (now (keys .entry)) (now (order .entry)) (now (words .entry)))) page start n) ⌝ }
+    ensures { λ r. ⌜ r ≡ padded (run (viewOf (mem (now (bytes .entry)) (now (keys .entry)) (now (order .entry)) (now (words .entry)))) (page .0) (start .0) n) ⌝ }
 {
     let mut out = [0u8; 32];
     read_into(bytes, keys, order, words, page, start, &mut out[0..n]);
@@ -191,15 +193,15 @@ pub fn byte_at(
     keys: &[u64],
     order: &[u32],
     words: &[u64],
-    page: u32,
-    address: u32,
+    page: PageId,
+    address: Address,
 ) -> u8
     requires { ⌜ WellFormed (mem (now bytes) (now keys) (now order) (now words)) ⌝ }
-    ensures { λ r. ⌜ r ≡ viewOf (mem (now (bytes .entry)) (now (keys .entry)) (now (order .entry)) (now (words .entry))) .bytes page address ⌝ }
+    ensures { λ r. ⌜ r ≡ viewOf (mem (now (bytes .entry)) (now (keys .entry)) (now (order .entry)) (now (words .entry))) .bytes (page .0) (address .0) ⌝ }
 {
-    let s = slot_at(keys, order, words, page, (address / 256) as usize);
+    let s = slot_at(keys, order, words, page, (address.0 / 256) as usize);
     if s >= words[head::CHUNKS] as usize {
         return 0;
     }
-    bytes[256 * s + (address % 256) as usize]
+    bytes[256 * s + (address.0 % 256) as usize]
 }

@@ -9,6 +9,7 @@ use lib.Dec.{eqb}
 use lib.ListN.{length, getD, set, take, drop, length-drop, length-set}
 use lib.Seq.{getD-take, getD-drop, length-take-le, getD-set-other}
 use borrow.Author.Tests.{eqb-true}
+use Rattle.store.specs.Keys.{keyOf, keyEntry, keyChunk}
 use Rattle.index.specs.Index.{seek}
 use Rattle.index.proofs.Orders.{index-rises, index-count}
 use Rattle.index.proofs.Places.{place-at, seek-le}
@@ -16,14 +17,14 @@ use Rattle.store.specs.Mem.{slotCount, pageCount, heldNow, inUse}
 use Rattle.store.specs.Find.{slotFor, Findable, Names, Learnt}
 
 module _ (keys words : List ℕ) (s p k : ℕ) where
-  pub names-by : s < slotCount words → getD keys s 0 % 33554432 ≡ k + 1 → getD keys s 0 / 33554432 < length keys - slotCount words
-      → eqb (getD keys (slotCount words + getD keys s 0 / 33554432) 0) (p + 1) ≡ true → Names keys words s p k
-  names-by l e m q = record {
+  pub names-by : s < slotCount words → 0 < getD keys s 0 → keyChunk (getD keys s 0) ≡ k → keyEntry (getD keys s 0) < length keys - slotCount words
+      → eqb (getD keys (slotCount words + keyEntry (getD keys s 0)) 0) (p + 1) ≡ true → Names keys words s p k
+  names-by l z e m q = record {
     slot-in = l;
-    entry = getD keys s 0 / 33554432;
+    entry = keyEntry (getD keys s 0);
     key = omega arith;
     entry-in = omega arith;
-    page = eqb-true (getD keys (slotCount words + getD keys s 0 / 33554432) 0) (p + 1) q;
+    page = eqb-true (getD keys (slotCount words + keyEntry (getD keys s 0)) 0) (p + 1) q;
   }
 
   module _ (order : List ℕ) (f : Findable keys order words) (n : Names keys words s p k) where
@@ -40,10 +41,10 @@ module _ (keys words : List ℕ) (s p k : ℕ) where
     pub named : s ≡ slotFor keys words p k
     named =
         let ix = f .slots .index in
-        let key : seek (drop c keys) (p + 1) * 33554432 + k + 1 ≡ n .entry * 33554432 + k + 1 = ap (λ (e : ℕ). e * 33554432 + k + 1) entry-is in
+        let key : keyOf (seek (drop c keys) (p + 1)) k ≡ keyOf (n .entry) k = ap (λ (e : ℕ). keyOf e k) entry-is in
         let l = n .slot-in in
         sym (ap (seek (take c keys)) key
-        ∙ place-at (take c keys) (take c order) (heldNow words) (index-rises (take c keys) (take c order) (heldNow words) ix) (index-count (take c keys) (take c order) (heldNow words) ix) (n .entry * 33554432 + k + 1) (omega arith) s
+        ∙ place-at (take c keys) (take c order) (heldNow words) (index-rises (take c keys) (take c order) (heldNow words) ix) (index-count (take c keys) (take c order) (heldNow words) ix) (keyOf (n .entry) k) (omega arith) s
         (let d = length-take-le c keys (f .slots .in-keys) in omega arith) (getD-take c keys s 0 l ∙ n .key))
 
 -- what `learn` leaves: the mask at the last place, and a hint past the numbers in use

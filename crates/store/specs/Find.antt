@@ -2,15 +2,20 @@
 -- Assumes nothing.
 use mathlib.Core.Path.{_≡_}
 use mathlib.Core.List.{List}
-use Prim.Native.Nat.{ℕ, _+_, _*_, _<_, _≤_}
+use Prim.Native.Nat.{ℕ, _+_, _<_, _≤_}
 use lib.ListN.{length, getD, take, drop}
 use Rattle.index.specs.Index.{seek}
 use Rattle.store.specs.Mem.{slotCount, pageCount}
+use Rattle.store.specs.Keys.{keyOf}
 use Rattle.store.specs.Hold.{Indexed, PagesIndexed}
 
--- the slot of chunk k of page p, or the number of slots where none holds it
+-- the slot of chunk k of the page at entry e, or the number of slots where none holds it
+abbrev pub slotAtEntry : List ℕ → List ℕ → ℕ → ℕ → ℕ
+slotAtEntry keys words e k = seek (take (slotCount words) keys) (keyOf e k)
+
+-- .. of page p
 abbrev pub slotFor : List ℕ → List ℕ → ℕ → ℕ → ℕ
-slotFor keys words p k = seek (take (slotCount words) keys) (seek (drop (slotCount words) keys) (p + 1) * 33554432 + k + 1)
+slotFor keys words p k = slotAtEntry keys words (seek (drop (slotCount words) keys) (p + 1)) k
 
 -- both tables are indexed, and the order has room for a hint
 pub record Findable (keys order words : List ℕ) : Type 0 where
@@ -23,11 +28,11 @@ pub record Findable (keys order words : List ℕ) : Type 0 where
 pub record Names (keys words : List ℕ) (s p k : ℕ) : Type 0 where
   pub slot-in : s < slotCount words
   pub entry : ℕ
-  pub key : getD keys s 0 ≡ entry * 33554432 + k + 1
+  pub key : getD keys s 0 ≡ keyOf entry k
   pub entry-in : slotCount words + entry < length keys
   pub page : getD keys (slotCount words + entry) 0 ≡ p + 1
 
--- order' is order but for its hints
+-- order' is order except for its hints
 pub record Learnt (order words order' : List ℕ) : Type 0 where
   pub long : length order' ≡ length order
   pub kept : (i : ℕ) → i < slotCount words + pageCount words + 4 → getD order' i 0 ≡ getD order i 0

@@ -24,6 +24,8 @@ pub const ENTRIES: usize = 10;
 pub const DYNAMIC_LENGTH: usize = 11;
 // the lengths of the journals, one after the other: that of the bootloader heap first, then that of the bootloader aux heap
 pub const JOURNALS: usize = 12;
+// how many journals there are
+pub const JOURNAL_COUNT: usize = 2;
 
 pub const HEAP_JOURNAL: usize = 12;
 

@@ -1,13 +1,16 @@
-// Slots of chunks, in the lent buffers of a memory.
+// Slots of chunks, in the lent buffers of a memory: keys, the lookup of chunks and pages, hints, and slots taken from the pool and returned to it.
 ghost use mathlib.Core.Path.{_≡_};
 ghost use mathlib.Core.Bool.{true};
-ghost use Prim.Native.Nat.{ℕ, _+_, _*_, _/_, _<_, _≤_};
+ghost use Prim.Native.Nat.{ℕ, _+_, _*_, _/_, _^_, _<_, _≤_};
 ghost use lib.ListN.{length, getD, take, drop};
 ghost use Rattle.index.specs.Index.{seek, usedCount, freeCount};
-ghost use Rattle.store.specs.Find.{slotFor, Findable, Names, Learnt};
+ghost use Rattle.store.specs.Keys.{lastChunk, keyOf, keyEntry, keyChunk};
+ghost use Rattle.store.specs.Find.{slotAtEntry, slotFor, Findable, Names, Learnt};
 ghost use Rattle.store.specs.Mem.{headLength, slotCount, pageCount, heldNow};
 ghost use Rattle.store.specs.Hold.{lacks, Indexed, PagesIndexed, Taken, Held};
 ghost use Rattle.store.specs.Give.{Zeroed, Wiped, Released};
+use page_ids::Address;
+use page_ids::PageId;
 
 pub mod head;
 
@@ -19,7 +22,7 @@ pub fn pool_count(keys: &[u64], order: &[u32], words: &[u64]) -> u64
     words[head::CHUNKS] - words[head::HELD]
 }
 
-// A free place of a table that has one: `guess`, where that is one. Which one it is stays open.
+// The index of some free entry of a table that has one: `guess`, if that is free. The contract does not say which.
 pub fn free_place(keys: &[u64], guess: usize) -> usize
     requires { ⌜ usedCount (now keys) < length (now keys) ⌝ }
     ensures { λ r. ⌜ (r < length (now (keys .entry))) × (getD (now (keys .entry)) r 0 ≡ 0) ⌝ }
@@ -39,7 +42,7 @@ pub fn free_place(keys: &[u64], guess: usize) -> usize
     0
 }
 
-// Gives a pooled slot the key k, which no slot has, and returns the slot.
+// Sets the key of a pooled slot to k, which no slot has, and returns the slot.
 fn take_slot(keys: &mut [u64], order: &mut [u32], words: &mut [u64], k: u64) -> usize
     requires { ⌜ Indexed (now keys) (now order) (now words) ⌝ }
     requires { ⌜ (0 < k) × (slotCount (now words) ≤ seek (take (slotCount (now words)) (now keys)) k) × (heldNow (now words) < slotCount (now words)) ⌝ }
@@ -53,6 +56,38 @@ fn take_slot(keys: &mut [u64], order: &mut [u32], words: &mut [u64], k: u64) -> 
     s
 }
 
+// ---- keys
+// A key is the entry of a page times this factor, plus the chunk number, plus 1: keys of one page follow each other, and no key is 0.
+const KEY_FACTOR: u64 = 33554432;
+
+// The highest chunk number: the word at the last address ends in that chunk.
+pub const LAST_CHUNK: u32 = 16777216;
+
+// The key of a chunk of the page at an entry.
+pub fn key_of(entry: usize, chunk: u64) -> u64
+    requires { ⌜ (entry ≤ 69636) × (chunk ≤ 2 ^ 32) ⌝ }
+    ensures { λ r. ⌜ r ≡ keyOf entry chunk ⌝ }
+{
+    entry as u64 * KEY_FACTOR + chunk + 1
+}
+
+// The entry of a key.
+pub fn key_entry(key: u64) -> usize
+    requires { ⌜ 0 < key ⌝ }
+    ensures { λ r. ⌜ r ≡ keyEntry key ⌝ }
+{
+    ((key - 1) / KEY_FACTOR) as usize
+}
+
+// The chunk number of a key.
+pub fn key_chunk(key: u64) -> u64
+    requires { ⌜ 0 < key ⌝ }
+    ensures { λ r. ⌜ r ≡ keyChunk key ⌝ }
+{
+    (key - 1) % KEY_FACTOR
+}
+
+// ---- lookup
 // The slot of the key k, or the number of slots where none has it.
 pub fn slot_of(keys: &[u64], order: &[u32], words: &[u64], k: u64) -> usize
     requires { ⌜ (Indexed (now keys) (now order) (now words)) × (0 < k) ⌝ }
@@ -62,22 +97,30 @@ pub fn slot_of(keys: &[u64], order: &[u32], words: &[u64], k: u64) -> usize
     index::find(&keys[0..c], &order[0..c], words[head::HELD] as usize, k)
 }
 
+// The slot of a chunk of the page at an entry, or the number of slots where none holds it.
+pub fn slot_at_entry(keys: &[u64], order: &[u32], words: &[u64], entry: usize, chunk: u64) -> usize
+    requires { ⌜ (Indexed (now keys) (now order) (now words)) × (entry ≤ 69636) × (chunk ≤ 2 ^ 32) ⌝ }
+    ensures { λ r. ⌜ r ≡ slotAtEntry (now (keys .entry)) (now (words .entry)) entry chunk ⌝ }
+{
+    slot_of(keys, order, words, key_of(entry, chunk))
+}
+
 // The entry of a page, or the number of entries where none lists it.
-pub fn entry_of(keys: &[u64], order: &[u32], words: &[u64], page: u32) -> usize
+pub fn entry_of(keys: &[u64], order: &[u32], words: &[u64], page: PageId) -> usize
     requires { ⌜ PagesIndexed (now keys) (now order) (now words) ⌝ }
-    ensures { λ r. ⌜ r ≡ seek (drop (slotCount (now (words .entry))) (now (keys .entry))) (page + 1) ⌝ }
+    ensures { λ r. ⌜ r ≡ seek (drop (slotCount (now (words .entry))) (now (keys .entry))) ((page .0) + 1) ⌝ }
 {
     let c = words[head::CHUNKS] as usize;
     index::find(
         &keys[c..],
         &order[c..],
         words[head::ENTRIES] as usize,
-        page as u64 + 1,
+        page.0 as u64 + 1,
     )
 }
 
 // ---- hints
-// The order ends in hints: where a chunk was found last. A hint says nothing until it has been tested, so that no rule speaks of hints.
+// The order ends in hints: where a chunk was found last. Hints are untrusted: every use tests them, so WELL FORMED does not constrain them.
 
 // All ones up to the highest bit of c: at most 2·c - 1.
 fn ones(c: u64) -> u64 {
@@ -88,39 +131,42 @@ fn ones(c: u64) -> u64 {
     e | (e >> 16)
 }
 
-// The place of the hint for a chunk of a page. The last place of the order has the mask; the factor parts the pages.
-fn hint_place(order: &[u32], page: u32, chunk: u32) -> usize
+// The place of the hint for a chunk of a page. The last place of the order has the mask; the multiplier spreads the pages apart.
+fn hint_place(order: &[u32], page: PageId, chunk: u32) -> usize
     requires { ⌜ 0 < length (now order) ⌝ }
 {
     let n = order.len();
-    let x = (page as u64 * 40503 + chunk as u64) & order[n - 1] as u64;
+    let x = (page.0 as u64 * 40503 + chunk as u64) & order[n - 1] as u64;
     std::num::wrapping_sub_usize(std::num::wrapping_sub_usize(n, x as usize), 2)
 }
 
 // Whether slot s holds this chunk of this page.
-fn is_place(keys: &[u64], words: &[u64], s: usize, page: u32, chunk: u32) -> bool
+fn is_place(keys: &[u64], words: &[u64], s: usize, page: PageId, chunk: u32) -> bool
     requires { ⌜ (headLength ≤ length (now words)) × (slotCount (now words) ≤ length (now keys)) × (slotCount (now words) ≤ 65536) ⌝ }
-    ensures { λ r. ⌜ (r ≡ true → Names (now (keys .entry)) (now (words .entry)) s page chunk) ⌝ }
+    ensures { λ r. ⌜ (r ≡ true → Names (now (keys .entry)) (now (words .entry)) s (page .0) chunk) ⌝ }
 {
     let c = words[head::CHUNKS] as usize;
     if s >= c {
         return false;
     }
-    let k = keys[s];
-    if k % 33554432 != chunk as u64 + 1 {
+    let key = keys[s];
+    if key == 0 {
         return false;
     }
-    let e = (k / 33554432) as usize;
+    if key_chunk(key) != chunk as u64 {
+        return false;
+    }
+    let e = key_entry(key);
     if e >= keys.len() - c {
         return false;
     }
-    keys[c + e] == page as u64 + 1
+    keys[c + e] == page.0 as u64 + 1
 }
 
-// The slot of a chunk of a page, if a hint knows it, or the number of slots.
-pub fn hinted(keys: &[u64], order: &[u32], words: &[u64], page: u32, chunk: u32) -> usize
+// The slot of a chunk of a page, if a hint names it. Any other answer is at least the number of slots, and says nothing.
+pub fn hinted(keys: &[u64], order: &[u32], words: &[u64], page: PageId, chunk: u32) -> usize
     requires { ⌜ Findable (now keys) (now order) (now words) ⌝ }
-    ensures { λ r. ⌜ (r < slotCount (now (words .entry)) → r ≡ slotFor (now (keys .entry)) (now (words .entry)) page chunk) ⌝ }
+    ensures { λ r. ⌜ (r < slotCount (now (words .entry)) → r ≡ slotFor (now (keys .entry)) (now (words .entry)) (page .0) chunk) ⌝ }
 {
     let h = hint_place(order, page, chunk);
     if h >= order.len() {
@@ -134,34 +180,34 @@ pub fn hinted(keys: &[u64], order: &[u32], words: &[u64], page: u32, chunk: u32)
 }
 
 // The slot of a chunk of a page, or the number of slots where none holds it.
-pub fn place_of(keys: &[u64], order: &[u32], words: &[u64], page: u32, chunk: u32) -> usize
-    requires { ⌜ (Findable (now keys) (now order) (now words)) × (chunk ≤ 16777216) ⌝ }
-    ensures { λ r. ⌜ r ≡ slotFor (now (keys .entry)) (now (words .entry)) page chunk ⌝ }
+pub fn place_of(keys: &[u64], order: &[u32], words: &[u64], page: PageId, chunk: u32) -> usize
+    requires { ⌜ (Findable (now keys) (now order) (now words)) × (chunk ≤ lastChunk) ⌝ }
+    ensures { λ r. ⌜ r ≡ slotFor (now (keys .entry)) (now (words .entry)) (page .0) chunk ⌝ }
 {
     let s = hinted(keys, order, words, page, chunk);
     if s < words[head::CHUNKS] as usize {
         return s;
     }
     let e = entry_of(keys, order, words, page);
-    slot_of(keys, order, words, e as u64 * 33554432 + chunk as u64 + 1)
+    slot_at_entry(keys, order, words, e, chunk as u64)
 }
 
-// The slot of the last chunk of the word at an address, whose first chunk's slot is s, if a hint knows it, or the number of slots.
+// The slot of the last chunk of the word at an address, whose first chunk's slot is s, if a hint names it. Any other answer is at least the number of slots, and says nothing.
 pub fn hinted_last(
     keys: &[u64],
     order: &[u32],
     words: &[u64],
-    page: u32,
-    address: u32,
+    page: PageId,
+    address: Address,
     s: usize,
 ) -> usize
-    requires { ⌜ (Findable (now keys) (now order) (now words)) × (s ≡ slotFor (now keys) (now words) page (address / 256)) ⌝ }
-    ensures { λ r. ⌜ (r < slotCount (now (words .entry)) → r ≡ slotFor (now (keys .entry)) (now (words .entry)) page ((address + 31) / 256)) ⌝ }
+    requires { ⌜ (Findable (now keys) (now order) (now words)) × (s ≡ slotFor (now keys) (now words) (page .0) ((address .0) / 256)) ⌝ }
+    ensures { λ r. ⌜ (r < slotCount (now (words .entry)) → r ≡ slotFor (now (keys .entry)) (now (words .entry)) (page .0) (((address .0) + 31) / 256)) ⌝ }
 {
-    if address % 256 <= 224 {
+    if address.0 % 256 <= 224 {
         return s;
     }
-    hinted(keys, order, words, page, address / 256 + 1)
+    hinted(keys, order, words, page, address.0 / 256 + 1)
 }
 
 // The same, by search where no hint knows it.
@@ -169,21 +215,21 @@ pub fn place_of_last(
     keys: &[u64],
     order: &[u32],
     words: &[u64],
-    page: u32,
-    address: u32,
+    page: PageId,
+    address: Address,
     s: usize,
 ) -> usize
-    requires { ⌜ (Findable (now keys) (now order) (now words)) × (s ≡ slotFor (now keys) (now words) page (address / 256)) ⌝ }
-    ensures { λ r. ⌜ r ≡ slotFor (now (keys .entry)) (now (words .entry)) page ((address + 31) / 256) ⌝ }
+    requires { ⌜ (Findable (now keys) (now order) (now words)) × (s ≡ slotFor (now keys) (now words) (page .0) ((address .0) / 256)) ⌝ }
+    ensures { λ r. ⌜ r ≡ slotFor (now (keys .entry)) (now (words .entry)) (page .0) (((address .0) + 31) / 256) ⌝ }
 {
-    if address % 256 <= 224 {
+    if address.0 % 256 <= 224 {
         return s;
     }
-    place_of(keys, order, words, page, address / 256 + 1)
+    place_of(keys, order, words, page, address.0 / 256 + 1)
 }
 
 // Notes where a chunk of a page was found, for the next search.
-pub fn learn(order: &mut [u32], words: &[u64], page: u32, chunk: u32, s: usize)
+pub fn learn(order: &mut [u32], words: &[u64], page: PageId, chunk: u32, s: usize)
     requires { ⌜ (headLength ≤ length (now words)) × (slotCount (now words) ≤ 65536) × (pageCount (now words) ≤ 4096) ⌝ }
     requires { ⌜ (slotCount (now words) + pageCount (now words) + 4 < length (now order)) × (s ≤ 65536) ⌝ }
     ensures { λ _. ⌜ Learnt (now (order .entry)) (now (words .entry)) (now (order .exit)) ⌝ }
@@ -238,7 +284,7 @@ fn wipe(bytes: &mut [u8], order: &[u32], from: usize, to: usize)
     }
 }
 
-// Gives the slots back to the pool whose keys are from lo up to, but without, hi; their chunks are zeroed.
+// Returns the slots to the pool whose keys are from lo up to, but without, hi; their chunks are zeroed.
 pub fn give(
     bytes: &mut [u8],
     keys: &mut [u64],

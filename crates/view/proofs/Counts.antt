@@ -10,6 +10,7 @@ use native.Mathlib.Omega.{arith}
 use lib.ListN.{getD, drop}
 use lib.Seq.{getD-drop}
 use borrow.Author.Tests.{le-ltb, leb-true}
+use Rattle.store.specs.Keys.{keyOf, keyEntry, keyChunk}
 use Rattle.page_ids.specs.Decode.{Page, none, page, decoded, isDynamic, isFixed}
 use Rattle.page_ids.specs.declared.Layout.{Layout}
 use Rattle.index.specs.Index.{usedCount}
@@ -17,8 +18,8 @@ use Rattle.index.proofs.Logic.{and-left, and-right, and-both}
 use Rattle.index.proofs.Counts.{count-held, used-free}
 use Rattle.store.specs.Mem.{Mem, layoutOf, slotCount, pageCount, holders, entries}
 use Rattle.formed.specs.Pages.{fixed, dynamic}
-use Rattle.formed.specs.Parts.{keyOf, entryOf, allocated, entriesLeft, slotOfChunk, holds, pool}
-use Rattle.formed.specs.WellFormed.{holder, keyEntry, keyChunk, HeldAt, OnePlace, ListedAt, ListedPage, WellFormed}
+use Rattle.formed.specs.Parts.{entryOf, allocated, entriesLeft, slotOfChunk, holds, pool}
+use Rattle.formed.specs.WellFormed.{holder, HeldAt, OnePlace, ListedAt, ListedPage, WellFormed}
 use Rattle.formed.proofs.Sizes.{holders-long, entries-long}
 use Rattle.formed.proofs.Pages.{fixed-id, fixed-at}
 use Rattle.formed.proofs.Keys.{in-table, seek-is, key-again}

@@ -6,6 +6,7 @@ use mathlib.Core.List.{List, [], _++_}
 use Prim.Native.Nat.{ℕ, _+_, _-_, _/_, _<_, _≤_}
 use lib.Dec.{leb, ltb, eqb}
 use lib.ListN.{length}
+use Rattle.store.specs.Keys.{lastChunk}
 use Rattle.store.specs.Mem.{Mem, layoutOf, journalWords}
 use Rattle.formed.specs.Pages.{fixed, dynamic, journalCount, journalPage}
 use Rattle.formed.specs.Parts.{Note}
@@ -45,7 +46,7 @@ pub record ListAsks (m : Mem) (p : ℕ) : Type 0 where
 pub record HoldAsks (m : Mem) (p k n : ℕ) : Type 0 where
   pub formed : WellFormed m
   pub listed : viewOf m .allocated p ≡ true
-  pub top : k + n ≤ 16777217
+  pub top : k + n ≤ lastChunk + 1
   pub room : missing (viewOf m .held p) k n ≤ viewOf m .pool
 
 -- the chunks of the 32 bytes at address a are held by journal j's page, and the journal has room

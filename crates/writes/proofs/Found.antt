@@ -9,13 +9,14 @@ use native.Mathlib.Omega.{arith}
 use lib.Dec.{leb, ltb, eqb}
 use lib.ListN.{length}
 use borrow.Author.Tests.{le-leb, lt-leb, lt-ltb, le-ltb, eq-eqb, ne-eqb}
+use Rattle.store.specs.Keys.{keyEntry}
 use Rattle.view.specs.Calls.{firstRefusal}
 use Rattle.index.proofs.Logic.{same-or-not, lt-or-ge}
 use Rattle.index.proofs.Places.{seek-upto}
 use Rattle.store.specs.Mem.{Mem, layoutOf, slotCount, pageCount, entries}
 use Rattle.store.specs.Find.{slotFor}
 use Rattle.formed.specs.Parts.{entryOf, holds}
-use Rattle.formed.specs.WellFormed.{HeldAt, WellFormed, holder, keyEntry}
+use Rattle.formed.specs.WellFormed.{HeldAt, WellFormed, holder}
 use Rattle.formed.proofs.Sizes.{entries-long}
 use Rattle.formed.proofs.Keys.{in-table}
 use Rattle.formed.proofs.Hints.{slot-found}

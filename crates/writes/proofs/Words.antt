@@ -9,12 +9,13 @@ use native.Mathlib.Omega.{arith}
 use lib.Dec.{leb}
 use lib.ListN.{length, getD, take, drop}
 use borrow.Author.Tests.{lt-ltb, ltb-true}
+use Rattle.store.specs.Keys.{keyOf}
 use Rattle.index.specs.Index.{seek}
 use Rattle.index.proofs.Logic.{same-or-not}
 use Rattle.store.specs.Mem.{Mem, mem, layoutOf, slotCount}
 use Rattle.store.specs.Find.{slotFor}
 use Rattle.formed.specs.Pages.{journalPage}
-use Rattle.formed.specs.Parts.{keyOf, slotOfChunk, holds}
+use Rattle.formed.specs.Parts.{slotOfChunk, holds}
 use Rattle.formed.proofs.Same.{tab-is}
 use Rattle.formed.proofs.Hints.{slot-found}
 use Rattle.view.specs.View.{Setting, settingOf, viewOf}

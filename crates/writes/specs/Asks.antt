@@ -5,6 +5,7 @@ use mathlib.Core.Bool.{Bool, true, false, _||_}
 use mathlib.Core.List.{List}
 use Prim.Native.Nat.{ℕ, _+_, _/_, _<_, _≤_}
 use lib.ListN.{length}
+use Rattle.store.specs.Keys.{lastChunk}
 use Rattle.page_ids.specs.declared.Layout.{Layout}
 use Rattle.store.specs.Mem.{Mem, layoutOf, slotCount, journalWords}
 use Rattle.formed.specs.Pages.{fixed, dynamic, journalCount, journalPage}
@@ -21,7 +22,7 @@ pub record PrepareAsks (m : Mem) (p k n : ℕ) : Type 0 where
   pub page : p ≤ 4294967295
   pub decodable : (fixed (layoutOf (m .words)) p || dynamic (layoutOf (m .words)) p) ≡ true
   pub entry : viewOf m .allocated p ≡ false → 0 < viewOf m .entries
-  pub top : k + n ≤ 16777217
+  pub top : k + n ≤ lastChunk + 1
   pub room : missing (viewOf m .held p) k n ≤ viewOf m .pool
 
 -- page p holds the chunks of n bytes at address a, and if it has a journal, that has room for w words

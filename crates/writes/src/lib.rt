@@ -23,7 +23,7 @@ pub fn write_u256(
 ) -> Answer
     ensures { λ r. ⌜ CallDoes (mem (now (bytes .entry)) (now (keys .entry)) (now (order .entry)) (now (words .entry))) (Call.WriteWord (page .0) (address .0) (value (word .limbs))) (answerOutcome nothing r) (mem (now (bytes .exit)) (now (keys .exit)) (now (order .exit)) (now (words .exit))) ⌝ }
 {
-    let refusal = checks::word_refusal(bytes, keys, order, words, page.0, address.0);
+    let refusal = checks::word_refusal(bytes, keys, order, words, page, address);
     if refusal != 0 {
         return Answer::Refused(refusal);
     }
@@ -32,8 +32,8 @@ pub fn write_u256(
         keys,
         order,
         words,
-        page.0,
-        address.0,
+        page,
+        address,
         word::to_big_endian(word),
     );
     Answer::Done
@@ -51,11 +51,11 @@ pub fn write_bytes(
 ) -> Answer
     ensures { λ r. ⌜ CallDoes (mem (now (bytes .entry)) (now (keys .entry)) (now (order .entry)) (now (words .entry))) (Call.WriteBytes (page .0) (start .0) (now (src .entry))) (answerOutcome nothing r) (mem (now (bytes .exit)) (now (keys .exit)) (now (order .exit)) (now (words .exit))) ⌝ }
 {
-    let refusal = checks::bytes_refusal(bytes, keys, order, words, page.0, start.0, src.len());
+    let refusal = checks::bytes_refusal(bytes, keys, order, words, page, start, src.len());
     if refusal != 0 {
         return Answer::Refused(refusal);
     }
-    steps::write_range(bytes, keys, order, words, page.0, start.0, src);
+    steps::write_range(bytes, keys, order, words, page, start, src);
     Answer::Done
 }
 
@@ -70,11 +70,11 @@ pub fn allocate_with_content_at(
 ) -> Answer
     ensures { λ r. ⌜ CallDoes (mem (now (bytes .entry)) (now (keys .entry)) (now (order .entry)) (now (words .entry))) (Call.Allocate (page .0) (now (contents .entry))) (answerOutcome nothing r) (mem (now (bytes .exit)) (now (keys .exit)) (now (order .exit)) (now (words .exit))) ⌝ }
 {
-    let refusal = checks::allocate_refusal(bytes, keys, order, words, page.0, contents.len());
+    let refusal = checks::allocate_refusal(bytes, keys, order, words, page, contents.len());
     if refusal != 0 {
         return Answer::Refused(refusal);
     }
-    steps::fill(bytes, keys, order, words, page.0, contents);
+    steps::fill(bytes, keys, order, words, page, contents);
     Answer::Done
 }
 
@@ -88,10 +88,10 @@ pub fn allocate_at(
 ) -> Answer
     ensures { λ r. ⌜ CallDoes (mem (now (bytes .entry)) (now (keys .entry)) (now (order .entry)) (now (words .entry))) (Call.Allocate (page .0) []) (answerOutcome nothing r) (mem (now (bytes .exit)) (now (keys .exit)) (now (order .exit)) (now (words .exit))) ⌝ }
 {
-    let refusal = checks::allocate_refusal(bytes, keys, order, words, page.0, 0);
+    let refusal = checks::allocate_refusal(bytes, keys, order, words, page, 0);
     if refusal != 0 {
         return Answer::Refused(refusal);
     }
-    pages::list_page(bytes, keys, order, words, page.0);
+    pages::list_page(bytes, keys, order, words, page);
     Answer::Done
 }

@@ -11,6 +11,8 @@ ghost use Rattle.view.specs.Checks.{wordWriteChecks, byteWriteChecks, allocateC
 ghost use Rattle.view.specs.Does.{Shows};
 ghost use Rattle.view.specs.Inner.{listing, holding, journalling};
 ghost use Rattle.writes.specs.Asks.{PrepareAsks, JournalAsks, WordAsks, wordPut, WrittenOrLeft};
+use page_ids::Address;
+use page_ids::PageId;
 use store::head;
 
 // The page is allocated and holds the chunks first, .., first + count - 1.
@@ -19,12 +21,12 @@ fn prepare(
     keys: &mut [u64],
     order: &mut [u32],
     words: &mut [u64],
-    page: u32,
+    page: PageId,
     first: u32,
     count: u32,
 )
-    requires { ⌜ PrepareAsks (mem (now bytes) (now keys) (now order) (now words)) page first count ⌝ }
-    ensures { λ _. ⌜ Shows (settingOf (mem (now (bytes .entry)) (now (keys .entry)) (now (order .entry)) (now (words .entry)))) (holding page first count (listing (mem (now (bytes .entry)) (now (keys .entry)) (now (order .entry)) (now (words .entry))) page)) (mem (now (bytes .entry)) (now (keys .exit)) (now (order .exit)) (now (words .exit))) ⌝ }
+    requires { ⌜ PrepareAsks (mem (now bytes) (now keys) (now order) (now words)) (page .0) first count ⌝ }
+    ensures { λ _. ⌜ Shows (settingOf (mem (now (bytes .entry)) (now (keys .entry)) (now (order .entry)) (now (words .entry)))) (holding (page .0) first count (listing (mem (now (bytes .entry)) (now (keys .entry)) (now (order .entry)) (now (words .entry))) (page .0))) (mem (now (bytes .entry)) (now (keys .exit)) (now (order .exit)) (now (words .exit))) ⌝ }
 {
     pages::list_page(bytes, keys, order, words, page);
     chunks::hold_chunks(bytes, keys, order, words, page, first, count);
@@ -36,21 +38,17 @@ fn journal_found(
     keys: &[u64],
     order: &[u32],
     words: &mut [u64],
-    page: u32,
-    address: u32,
+    page: PageId,
+    address: Address,
     s: usize,
     t: usize,
 )
-    requires { ⌜ WordAsks (mem (now bytes) (now keys) (now order) (now words)) page address s t ⌝ }
-    ensures { λ _. ⌜ Shows (settingOf (mem (now (bytes .entry)) (now (keys .entry)) (now (order .entry)) (now (words .entry)))) (journalling (layoutOf (now (words .entry))) page (wordNotes (viewOf (mem (now (bytes .entry)) (now (keys .entry)) (now (order .entry)) (now (words .entry)))) page address) (viewOf (mem (now (bytes .entry)) (now (keys .entry)) (now (order .entry)) (now (words .entry))))) (mem (now (bytes .exit)) (now (keys .entry)) (now (order .entry)) (now (words .exit))) ⌝ }
+    requires { ⌜ WordAsks (mem (now bytes) (now keys) (now order) (now words)) (page .0) (address .0) s t ⌝ }
+    ensures { λ _. ⌜ Shows (settingOf (mem (now (bytes .entry)) (now (keys .entry)) (now (order .entry)) (now (words .entry)))) (journalling (layoutOf (now (words .entry))) (page .0) (wordNotes (viewOf (mem (now (bytes .entry)) (now (keys .entry)) (now (order .entry)) (now (words .entry)))) (page .0) (address .0)) (viewOf (mem (now (bytes .entry)) (now (keys .entry)) (now (order .entry)) (now (words .entry))))) (mem (now (bytes .exit)) (now (keys .entry)) (now (order .entry)) (now (words .exit))) ⌝ }
 {
-    if page as u64 == words[head::BOOTLOADER_HEAP] {
-        journal::note_found(bytes, keys, order, words, 0, address, s, t);
-        return;
-    }
-    if page as u64 == words[head::BOOTLOADER_AUX] {
-        journal::note_found(bytes, keys, order, words, 1, address, s, t);
-        return;
+    let j = formed::journals::journal_of(words, page);
+    if j < head::JOURNAL_COUNT {
+        journal::note_found(bytes, keys, order, words, j, address, s, t);
     }
 }
 
@@ -60,21 +58,17 @@ fn journal_range(
     keys: &[u64],
     order: &[u32],
     words: &mut [u64],
-    page: u32,
-    start: u32,
+    page: PageId,
+    start: Address,
     n: usize,
 )
-    requires { ⌜ (JournalAsks (mem (now bytes) (now keys) (now order) (now words)) page start n (alignedCount start n)) × (start + n ≤ 2 ^ 32) ⌝ }
-    ensures { λ _. ⌜ Shows (settingOf (mem (now (bytes .entry)) (now (keys .entry)) (now (order .entry)) (now (words .entry)))) (journalling (layoutOf (now (words .entry))) page (alignedNotes (viewOf (mem (now (bytes .entry)) (now (keys .entry)) (now (order .entry)) (now (words .entry)))) page start n) (viewOf (mem (now (bytes .entry)) (now (keys .entry)) (now (order .entry)) (now (words .entry))))) (mem (now (bytes .exit)) (now (keys .entry)) (now (order .entry)) (now (words .exit))) ⌝ }
+    requires { ⌜ (JournalAsks (mem (now bytes) (now keys) (now order) (now words)) (page .0) (start .0) n (alignedCount (start .0) n)) × ((start .0) + n ≤ 2 ^ 32) ⌝ }
+    ensures { λ _. ⌜ Shows (settingOf (mem (now (bytes .entry)) (now (keys .entry)) (now (order .entry)) (now (words .entry)))) (journalling (layoutOf (now (words .entry))) (page .0) (alignedNotes (viewOf (mem (now (bytes .entry)) (now (keys .entry)) (now (order .entry)) (now (words .entry)))) (page .0) (start .0) n) (viewOf (mem (now (bytes .entry)) (now (keys .entry)) (now (order .entry)) (now (words .entry))))) (mem (now (bytes .exit)) (now (keys .entry)) (now (order .entry)) (now (words .exit))) ⌝ }
 {
     let count = checks::aligned(start, n) as u32;
-    if page as u64 == words[head::BOOTLOADER_HEAP] {
-        journal::note_aligned(bytes, keys, order, words, 0, start / 32, count);
-        return;
-    }
-    if page as u64 == words[head::BOOTLOADER_AUX] {
-        journal::note_aligned(bytes, keys, order, words, 1, start / 32, count);
-        return;
+    let j = formed::journals::journal_of(words, page);
+    if j < head::JOURNAL_COUNT {
+        journal::note_aligned(bytes, keys, order, words, j, start.0 / 32, count);
     }
 }
 
@@ -84,17 +78,17 @@ fn write_at(
     keys: &[u64],
     order: &[u32],
     words: &mut [u64],
-    page: u32,
-    address: u32,
+    page: PageId,
+    address: Address,
     s: usize,
     t: usize,
     value: [u8; 32],
 )
-    requires { ⌜ WordAsks (mem (now bytes) (now keys) (now order) (now words)) page address s t ⌝ }
-    ensures { λ _. ⌜ Shows (settingOf (mem (now (bytes .entry)) (now (keys .entry)) (now (order .entry)) (now (words .entry)))) (wordPut (layoutOf (now (words .entry))) page address value (viewOf (mem (now (bytes .entry)) (now (keys .entry)) (now (order .entry)) (now (words .entry))))) (mem (now (bytes .exit)) (now (keys .entry)) (now (order .entry)) (now (words .exit))) ⌝ }
+    requires { ⌜ WordAsks (mem (now bytes) (now keys) (now order) (now words)) (page .0) (address .0) s t ⌝ }
+    ensures { λ _. ⌜ Shows (settingOf (mem (now (bytes .entry)) (now (keys .entry)) (now (order .entry)) (now (words .entry)))) (wordPut (layoutOf (now (words .entry))) (page .0) (address .0) value (viewOf (mem (now (bytes .entry)) (now (keys .entry)) (now (order .entry)) (now (words .entry))))) (mem (now (bytes .exit)) (now (keys .entry)) (now (order .entry)) (now (words .exit))) ⌝ }
 {
     journal_found(bytes, keys, order, words, page, address, s, t);
-    bodies::put_word(bytes, s, t, (address % 256) as usize, value);
+    bodies::put_word(bytes, s, t, (address.0 % 256) as usize, value);
 }
 
 // A word whose chunks are found by their hints is written at once. Any other is left.
@@ -103,15 +97,15 @@ fn write_found(
     keys: &[u64],
     order: &[u32],
     words: &mut [u64],
-    page: u32,
-    address: u32,
+    page: PageId,
+    address: Address,
     value: [u8; 32],
 ) -> bool
-    requires { ⌜ (WellFormed (mem (now bytes) (now keys) (now order) (now words))) × (firstRefusal (wordWriteChecks (settingOf (mem (now bytes) (now keys) (now order) (now words))) (viewOf (mem (now bytes) (now keys) (now order) (now words))) page address) ≡ 0) ⌝ }
-    ensures { λ r. ⌜ WrittenOrLeft (mem (now (bytes .entry)) (now (keys .entry)) (now (order .entry)) (now (words .entry))) page address value r (mem (now (bytes .exit)) (now (keys .entry)) (now (order .entry)) (now (words .exit))) ⌝ }
+    requires { ⌜ (WellFormed (mem (now bytes) (now keys) (now order) (now words))) × (firstRefusal (wordWriteChecks (settingOf (mem (now bytes) (now keys) (now order) (now words))) (viewOf (mem (now bytes) (now keys) (now order) (now words))) (page .0) (address .0)) ≡ 0) ⌝ }
+    ensures { λ r. ⌜ WrittenOrLeft (mem (now (bytes .entry)) (now (keys .entry)) (now (order .entry)) (now (words .entry))) (page .0) (address .0) value r (mem (now (bytes .exit)) (now (keys .entry)) (now (order .entry)) (now (words .exit))) ⌝ }
 {
     let c = words[head::CHUNKS] as usize;
-    let s = store::hinted(keys, order, words, page, address / 256);
+    let s = store::hinted(keys, order, words, page, address.0 / 256);
     if s >= c {
         return false;
     }
@@ -129,14 +123,14 @@ fn write_held(
     keys: &[u64],
     order: &[u32],
     words: &mut [u64],
-    page: u32,
-    address: u32,
+    page: PageId,
+    address: Address,
     value: [u8; 32],
 )
-    requires { ⌜ JournalAsks (mem (now bytes) (now keys) (now order) (now words)) page address 32 1 ⌝ }
-    ensures { λ _. ⌜ Shows (settingOf (mem (now (bytes .entry)) (now (keys .entry)) (now (order .entry)) (now (words .entry)))) (wordPut (layoutOf (now (words .entry))) page address value (viewOf (mem (now (bytes .entry)) (now (keys .entry)) (now (order .entry)) (now (words .entry))))) (mem (now (bytes .exit)) (now (keys .entry)) (now (order .entry)) (now (words .exit))) ⌝ }
+    requires { ⌜ JournalAsks (mem (now bytes) (now keys) (now order) (now words)) (page .0) (address .0) 32 1 ⌝ }
+    ensures { λ _. ⌜ Shows (settingOf (mem (now (bytes .entry)) (now (keys .entry)) (now (order .entry)) (now (words .entry)))) (wordPut (layoutOf (now (words .entry))) (page .0) (address .0) value (viewOf (mem (now (bytes .entry)) (now (keys .entry)) (now (order .entry)) (now (words .entry))))) (mem (now (bytes .exit)) (now (keys .entry)) (now (order .entry)) (now (words .exit))) ⌝ }
 {
-    let s = store::place_of(keys, order, words, page, address / 256);
+    let s = store::place_of(keys, order, words, page, address.0 / 256);
     let t = store::place_of_last(keys, order, words, page, address, s);
     write_at(bytes, keys, order, words, page, address, s, t, value);
 }
@@ -147,15 +141,15 @@ fn write_new(
     keys: &mut [u64],
     order: &mut [u32],
     words: &mut [u64],
-    page: u32,
-    address: u32,
+    page: PageId,
+    address: Address,
     value: [u8; 32],
 )
-    requires { ⌜ (WellFormed (mem (now bytes) (now keys) (now order) (now words))) × (firstRefusal (wordWriteChecks (settingOf (mem (now bytes) (now keys) (now order) (now words))) (viewOf (mem (now bytes) (now keys) (now order) (now words))) page address) ≡ 0) ⌝ }
-    ensures { λ _. ⌜ Shows (settingOf (mem (now (bytes .entry)) (now (keys .entry)) (now (order .entry)) (now (words .entry)))) (wordWritten (layoutOf (now (words .entry))) page address value (viewOf (mem (now (bytes .entry)) (now (keys .entry)) (now (order .entry)) (now (words .entry))))) (mem (now (bytes .exit)) (now (keys .exit)) (now (order .exit)) (now (words .exit))) ⌝ }
+    requires { ⌜ (WellFormed (mem (now bytes) (now keys) (now order) (now words))) × (firstRefusal (wordWriteChecks (settingOf (mem (now bytes) (now keys) (now order) (now words))) (viewOf (mem (now bytes) (now keys) (now order) (now words))) (page .0) (address .0)) ≡ 0) ⌝ }
+    ensures { λ _. ⌜ Shows (settingOf (mem (now (bytes .entry)) (now (keys .entry)) (now (order .entry)) (now (words .entry)))) (wordWritten (layoutOf (now (words .entry))) (page .0) (address .0) value (viewOf (mem (now (bytes .entry)) (now (keys .entry)) (now (order .entry)) (now (words .entry))))) (mem (now (bytes .exit)) (now (keys .exit)) (now (order .exit)) (now (words .exit))) ⌝ }
 {
     let count = checks::touched(address, 32) as u32;
-    prepare(bytes, keys, order, words, page, address / 256, count);
+    prepare(bytes, keys, order, words, page, address.0 / 256, count);
     write_held(bytes, keys, order, words, page, address, value);
 }
 
@@ -164,12 +158,12 @@ pub fn write_word(
     keys: &mut [u64],
     order: &mut [u32],
     words: &mut [u64],
-    page: u32,
-    address: u32,
+    page: PageId,
+    address: Address,
     value: [u8; 32],
 )
-    requires { ⌜ (WellFormed (mem (now bytes) (now keys) (now order) (now words))) × (firstRefusal (wordWriteChecks (settingOf (mem (now bytes) (now keys) (now order) (now words))) (viewOf (mem (now bytes) (now keys) (now order) (now words))) page address) ≡ 0) ⌝ }
-    ensures { λ _. ⌜ Shows (settingOf (mem (now (bytes .entry)) (now (keys .entry)) (now (order .entry)) (now (words .entry)))) (wordWritten (layoutOf (now (words .entry))) page address value (viewOf (mem (now (bytes .entry)) (now (keys .entry)) (now (order .entry)) (now (words .entry))))) (mem (now (bytes .exit)) (now (keys .exit)) (now (order .exit)) (now (words .exit))) ⌝ }
+    requires { ⌜ (WellFormed (mem (now bytes) (now keys) (now order) (now words))) × (firstRefusal (wordWriteChecks (settingOf (mem (now bytes) (now keys) (now order) (now words))) (viewOf (mem (now bytes) (now keys) (now order) (now words))) (page .0) (address .0)) ≡ 0) ⌝ }
+    ensures { λ _. ⌜ Shows (settingOf (mem (now (bytes .entry)) (now (keys .entry)) (now (order .entry)) (now (words .entry)))) (wordWritten (layoutOf (now (words .entry))) (page .0) (address .0) value (viewOf (mem (now (bytes .entry)) (now (keys .entry)) (now (order .entry)) (now (words .entry))))) (mem (now (bytes .exit)) (now (keys .exit)) (now (order .exit)) (now (words .exit))) ⌝ }
 {
     if write_found(bytes, keys, order, words, page, address, value) {
         return;
@@ -182,15 +176,15 @@ pub fn write_range(
     keys: &mut [u64],
     order: &mut [u32],
     words: &mut [u64],
-    page: u32,
-    start: u32,
+    page: PageId,
+    start: Address,
     src: &[u8],
 )
-    requires { ⌜ (WellFormed (mem (now bytes) (now keys) (now order) (now words))) × (firstRefusal (byteWriteChecks (settingOf (mem (now bytes) (now keys) (now order) (now words))) (viewOf (mem (now bytes) (now keys) (now order) (now words))) page start (length (now src))) ≡ 0) ⌝ }
-    ensures { λ _. ⌜ Shows (settingOf (mem (now (bytes .entry)) (now (keys .entry)) (now (order .entry)) (now (words .entry)))) (bytesWritten (layoutOf (now (words .entry))) page start (now (src .entry)) (viewOf (mem (now (bytes .entry)) (now (keys .entry)) (now (order .entry)) (now (words .entry))))) (mem (now (bytes .exit)) (now (keys .exit)) (now (order .exit)) (now (words .exit))) ⌝ }
+    requires { ⌜ (WellFormed (mem (now bytes) (now keys) (now order) (now words))) × (firstRefusal (byteWriteChecks (settingOf (mem (now bytes) (now keys) (now order) (now words))) (viewOf (mem (now bytes) (now keys) (now order) (now words))) (page .0) (start .0) (length (now src))) ≡ 0) ⌝ }
+    ensures { λ _. ⌜ Shows (settingOf (mem (now (bytes .entry)) (now (keys .entry)) (now (order .entry)) (now (words .entry)))) (bytesWritten (layoutOf (now (words .entry))) (page .0) (start .0) (now (src .entry)) (viewOf (mem (now (bytes .entry)) (now (keys .entry)) (now (order .entry)) (now (words .entry))))) (mem (now (bytes .exit)) (now (keys .exit)) (now (order .exit)) (now (words .exit))) ⌝ }
 {
     let count = checks::touched(start, src.len()) as u32;
-    prepare(bytes, keys, order, words, page, start / 256, count);
+    prepare(bytes, keys, order, words, page, start.0 / 256, count);
     journal_range(bytes, keys, order, words, page, start, src.len());
     bodies::write_from(bytes, keys, order, words, page, start, src);
 }
@@ -201,13 +195,13 @@ pub fn fill(
     keys: &mut [u64],
     order: &mut [u32],
     words: &mut [u64],
-    page: u32,
+    page: PageId,
     contents: &[u8],
 )
-    requires { ⌜ (WellFormed (mem (now bytes) (now keys) (now order) (now words))) × (firstRefusal (allocateChecks (settingOf (mem (now bytes) (now keys) (now order) (now words))) (viewOf (mem (now bytes) (now keys) (now order) (now words))) page (length (now contents))) ≡ 0) ⌝ }
-    ensures { λ _. ⌜ Shows (settingOf (mem (now (bytes .entry)) (now (keys .entry)) (now (order .entry)) (now (words .entry)))) (contentsAllocated (layoutOf (now (words .entry))) page (now (contents .entry)) (viewOf (mem (now (bytes .entry)) (now (keys .entry)) (now (order .entry)) (now (words .entry))))) (mem (now (bytes .exit)) (now (keys .exit)) (now (order .exit)) (now (words .exit))) ⌝ }
+    requires { ⌜ (WellFormed (mem (now bytes) (now keys) (now order) (now words))) × (firstRefusal (allocateChecks (settingOf (mem (now bytes) (now keys) (now order) (now words))) (viewOf (mem (now bytes) (now keys) (now order) (now words))) (page .0) (length (now contents))) ≡ 0) ⌝ }
+    ensures { λ _. ⌜ Shows (settingOf (mem (now (bytes .entry)) (now (keys .entry)) (now (order .entry)) (now (words .entry)))) (contentsAllocated (layoutOf (now (words .entry))) (page .0) (now (contents .entry)) (viewOf (mem (now (bytes .entry)) (now (keys .entry)) (now (order .entry)) (now (words .entry))))) (mem (now (bytes .exit)) (now (keys .exit)) (now (order .exit)) (now (words .exit))) ⌝ }
 {
-    let count = checks::touched(0, contents.len()) as u32;
+    let count = checks::touched(Address(0), contents.len()) as u32;
     prepare(bytes, keys, order, words, page, 0, count);
-    bodies::write_from(bytes, keys, order, words, page, 0, contents);
+    bodies::write_from(bytes, keys, order, words, page, Address(0), contents);
 }

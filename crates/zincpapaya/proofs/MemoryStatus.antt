@@ -7,7 +7,7 @@ use Prim.Native.Nat.{ℕ, zero, suc, _*_, _-_}
 use native.Mathlib.Omega.{arith}
 use lib.Dec.{eqb}
 use lib.ListN.{length}
-use Rattle.outcome.specs.Outcome.{Outcome, refused, panicked, done, carriedOut, firstOf, mapped, answered, answerOutcome, statusOf}
+use Rattle.outcome.specs.Outcome.{Outcome, refused, panicked, done, carriedOut, firstOf, mapped, answered, answerOutcome, statusOf, unitOutcome}
 use Rattle.outcome.specs.declared.Answer.{Answer}
 use Rattle.outcome.specs.declared.Answer.the-variants.{Done, Refused}
 use Rattle.store.specs.Mem.{Mem, layoutOf}
@@ -116,26 +116,26 @@ word-status m p x {n} {k} {m'} a r q e d = subst (λ (y : ℕ). CallDoes m (Writ
 
 -- ---- the same of an answer beside an output
 module _ (a : Answer) (r : ℕ) (e : r ≡ statusOf a) where
-  beside : (w : Value) → sound (answerOutcome tt a) ≡ true → answered r w ≡ mapped (λ _. w) (answerOutcome tt a)
+  beside : (w : Value) → sound (unitOutcome a) ≡ true → answered r w ≡ mapped (λ _. w) (unitOutcome a)
   beside w h = ap (λ (x : ℕ). answered x w) e ∙ go a h
     where
-      go : (b : Answer) → sound (answerOutcome tt b) ≡ true → answered (statusOf b) w ≡ mapped (λ _. w) (answerOutcome tt b)
+      go : (b : Answer) → sound (unitOutcome b) ≡ true → answered (statusOf b) w ≡ mapped (λ _. w) (unitOutcome b)
       go Done h = refl
       go (Refused zero) h = absurd (false≢true h)
       go (Refused (suc n)) h = refl
 
-  not-out : (r ≡ 0 → ⊥) → carriedOut (answerOutcome tt a) ≡ false
+  not-out : (r ≡ 0 → ⊥) → carriedOut (unitOutcome a) ≡ false
   not-out z = go a e
     where
-      go : (b : Answer) → r ≡ statusOf b → carriedOut (answerOutcome tt b) ≡ false
+      go : (b : Answer) → r ≡ statusOf b → carriedOut (unitOutcome b) ≡ false
       go Done q = absurd (z q)
       go (Refused n) q = refl
 
   -- a status of 0 is of no refusal
-  out : sound (answerOutcome tt a) ≡ true → r ≡ 0 → answerOutcome tt a ≡ done tt
+  out : sound (unitOutcome a) ≡ true → r ≡ 0 → unitOutcome a ≡ done tt
   out h z = go a h (sym e ∙ z)
     where
-      go : (b : Answer) → sound (answerOutcome tt b) ≡ true → statusOf b ≡ 0 → answerOutcome tt b ≡ done tt
+      go : (b : Answer) → sound (unitOutcome b) ≡ true → statusOf b ≡ 0 → unitOutcome b ≡ done tt
       go Done h q = refl
       go (Refused zero) h q = absurd (false≢true h)
       go (Refused (suc n)) h q = absurd (omega arith)
@@ -144,17 +144,17 @@ checked-sound : {A : Type 0} (m : Mem) (checks : List (Check A)) (x : A) → all
 checked-sound m checks x h = first-sound ((not (wellFormed m), refused 3) ∷ checks) (done x) h refl
 
 -- a range read
-pub range-status : (m : Mem) (p x y : ℕ) (o d : List ℕ) (a : Answer) (r : ℕ) → r ≡ statusOf a → RangeDoes (onMemory m (rangeChecks x y (length o)) tt) (answerOutcome tt a) (run (viewOf m) p x (y - x)) o d
+pub range-status : (m : Mem) (p x y : ℕ) (o d : List ℕ) (a : Answer) (r : ℕ) → r ≡ statusOf a → RangeDoes (onMemory m (rangeChecks x y (length o)) tt) (unitOutcome a) (run (viewOf m) p x (y - x)) o d
     → Gives (length o) (answerOf m (ReadRange p x y (length o))) bytes r o d
 range-status m p x y o d a r e g = record {
   unfit = λ z. absurd (z refl);
-  answer = λ _. beside a r e (bytes d) (ap sound (g .answer) ∙ checked-sound m (rangeChecks x y (length o)) tt refl) ∙ range-call m p x y o d (answerOutcome tt a) g .answer;
+  answer = λ _. beside a r e (bytes d) (ap sound (g .answer) ∙ checked-sound m (rangeChecks x y (length o)) tt refl) ∙ range-call m p x y o d (unitOutcome a) g .answer;
   kept = λ z. g .kept (sym (ap carriedOut (g .answer)) ∙ not-out a r e z);
 }
 
 -- ---- a chunk
-module _ (m : Mem) (p k : ℕ) (block o : List ℕ) (a : Answer) (r : ℕ) (l : length o ≡ 256) (e : r ≡ statusOf a) (t : answerOutcome tt a ≡ onMemory m (lookupChecks block) tt) where
-  is-sound : sound (answerOutcome tt a) ≡ true
+module _ (m : Mem) (p k : ℕ) (block o : List ℕ) (a : Answer) (r : ℕ) (l : length o ≡ 256) (e : r ≡ statusOf a) (t : unitOutcome a ≡ onMemory m (lookupChecks block) tt) where
+  is-sound : sound (unitOutcome a) ≡ true
   is-sound = ap sound t ∙ checked-sound m (lookupChecks block) tt refl
 
   pub chunk-refused : (r ≡ 0 → ⊥) → Gives 256 (chunkAnswer m p k block) bytes r o o

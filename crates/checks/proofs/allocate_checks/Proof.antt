@@ -23,7 +23,7 @@ returns c =
     let at-decode = at-is-undecodable .before in
     let start = at-decode .before .before .before .before .before in
     let m = mem (start .args .bytes .now) (start .args .keys .now) (start .args .order .now) (start .args .words .now) in
-    chosen-4 (settingOf m) (viewOf m) (start .args .page) _ (at-decode .decode .ensures) ((fixed (settingOf m .layout) (start .args .page), refused 5) ∷ (viewOf m .allocated (start .args .page), refused 6) ∷ capacityChecksAt (settingOf m) (viewOf m) (start .args .page) 0 (start .args .n) 0) (sym (at-is-undecodable .is-undecodable .ensures) ∙ at-if1 .if1 .taken)
+    chosen-4 (settingOf m) (viewOf m) (start .args .page .0) _ (at-decode .decode .ensures) ((fixed (settingOf m .layout) (start .args .page .0), refused 5) ∷ (viewOf m .allocated (start .args .page .0), refused 6) ∷ capacityChecksAt (settingOf m) (viewOf m) (start .args .page .0) 0 (start .args .n) 0) (sym (at-is-undecodable .is-undecodable .ensures) ∙ at-if1 .if1 .taken)
 
 returns-2 : tie.Need-returns-2
 returns-2 c =
@@ -34,7 +34,7 @@ returns-2 c =
     let at-decode = at-is-undecodable .before in
     let start = at-decode .before .before .before .before .before in
     let m = mem (start .args .bytes .now) (start .args .keys .now) (start .args .order .now) (start .args .words .now) in
-    allocate-5 (settingOf m) (viewOf m) (start .args .page) _ (at-decode .decode .ensures) (start .args .n) (sym (at-is-undecodable .is-undecodable .ensures) ∙ at-if1 .if1 .left) (sym (at-is-fixed .is-fixed .ensures) ∙ at-if2 .if2 .taken)
+    allocate-5 (settingOf m) (viewOf m) (start .args .page .0) _ (at-decode .decode .ensures) (start .args .n) (sym (at-is-undecodable .is-undecodable .ensures) ∙ at-if1 .if1 .left) (sym (at-is-fixed .is-fixed .ensures) ∙ at-if2 .if2 .taken)
 
 is-allocated-requires : tie.Need-is-allocated-requires
 is-allocated-requires c κs =
@@ -52,7 +52,7 @@ returns-3 c =
     let at-decode = at-is-undecodable .before in
     let start = at-decode .before .before .before .before .before in
     let m = mem (start .args .bytes .now) (start .args .keys .now) (start .args .order .now) (start .args .words .now) in
-    allocate-6 (settingOf m) (viewOf m) (start .args .page) _ (at-decode .decode .ensures) (start .args .n) (sym (at-is-undecodable .is-undecodable .ensures) ∙ at-if1 .if1 .left) (sym (at-is-fixed .is-fixed .ensures) ∙ at-if2 .if2 .left) (sym (at-is-allocated .is-allocated .ensures) ∙ at-if3 .if3 .taken)
+    allocate-6 (settingOf m) (viewOf m) (start .args .page .0) _ (at-decode .decode .ensures) (start .args .n) (sym (at-is-undecodable .is-undecodable .ensures) ∙ at-if1 .if1 .left) (sym (at-is-fixed .is-fixed .ensures) ∙ at-if2 .if2 .left) (sym (at-is-allocated .is-allocated .ensures) ∙ at-if3 .if3 .taken)
 
 capacity-refusal-requires : tie.Need-capacity-refusal-requires
 capacity-refusal-requires c κs =
@@ -73,7 +73,7 @@ returns-4 c =
     let at-decode = at-is-undecodable .before in
     let start = at-decode .before .before .before .before .before in
     let m = mem (start .args .bytes .now) (start .args .keys .now) (start .args .order .now) (start .args .words .now) in
-    allocate-room (settingOf m) (viewOf m) (start .args .page) _ (at-decode .decode .ensures) (start .args .n) (sym (at-is-undecodable .is-undecodable .ensures) ∙ at-if1 .if1 .left) (sym (at-is-fixed .is-fixed .ensures) ∙ at-if2 .if2 .left) (sym (at-is-allocated .is-allocated .ensures) ∙ at-if3 .if3 .left) _ (room-chosen 0 (start .args .n) _ (at-touched .touched .ensures) (settingOf m) (viewOf m) (start .args .page) 0 0 _ refl (at-capacity-refusal .capacity-refusal .ensures))
+    allocate-room (settingOf m) (viewOf m) (start .args .page .0) _ (at-decode .decode .ensures) (start .args .n) (sym (at-is-undecodable .is-undecodable .ensures) ∙ at-if1 .if1 .left) (sym (at-is-fixed .is-fixed .ensures) ∙ at-if2 .if2 .left) (sym (at-is-allocated .is-allocated .ensures) ∙ at-if3 .if3 .left) _ (room-chosen 0 (start .args .n) _ (at-touched .touched .ensures) (settingOf m) (viewOf m) (start .args .page .0) 0 0 _ refl (at-capacity-refusal .capacity-refusal .ensures))
 
 pub allocate-checks-spec : {M : Type 1} → statement M
 allocate-checks-spec =

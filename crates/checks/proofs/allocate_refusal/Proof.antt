@@ -15,7 +15,7 @@ returns c =
     let at-well-formed = at-if1 .before in
     let start = at-well-formed .before .before .before .before .before in
     let m = mem (start .args .bytes .now) (start .args .keys .now) (start .args .order .now) (start .args .words .now) in
-    ill-chosen m (allocateChecks (settingOf m) (viewOf m) (start .args .page) (start .args .n)) (sym (at-well-formed .well-formed .ensures) ∙ not-true _ (at-if1 .if1 .taken))
+    ill-chosen m (allocateChecks (settingOf m) (viewOf m) (start .args .page .0) (start .args .n)) (sym (at-well-formed .well-formed .ensures) ∙ not-true _ (at-if1 .if1 .taken))
 
 allocate-checks-requires : tie.Need-allocate-checks-requires
 allocate-checks-requires c κs =
@@ -32,7 +32,7 @@ returns-2 c =
     let at-well-formed = at-if1 .before in
     let start = at-well-formed .before .before .before .before .before in
     let m = mem (start .args .bytes .now) (start .args .keys .now) (start .args .order .now) (start .args .words .now) in
-    well-chosen m (allocateChecks (settingOf m) (viewOf m) (start .args .page) (start .args .n)) (sym (at-well-formed .well-formed .ensures) ∙ not-false _ (at-if1 .if1 .left)) _ (at-allocate-checks .allocate-checks .ensures)
+    well-chosen m (allocateChecks (settingOf m) (viewOf m) (start .args .page .0) (start .args .n)) (sym (at-well-formed .well-formed .ensures) ∙ not-false _ (at-if1 .if1 .left)) _ (at-allocate-checks .allocate-checks .ensures)
 
 pub allocate-refusal-spec : {M : Type 1} → statement M
 allocate-refusal-spec =

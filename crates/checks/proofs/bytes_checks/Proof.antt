@@ -25,7 +25,7 @@ returns c =
     let at-decode = at-is-undecodable .before in
     let start = at-decode .before .before .before .before .before in
     let m = mem (start .args .bytes .now) (start .args .keys .now) (start .args .order .now) (start .args .words .now) in
-    chosen-4 (settingOf m) (viewOf m) (start .args .page) _ (at-decode .decode .ensures) ((ltb (2 ^ 32) (start .args .start + start .args .n), refused 8) ∷ capacityChecksAt (settingOf m) (viewOf m) (start .args .page) (start .args .start) (start .args .n) (alignedCount (start .args .start) (start .args .n))) (sym (at-is-undecodable .is-undecodable .ensures) ∙ at-if1 .if1 .taken)
+    chosen-4 (settingOf m) (viewOf m) (start .args .page .0) _ (at-decode .decode .ensures) ((ltb (2 ^ 32) (start .args .start .0 + start .args .n), refused 8) ∷ capacityChecksAt (settingOf m) (viewOf m) (start .args .page .0) (start .args .start .0) (start .args .n) (alignedCount (start .args .start .0) (start .args .n))) (sym (at-is-undecodable .is-undecodable .ensures) ∙ at-if1 .if1 .taken)
 
 returns-2 : tie.Need-returns-2
 returns-2 c =
@@ -35,7 +35,7 @@ returns-2 c =
     let at-decode = at-is-undecodable .before in
     let start = at-decode .before .before .before .before .before in
     let m = mem (start .args .bytes .now) (start .args .keys .now) (start .args .order .now) (start .args .words .now) in
-    bytes-8 (settingOf m) (viewOf m) (start .args .page) _ (at-decode .decode .ensures) (start .args .start) (start .args .n) (sym (at-is-undecodable .is-undecodable .ensures) ∙ at-if1 .if1 .left) (start .fits .start .fits) (at-if2 .if2 .taken)
+    bytes-8 (settingOf m) (viewOf m) (start .args .page .0) _ (at-decode .decode .ensures) (start .args .start .0) (start .args .n) (sym (at-is-undecodable .is-undecodable .ensures) ∙ at-if1 .if1 .left) (start .fits .start .fits) (at-if2 .if2 .taken)
 
 capacity-refusal-requires : tie.Need-capacity-refusal-requires
 capacity-refusal-requires c κs =
@@ -43,7 +43,7 @@ capacity-refusal-requires c κs =
     let at-touched = at-aligned .before in
     let at-if2 = at-touched .before in
     let start = at-if2 .before .before .before .before .before .before .before .before in
-    let l = at-if2 .if2 .left in (start .pre, chunks-fit (start .args .start) (start .args .n) _ (at-touched .touched .ensures) (omega arith), words-fit (start .args .start) (start .args .n) _ (at-aligned .aligned .ensures) (omega arith))
+    let l = at-if2 .if2 .left in (start .pre, chunks-fit (start .args .start .0) (start .args .n) _ (at-touched .touched .ensures) (omega arith), words-fit (start .args .start .0) (start .args .n) _ (at-aligned .aligned .ensures) (omega arith))
 
 returns-3 : tie.Need-returns-3
 returns-3 c =
@@ -56,7 +56,7 @@ returns-3 c =
     let at-decode = at-is-undecodable .before in
     let start = at-decode .before .before .before .before .before in
     let m = mem (start .args .bytes .now) (start .args .keys .now) (start .args .order .now) (start .args .words .now) in
-    bytes-room (settingOf m) (viewOf m) (start .args .page) _ (at-decode .decode .ensures) (start .args .start) (start .args .n) (sym (at-is-undecodable .is-undecodable .ensures) ∙ at-if1 .if1 .left) (start .fits .start .fits) (at-if2 .if2 .left) _ (room-chosen (start .args .start) (start .args .n) _ (at-touched .touched .ensures) (settingOf m) (viewOf m) (start .args .page) (alignedCount (start .args .start) (start .args .n)) _ _ (at-aligned .aligned .ensures) (at-capacity-refusal .capacity-refusal .ensures))
+    bytes-room (settingOf m) (viewOf m) (start .args .page .0) _ (at-decode .decode .ensures) (start .args .start .0) (start .args .n) (sym (at-is-undecodable .is-undecodable .ensures) ∙ at-if1 .if1 .left) (start .fits .start .fits) (at-if2 .if2 .left) _ (room-chosen (start .args .start .0) (start .args .n) _ (at-touched .touched .ensures) (settingOf m) (viewOf m) (start .args .page .0) (alignedCount (start .args .start .0) (start .args .n)) _ _ (at-aligned .aligned .ensures) (at-capacity-refusal .capacity-refusal .ensures))
 
 pub bytes-checks-spec : {M : Type 1} → statement M
 bytes-checks-spec =

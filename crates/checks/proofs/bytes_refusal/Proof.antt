@@ -15,7 +15,7 @@ returns c =
     let at-well-formed = at-if1 .before in
     let start = at-well-formed .before .before .before .before .before in
     let m = mem (start .args .bytes .now) (start .args .keys .now) (start .args .order .now) (start .args .words .now) in
-    ill-chosen m (byteWriteChecks (settingOf m) (viewOf m) (start .args .page) (start .args .start) (start .args .n)) (sym (at-well-formed .well-formed .ensures) ∙ not-true _ (at-if1 .if1 .taken))
+    ill-chosen m (byteWriteChecks (settingOf m) (viewOf m) (start .args .page .0) (start .args .start .0) (start .args .n)) (sym (at-well-formed .well-formed .ensures) ∙ not-true _ (at-if1 .if1 .taken))
 
 bytes-checks-requires : tie.Need-bytes-checks-requires
 bytes-checks-requires c κs =
@@ -32,7 +32,7 @@ returns-2 c =
     let at-well-formed = at-if1 .before in
     let start = at-well-formed .before .before .before .before .before in
     let m = mem (start .args .bytes .now) (start .args .keys .now) (start .args .order .now) (start .args .words .now) in
-    well-chosen m (byteWriteChecks (settingOf m) (viewOf m) (start .args .page) (start .args .start) (start .args .n)) (sym (at-well-formed .well-formed .ensures) ∙ not-false _ (at-if1 .if1 .left)) _ (at-bytes-checks .bytes-checks .ensures)
+    well-chosen m (byteWriteChecks (settingOf m) (viewOf m) (start .args .page .0) (start .args .start .0) (start .args .n)) (sym (at-well-formed .well-formed .ensures) ∙ not-false _ (at-if1 .if1 .left)) _ (at-bytes-checks .bytes-checks .ensures)
 
 pub bytes-refusal-spec : {M : Type 1} → statement M
 bytes-refusal-spec =

@@ -18,7 +18,7 @@ returns c =
     let at-decode-page = c in
     let at-layout-of = at-decode-page .before in
     let start = at-layout-of .before .before .before .before .before in
-    at-decode-page .decode-page .ensures ∙ ap (λ (l : Layout). decoded l (start .args .page)) (at-layout-of .layout-of .ensures)
+    at-decode-page .decode-page .ensures ∙ ap (λ (l : Layout). decoded l (start .args .page .0)) (at-layout-of .layout-of .ensures)
 
 pub decode-spec : {M : Type 1} → statement M
 decode-spec =

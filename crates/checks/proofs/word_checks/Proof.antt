@@ -20,13 +20,13 @@ returns c =
     let at-decode = at-is-undecodable .before in
     let start = at-decode .before .before .before .before .before in
     let m = mem (start .args .bytes .now) (start .args .keys .now) (start .args .order .now) (start .args .words .now) in
-    chosen-4 (settingOf m) (viewOf m) (start .args .page) _ (at-decode .decode .ensures) (capacityChecksAt (settingOf m) (viewOf m) (start .args .page) (start .args .address) 32 1) (sym (at-is-undecodable .is-undecodable .ensures) ∙ at-if1 .if1 .taken)
+    chosen-4 (settingOf m) (viewOf m) (start .args .page .0) _ (at-decode .decode .ensures) (capacityChecksAt (settingOf m) (viewOf m) (start .args .page .0) (start .args .address .0) 32 1) (sym (at-is-undecodable .is-undecodable .ensures) ∙ at-if1 .if1 .taken)
 
 capacity-refusal-requires : tie.Need-capacity-refusal-requires
 capacity-refusal-requires c κs =
     let at-touched = c in
     let start = at-touched .before .before .before .before .before .before .before .before in
-    (start .pre, chunks-fit (start .args .address) 32 _ (at-touched .touched .ensures) (omega arith), omega arith)
+    (start .pre, chunks-fit (start .args .address .0) 32 _ (at-touched .touched .ensures) (omega arith), omega arith)
 
 returns-2 : tie.Need-returns-2
 returns-2 c =
@@ -37,7 +37,7 @@ returns-2 c =
     let at-decode = at-is-undecodable .before in
     let start = at-decode .before .before .before .before .before in
     let m = mem (start .args .bytes .now) (start .args .keys .now) (start .args .order .now) (start .args .words .now) in
-    past-4 (settingOf m) (viewOf m) (start .args .page) _ (at-decode .decode .ensures) (capacityChecksAt (settingOf m) (viewOf m) (start .args .page) (start .args .address) 32 1) (sym (at-is-undecodable .is-undecodable .ensures) ∙ at-if1 .if1 .left) _ (room-chosen (start .args .address) 32 _ (at-touched .touched .ensures) (settingOf m) (viewOf m) (start .args .page) 1 1 _ refl (at-capacity-refusal .capacity-refusal .ensures))
+    past-4 (settingOf m) (viewOf m) (start .args .page .0) _ (at-decode .decode .ensures) (capacityChecksAt (settingOf m) (viewOf m) (start .args .page .0) (start .args .address .0) 32 1) (sym (at-is-undecodable .is-undecodable .ensures) ∙ at-if1 .if1 .left) _ (room-chosen (start .args .address .0) 32 _ (at-touched .touched .ensures) (settingOf m) (viewOf m) (start .args .page .0) 1 1 _ refl (at-capacity-refusal .capacity-refusal .ensures))
 
 pub word-checks-spec : {M : Type 1} → statement M
 word-checks-spec =

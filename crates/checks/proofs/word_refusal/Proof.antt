@@ -15,7 +15,7 @@ returns c =
     let at-well-formed = at-if1 .before in
     let start = at-well-formed .before .before .before .before .before in
     let m = mem (start .args .bytes .now) (start .args .keys .now) (start .args .order .now) (start .args .words .now) in
-    ill-chosen m (wordWriteChecks (settingOf m) (viewOf m) (start .args .page) (start .args .address)) (sym (at-well-formed .well-formed .ensures) ∙ not-true _ (at-if1 .if1 .taken))
+    ill-chosen m (wordWriteChecks (settingOf m) (viewOf m) (start .args .page .0) (start .args .address .0)) (sym (at-well-formed .well-formed .ensures) ∙ not-true _ (at-if1 .if1 .taken))
 
 word-checks-requires : tie.Need-word-checks-requires
 word-checks-requires c κs =
@@ -32,7 +32,7 @@ returns-2 c =
     let at-well-formed = at-if1 .before in
     let start = at-well-formed .before .before .before .before .before in
     let m = mem (start .args .bytes .now) (start .args .keys .now) (start .args .order .now) (start .args .words .now) in
-    well-chosen m (wordWriteChecks (settingOf m) (viewOf m) (start .args .page) (start .args .address)) (sym (at-well-formed .well-formed .ensures) ∙ not-false _ (at-if1 .if1 .left)) _ (at-word-checks .word-checks .ensures)
+    well-chosen m (wordWriteChecks (settingOf m) (viewOf m) (start .args .page .0) (start .args .address .0)) (sym (at-well-formed .well-formed .ensures) ∙ not-false _ (at-if1 .if1 .left)) _ (at-word-checks .word-checks .ensures)
 
 pub word-refusal-spec : {M : Type 1} → statement M
 word-refusal-spec =

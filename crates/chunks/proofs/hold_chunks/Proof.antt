@@ -29,19 +29,19 @@ mul-k : tie.Need-mul-k Inv-loop μ-loop
 mul-k c =
     let at-entry-of = c in
     let start = at-entry-of .before .before .before .before .before .before .before .before in
-    omega (arith, entry-few (mem (start .args .bytes .now) (start .args .keys .now) (start .args .order .now) (start .args .words .now)) (start .pre .formed) (start .args .page), at-entry-of .entry-of .ensures)
+    omega (arith, entry-few (mem (start .args .bytes .now) (start .args .keys .now) (start .args .order .now) (start .args .words .now)) (start .pre .formed) (start .args .page .0), at-entry-of .entry-of .ensures)
 
 add-k : tie.Need-add-k Inv-loop μ-loop
 add-k c =
     let at-entry-of = c in
     let start = at-entry-of .before .before .before .before .before .before .before .before in
-    omega (arith, entry-few (mem (start .args .bytes .now) (start .args .keys .now) (start .args .order .now) (start .args .words .now)) (start .pre .formed) (start .args .page), at-entry-of .entry-of .ensures)
+    omega (arith, entry-few (mem (start .args .bytes .now) (start .args .keys .now) (start .args .order .now) (start .args .words .now)) (start .pre .formed) (start .args .page .0), at-entry-of .entry-of .ensures)
 
 add-k-2 : tie.Need-add-k-2 Inv-loop μ-loop
 add-k-2 c =
     let at-entry-of = c in
     let start = at-entry-of .before .before .before .before .before .before .before .before in
-    omega (arith, entry-few (mem (start .args .bytes .now) (start .args .keys .now) (start .args .order .now) (start .args .words .now)) (start .pre .formed) (start .args .page), at-entry-of .entry-of .ensures, start .pre .top)
+    omega (arith, entry-few (mem (start .args .bytes .now) (start .args .keys .now) (start .args .order .now) (start .args .words .now)) (start .pre .formed) (start .args .page .0), at-entry-of .entry-of .ensures, start .pre .top)
 
 loop-holds : tie.Need-loop-holds Inv-loop μ-loop
 loop-holds c =
@@ -59,7 +59,7 @@ add-hold-chunk-2 c =
     let at-loop-test = c .before .before .before in
     let at-entry-of = at-loop-test .before .before in
     let start = at-entry-of .before .before .before .before .before .before .before .before in
-    omega (arith, entry-few (mem (start .args .bytes .now) (start .args .keys .now) (start .args .order .now) (start .args .words .now)) (start .pre .formed) (start .args .page), at-entry-of .entry-of .ensures, at-loop-test .loop-test .taken, start .pre .top)
+    omega (arith, entry-few (mem (start .args .bytes .now) (start .args .keys .now) (start .args .order .now) (start .args .words .now)) (start .pre .formed) (start .args .page .0), at-entry-of .entry-of .ensures, at-loop-test .loop-test .taken, start .pre .top)
 
 hold-chunk-requires : tie.Need-hold-chunk-requires Inv-loop μ-loop
 hold-chunk-requires c κs =
@@ -67,7 +67,7 @@ hold-chunk-requires c κs =
     let at-loop = at-loop-test .before in
     let at-entry-of = at-loop .before in
     let start = at-entry-of .before .before .before .before .before .before .before .before in
-    (next-asks (mem (start .args .bytes .now) (start .args .keys .now) (start .args .order .now) (start .args .words .now)) (start .args .page) (start .args .first) (start .args .count) (start .pre) (at-loop .loop .i) (at-loop-test .loop-test .taken) (mem (start .args .bytes .now) (at-loop .loop .keys) (at-loop .loop .order) (at-loop .loop .words)) (at-loop .loop .inv .4), next-key (mem (start .args .bytes .now) (start .args .keys .now) (start .args .order .now) (start .args .words .now)) (start .args .page) (start .args .first) (start .args .count) (start .pre) (at-loop .loop .i) (at-loop-test .loop-test .taken) (mem (start .args .bytes .now) (at-loop .loop .keys) (at-loop .loop .order) (at-loop .loop .words)) (at-loop .loop .inv .4) (at-entry-of .entry-of .result) (at-entry-of .entry-of .result * 33554432 + 1 + start .args .first + at-loop .loop .i) (at-entry-of .entry-of .ensures) (omega arith))
+    (next-asks (mem (start .args .bytes .now) (start .args .keys .now) (start .args .order .now) (start .args .words .now)) (start .args .page .0) (start .args .first) (start .args .count) (start .pre) (at-loop .loop .i) (at-loop-test .loop-test .taken) (mem (start .args .bytes .now) (at-loop .loop .keys) (at-loop .loop .order) (at-loop .loop .words)) (at-loop .loop .inv .4), next-key (mem (start .args .bytes .now) (start .args .keys .now) (start .args .order .now) (start .args .words .now)) (start .args .page .0) (start .args .first) (start .args .count) (start .pre) (at-loop .loop .i) (at-loop-test .loop-test .taken) (mem (start .args .bytes .now) (at-loop .loop .keys) (at-loop .loop .order) (at-loop .loop .words)) (at-loop .loop .inv .4) (at-entry-of .entry-of .result) (at-entry-of .entry-of .result * 33554432 + 1 + start .args .first + at-loop .loop .i) (at-entry-of .entry-of .ensures) (omega arith))
 
 loop-again : tie.Need-loop-again Inv-loop μ-loop
 loop-again c =
@@ -76,7 +76,7 @@ loop-again c =
     let at-loop = at-loop-test .before in
     let start = at-loop .before .before .before .before .before .before .before .before .before in
     let d = at-hold-chunk .hold-chunk .ensures in
-    (search needs, search needs, search needs, search needs, next-after (mem (start .args .bytes .now) (start .args .keys .now) (start .args .order .now) (start .args .words .now)) (start .args .page) (start .args .first) (start .args .count) (start .pre) (at-loop .loop .i) (at-loop-test .loop-test .taken) (mem (start .args .bytes .now) (at-loop .loop .keys) (at-loop .loop .order) (at-loop .loop .words)) (at-loop .loop .inv .4) _ (d .0) (d .1))
+    (search needs, search needs, search needs, search needs, next-after (mem (start .args .bytes .now) (start .args .keys .now) (start .args .order .now) (start .args .words .now)) (start .args .page .0) (start .args .first) (start .args .count) (start .pre) (at-loop .loop .i) (at-loop-test .loop-test .taken) (mem (start .args .bytes .now) (at-loop .loop .keys) (at-loop .loop .order) (at-loop .loop .words)) (at-loop .loop .inv .4) _ (d .0) (d .1))
 
 returns : tie.Need-returns Inv-loop μ-loop
 returns c =
@@ -84,7 +84,7 @@ returns c =
     let at-loop = at-loop-test .before in
     let start = at-loop .before .before .before .before .before .before .before .before .before in
     let m = mem (start .args .bytes .now) (start .args .keys .now) (start .args .order .now) (start .args .words .now) in
-    subst (λ (x : ℕ). Shows (settingOf m) (holding (start .args .page) (start .args .first) x (viewOf m)) (mem (start .args .bytes .now) (at-loop .loop .keys) (at-loop .loop .order) (at-loop .loop .words))) (le-antisymm (at-loop .loop .inv .0) (at-loop-test .loop-test .left)) (at-loop .loop .inv .4 .shows)
+    subst (λ (x : ℕ). Shows (settingOf m) (holding (start .args .page .0) (start .args .first) x (viewOf m)) (mem (start .args .bytes .now) (at-loop .loop .keys) (at-loop .loop .order) (at-loop .loop .words))) (le-antisymm (at-loop .loop .inv .0) (at-loop-test .loop-test .left)) (at-loop .loop .inv .4 .shows)
 
 pub hold-chunks-spec : {M : Type 1} → statement M
 hold-chunks-spec =

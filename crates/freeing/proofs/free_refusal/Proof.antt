@@ -16,7 +16,7 @@ returns c =
     let at-if1 = c in
     let at-well-formed = at-if1 .before in
     let start = at-well-formed .before .before .before .before .before in
-    ill-chosen (mem (start .args .bytes .now) (start .args .keys .now) (start .args .order .now) (start .args .words .now)) (freeChecks (settingOf (mem (start .args .bytes .now) (start .args .keys .now) (start .args .order .now) (start .args .words .now))) (viewOf (mem (start .args .bytes .now) (start .args .keys .now) (start .args .order .now) (start .args .words .now))) (start .args .page)) (sym (at-well-formed .well-formed .ensures) ∙ not-true _ (at-if1 .if1 .taken))
+    ill-chosen (mem (start .args .bytes .now) (start .args .keys .now) (start .args .order .now) (start .args .words .now)) (freeChecks (settingOf (mem (start .args .bytes .now) (start .args .keys .now) (start .args .order .now) (start .args .words .now))) (viewOf (mem (start .args .bytes .now) (start .args .keys .now) (start .args .order .now) (start .args .words .now))) (start .args .page .0)) (sym (at-well-formed .well-formed .ensures) ∙ not-true _ (at-if1 .if1 .taken))
 
 decode-requires : tie.Need-decode-requires
 decode-requires c κs =
@@ -33,7 +33,7 @@ returns-2 c =
     let at-if1 = at-decode .before in
     let at-well-formed = at-if1 .before in
     let start = at-well-formed .before .before .before .before .before in
-    well-chosen (mem (start .args .bytes .now) (start .args .keys .now) (start .args .order .now) (start .args .words .now)) (freeChecks (settingOf (mem (start .args .bytes .now) (start .args .keys .now) (start .args .order .now) (start .args .words .now))) (viewOf (mem (start .args .bytes .now) (start .args .keys .now) (start .args .order .now) (start .args .words .now))) (start .args .page)) (sym (at-well-formed .well-formed .ensures) ∙ not-false _ (at-if1 .if1 .left)) _ (free-4 (settingOf (mem (start .args .bytes .now) (start .args .keys .now) (start .args .order .now) (start .args .words .now))) (viewOf (mem (start .args .bytes .now) (start .args .keys .now) (start .args .order .now) (start .args .words .now))) (start .args .page) _ (at-decode .decode .ensures) (sym (at-is-undecodable .is-undecodable .ensures) ∙ at-if2 .if2 .taken))
+    well-chosen (mem (start .args .bytes .now) (start .args .keys .now) (start .args .order .now) (start .args .words .now)) (freeChecks (settingOf (mem (start .args .bytes .now) (start .args .keys .now) (start .args .order .now) (start .args .words .now))) (viewOf (mem (start .args .bytes .now) (start .args .keys .now) (start .args .order .now) (start .args .words .now))) (start .args .page .0)) (sym (at-well-formed .well-formed .ensures) ∙ not-false _ (at-if1 .if1 .left)) _ (free-4 (settingOf (mem (start .args .bytes .now) (start .args .keys .now) (start .args .order .now) (start .args .words .now))) (viewOf (mem (start .args .bytes .now) (start .args .keys .now) (start .args .order .now) (start .args .words .now))) (start .args .page .0) _ (at-decode .decode .ensures) (sym (at-is-undecodable .is-undecodable .ensures) ∙ at-if2 .if2 .taken))
 
 returns-3 : tie.Need-returns-3
 returns-3 c =
@@ -45,7 +45,7 @@ returns-3 c =
     let at-if1 = at-decode .before in
     let at-well-formed = at-if1 .before in
     let start = at-well-formed .before .before .before .before .before in
-    well-chosen (mem (start .args .bytes .now) (start .args .keys .now) (start .args .order .now) (start .args .words .now)) (freeChecks (settingOf (mem (start .args .bytes .now) (start .args .keys .now) (start .args .order .now) (start .args .words .now))) (viewOf (mem (start .args .bytes .now) (start .args .keys .now) (start .args .order .now) (start .args .words .now))) (start .args .page)) (sym (at-well-formed .well-formed .ensures) ∙ not-false _ (at-if1 .if1 .left)) _ (free-5 (settingOf (mem (start .args .bytes .now) (start .args .keys .now) (start .args .order .now) (start .args .words .now))) (viewOf (mem (start .args .bytes .now) (start .args .keys .now) (start .args .order .now) (start .args .words .now))) (start .args .page) _ (at-decode .decode .ensures) (sym (at-is-undecodable .is-undecodable .ensures) ∙ at-if2 .if2 .left) (sym (at-is-fixed .is-fixed .ensures) ∙ at-if3 .if3 .taken))
+    well-chosen (mem (start .args .bytes .now) (start .args .keys .now) (start .args .order .now) (start .args .words .now)) (freeChecks (settingOf (mem (start .args .bytes .now) (start .args .keys .now) (start .args .order .now) (start .args .words .now))) (viewOf (mem (start .args .bytes .now) (start .args .keys .now) (start .args .order .now) (start .args .words .now))) (start .args .page .0)) (sym (at-well-formed .well-formed .ensures) ∙ not-false _ (at-if1 .if1 .left)) _ (free-5 (settingOf (mem (start .args .bytes .now) (start .args .keys .now) (start .args .order .now) (start .args .words .now))) (viewOf (mem (start .args .bytes .now) (start .args .keys .now) (start .args .order .now) (start .args .words .now))) (start .args .page .0) _ (at-decode .decode .ensures) (sym (at-is-undecodable .is-undecodable .ensures) ∙ at-if2 .if2 .left) (sym (at-is-fixed .is-fixed .ensures) ∙ at-if3 .if3 .taken))
 
 is-allocated-requires : tie.Need-is-allocated-requires
 is-allocated-requires c κs =
@@ -66,7 +66,7 @@ returns-4 c =
     let at-if1 = at-decode .before in
     let at-well-formed = at-if1 .before in
     let start = at-well-formed .before .before .before .before .before in
-    well-chosen (mem (start .args .bytes .now) (start .args .keys .now) (start .args .order .now) (start .args .words .now)) (freeChecks (settingOf (mem (start .args .bytes .now) (start .args .keys .now) (start .args .order .now) (start .args .words .now))) (viewOf (mem (start .args .bytes .now) (start .args .keys .now) (start .args .order .now) (start .args .words .now))) (start .args .page)) (sym (at-well-formed .well-formed .ensures) ∙ not-false _ (at-if1 .if1 .left)) _ (free-7 (settingOf (mem (start .args .bytes .now) (start .args .keys .now) (start .args .order .now) (start .args .words .now))) (viewOf (mem (start .args .bytes .now) (start .args .keys .now) (start .args .order .now) (start .args .words .now))) (start .args .page) _ (at-decode .decode .ensures) (sym (at-is-undecodable .is-undecodable .ensures) ∙ at-if2 .if2 .left) (sym (at-is-fixed .is-fixed .ensures) ∙ at-if3 .if3 .left) (sym (at-is-allocated .is-allocated .ensures) ∙ not-true _ (at-if4 .if4 .taken)))
+    well-chosen (mem (start .args .bytes .now) (start .args .keys .now) (start .args .order .now) (start .args .words .now)) (freeChecks (settingOf (mem (start .args .bytes .now) (start .args .keys .now) (start .args .order .now) (start .args .words .now))) (viewOf (mem (start .args .bytes .now) (start .args .keys .now) (start .args .order .now) (start .args .words .now))) (start .args .page .0)) (sym (at-well-formed .well-formed .ensures) ∙ not-false _ (at-if1 .if1 .left)) _ (free-7 (settingOf (mem (start .args .bytes .now) (start .args .keys .now) (start .args .order .now) (start .args .words .now))) (viewOf (mem (start .args .bytes .now) (start .args .keys .now) (start .args .order .now) (start .args .words .now))) (start .args .page .0) _ (at-decode .decode .ensures) (sym (at-is-undecodable .is-undecodable .ensures) ∙ at-if2 .if2 .left) (sym (at-is-fixed .is-fixed .ensures) ∙ at-if3 .if3 .left) (sym (at-is-allocated .is-allocated .ensures) ∙ not-true _ (at-if4 .if4 .taken)))
 
 returns-5 : tie.Need-returns-5
 returns-5 c =
@@ -80,7 +80,7 @@ returns-5 c =
     let at-if1 = at-decode .before in
     let at-well-formed = at-if1 .before in
     let start = at-well-formed .before .before .before .before .before in
-    well-chosen (mem (start .args .bytes .now) (start .args .keys .now) (start .args .order .now) (start .args .words .now)) (freeChecks (settingOf (mem (start .args .bytes .now) (start .args .keys .now) (start .args .order .now) (start .args .words .now))) (viewOf (mem (start .args .bytes .now) (start .args .keys .now) (start .args .order .now) (start .args .words .now))) (start .args .page)) (sym (at-well-formed .well-formed .ensures) ∙ not-false _ (at-if1 .if1 .left)) _ (free-0 (settingOf (mem (start .args .bytes .now) (start .args .keys .now) (start .args .order .now) (start .args .words .now))) (viewOf (mem (start .args .bytes .now) (start .args .keys .now) (start .args .order .now) (start .args .words .now))) (start .args .page) _ (at-decode .decode .ensures) (sym (at-is-undecodable .is-undecodable .ensures) ∙ at-if2 .if2 .left) (sym (at-is-fixed .is-fixed .ensures) ∙ at-if3 .if3 .left) (sym (at-is-allocated .is-allocated .ensures) ∙ not-false _ (at-if4 .if4 .left)))
+    well-chosen (mem (start .args .bytes .now) (start .args .keys .now) (start .args .order .now) (start .args .words .now)) (freeChecks (settingOf (mem (start .args .bytes .now) (start .args .keys .now) (start .args .order .now) (start .args .words .now))) (viewOf (mem (start .args .bytes .now) (start .args .keys .now) (start .args .order .now) (start .args .words .now))) (start .args .page .0)) (sym (at-well-formed .well-formed .ensures) ∙ not-false _ (at-if1 .if1 .left)) _ (free-0 (settingOf (mem (start .args .bytes .now) (start .args .keys .now) (start .args .order .now) (start .args .words .now))) (viewOf (mem (start .args .bytes .now) (start .args .keys .now) (start .args .order .now) (start .args .words .now))) (start .args .page .0) _ (at-decode .decode .ensures) (sym (at-is-undecodable .is-undecodable .ensures) ∙ at-if2 .if2 .left) (sym (at-is-fixed .is-fixed .ensures) ∙ at-if3 .if3 .left) (sym (at-is-allocated .is-allocated .ensures) ∙ not-false _ (at-if4 .if4 .left)))
 
 pub free-refusal-spec : {M : Type 1} → statement M
 free-refusal-spec =

@@ -12,7 +12,7 @@ returns c =
     let at-is-undecodable = at-if1 .before in
     let at-decode = at-is-undecodable .before in
     let start = at-decode .before .before .before .before .before in
-    is-none (mem (start .args .bytes .now) (start .args .keys .now) (start .args .order .now) (start .args .words .now)) (start .args .page) _ (at-decode .decode .ensures) (sym (at-is-undecodable .is-undecodable .ensures) ∙ at-if1 .if1 .taken)
+    is-none (mem (start .args .bytes .now) (start .args .keys .now) (start .args .order .now) (start .args .words .now)) (start .args .page .0) _ (at-decode .decode .ensures) (sym (at-is-undecodable .is-undecodable .ensures) ∙ at-if1 .if1 .taken)
 
 returns-2 : tie.Need-returns-2
 returns-2 c =
@@ -20,7 +20,7 @@ returns-2 c =
     let at-is-fixed = at-if2 .before in
     let at-decode = at-is-fixed .before .before .before in
     let start = at-decode .before .before .before .before .before in
-    is-fixed (mem (start .args .bytes .now) (start .args .keys .now) (start .args .order .now) (start .args .words .now)) (start .args .page) _ (at-decode .decode .ensures) (sym (at-is-fixed .is-fixed .ensures) ∙ at-if2 .if2 .taken)
+    is-fixed (mem (start .args .bytes .now) (start .args .keys .now) (start .args .order .now) (start .args .words .now)) (start .args .page .0) _ (at-decode .decode .ensures) (sym (at-is-fixed .is-fixed .ensures) ∙ at-if2 .if2 .taken)
 
 returns-3 : tie.Need-returns-3
 returns-3 c =
@@ -31,7 +31,7 @@ returns-3 c =
     let at-is-undecodable = at-if1 .before in
     let at-decode = at-is-undecodable .before in
     let start = at-decode .before .before .before .before .before in
-    is-dynamic (mem (start .args .bytes .now) (start .args .keys .now) (start .args .order .now) (start .args .words .now)) (start .args .page) _ (at-decode .decode .ensures) (sym (at-is-undecodable .is-undecodable .ensures) ∙ at-if1 .if1 .left) (sym (at-is-fixed .is-fixed .ensures) ∙ at-if2 .if2 .left) _ (at-is-allocated .is-allocated .ensures)
+    is-dynamic (mem (start .args .bytes .now) (start .args .keys .now) (start .args .order .now) (start .args .words .now)) (start .args .page .0) _ (at-decode .decode .ensures) (sym (at-is-undecodable .is-undecodable .ensures) ∙ at-if1 .if1 .left) (sym (at-is-fixed .is-fixed .ensures) ∙ at-if2 .if2 .left) _ (at-is-allocated .is-allocated .ensures)
 
 pub is-dynamic-spec : {M : Type 1} → statement M
 is-dynamic-spec =

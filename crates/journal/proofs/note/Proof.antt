@@ -21,7 +21,7 @@ note-found-requires c κs =
     let at-slot-of = at-slot-of2 .before .before in
     let at-place = at-slot-of .before .before in
     let start = at-place .before .before .before .before .before in
-    (start .pre, note-slots (start .args .bytes .now) (start .args .keys .now) (start .args .order .now) (start .args .words .now) (start .args .j) (start .args .address) (start .pre) (at-place .place .result) (at-place .place .ensures .0) (at-slot-of .slot-of .result) (at-slot-of2 .slot-of2 .result) (at-slot-of .slot-of .ensures) (at-slot-of2 .slot-of2 .ensures))
+    (start .pre, note-slots (start .args .bytes .now) (start .args .keys .now) (start .args .order .now) (start .args .words .now) (start .args .j) (start .args .address .0) (start .pre) (at-place .place .result) (at-place .place .ensures .0) (at-slot-of .slot-of .result) (at-slot-of2 .slot-of2 .result) (at-slot-of .slot-of .ensures) (at-slot-of2 .slot-of2 .ensures))
 
 returns : tie.Need-returns
 returns c = let at-note-found = c .before .before .before .before in at-note-found .note-found .ensures

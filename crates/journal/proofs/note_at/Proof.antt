@@ -28,7 +28,7 @@ returns c =
     let at-word-in = at-copy .before .before .before in
     let at-number = at-word-in .before .before .before in
     let start = at-number .before .before .before .before .before in
-    noted-at (start .args .bytes .now) (start .args .words .now) (start .args .j) (start .args .address) (start .args .s) (start .args .t) (at-number .number .result) (at-word-in .word-in .result) (at-copy .copy .last .1 .1 .0) (at-number .number .ensures .0) (at-word-in .word-in .ensures) (at-copy .copy .ensures)
+    noted-at (start .args .bytes .now) (start .args .words .now) (start .args .j) (start .args .address .0) (start .args .s) (start .args .t) (at-number .number .result) (at-word-in .word-in .result) (at-copy .copy .last .1 .1 .0) (at-number .number .ensures .0) (at-word-in .word-in .ensures) (at-copy .copy .ensures)
 
 pub note-at-spec : {M : Type 1} → statement M
 note-at-spec =

@@ -9,20 +9,20 @@ use Rattle.opening.proofs.put_calldata.Tie as tie
 hold-chunks-requires : tie.Need-hold-chunks-requires
 hold-chunks-requires c κs =
     let start = c .before .before .before .before .before .before .before .before .before in
-    hold-asks (mem (start .args .bytes .now) (start .args .keys .now) (start .args .order .now) (start .args .words .now)) (start .args .page) (length (start .args .calldata .now)) (start .pre)
+    hold-asks (mem (start .args .bytes .now) (start .args .keys .now) (start .args .order .now) (start .args .words .now)) (start .args .page .0) (length (start .args .calldata .now)) (start .pre)
 
 write-from-requires : tie.Need-write-from-requires
 write-from-requires c κs =
     let at-hold-chunks = c .before .before .before .before .before .before .before .before .before .before in
     let start = at-hold-chunks .before .before .before .before .before .before .before .before .before .before in
-    put-asks (mem (start .args .bytes .now) (start .args .keys .now) (start .args .order .now) (start .args .words .now)) (start .args .page) (length (start .args .calldata .now)) (start .pre) (mem (start .args .bytes .now) (at-hold-chunks .hold-chunks .last .1 .0) (at-hold-chunks .hold-chunks .last .1 .1 .0) (at-hold-chunks .hold-chunks .last .1 .1 .1 .0)) (at-hold-chunks .hold-chunks .ensures)
+    put-asks (mem (start .args .bytes .now) (start .args .keys .now) (start .args .order .now) (start .args .words .now)) (start .args .page .0) (length (start .args .calldata .now)) (start .pre) (mem (start .args .bytes .now) (at-hold-chunks .hold-chunks .last .1 .0) (at-hold-chunks .hold-chunks .last .1 .1 .0) (at-hold-chunks .hold-chunks .last .1 .1 .1 .0)) (at-hold-chunks .hold-chunks .ensures)
 
 returns : tie.Need-returns
 returns c =
     let at-write-from = c .before .before in
     let at-hold-chunks = at-write-from .before .before .before .before .before .before .before .before .before .before .before in
     let start = at-hold-chunks .before .before .before .before .before .before .before .before .before .before in
-    calldata-put (mem (start .args .bytes .now) (start .args .keys .now) (start .args .order .now) (start .args .words .now)) (start .args .page) (length (start .args .calldata .now)) (start .pre) (mem (start .args .bytes .now) (at-hold-chunks .hold-chunks .last .1 .0) (at-hold-chunks .hold-chunks .last .1 .1 .0) (at-hold-chunks .hold-chunks .last .1 .1 .1 .0)) (at-hold-chunks .hold-chunks .ensures) (start .args .calldata .now) refl _ (at-write-from .write-from .ensures)
+    calldata-put (mem (start .args .bytes .now) (start .args .keys .now) (start .args .order .now) (start .args .words .now)) (start .args .page .0) (length (start .args .calldata .now)) (start .pre) (mem (start .args .bytes .now) (at-hold-chunks .hold-chunks .last .1 .0) (at-hold-chunks .hold-chunks .last .1 .1 .0) (at-hold-chunks .hold-chunks .last .1 .1 .1 .0)) (at-hold-chunks .hold-chunks .ensures) (start .args .calldata .now) refl _ (at-write-from .write-from .ensures)
 
 pub put-calldata-spec : {M : Type 1} → statement M
 put-calldata-spec =

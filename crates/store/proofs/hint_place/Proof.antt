@@ -5,15 +5,15 @@ use borrow.Author.Needs.{needs}
 use Rattle.store.proofs.hint_place.Statement.{statement}
 use Rattle.store.proofs.hint_place.Tie as tie
 
-cast-x : tie.Need-cast-x
+cast-x : tie.Need-cast-x-2
 cast-x c =
-    let start = c .before .before in
-    omega (arith, c .shared-slice-known2 .given (length (start .args .order .now) - 1))
+    let start = c .before .before .before in
+    omega (arith, c .before .before .shared-slice-known .given (length (start .args .order .now) - 1))
 
 pub hint-place-spec : {M : Type 1} → statement M
 hint-place-spec =
     tie.close
-    (tie.spec
+    (tie.spec (λ c. search needs)
     (λ c. search needs)
     (λ c. search needs)
     (λ c. search needs)

@@ -14,7 +14,7 @@ returns-2 : tie.Need-returns-2
 returns-2 c =
     let at-is-place = c .before in
     let start = at-is-place .before .before .before .before .before .before .before in
-    λ l. named (start .args .keys .now) (start .args .words .now) _ (start .args .page) (start .args .chunk) (start .args .order .now) (start .pre) (at-is-place .is-place .ensures (c .if2 .taken))
+    λ l. named (start .args .keys .now) (start .args .words .now) _ (start .args .page .0) (start .args .chunk) (start .args .order .now) (start .pre) (at-is-place .is-place .ensures (c .if2 .taken))
 
 pub hinted-spec : {M : Type 1} → statement M
 hinted-spec =

@@ -1,8 +1,6 @@
-use lib.ListN.{take}
-use Rattle.store.specs.Mem.{slotCount}
-use Rattle.index.specs.Index.{seek}
+use Rattle.store.specs.Find.{slotAtEntry}
 use Rattle.store.proofs.Finds.{entry-few}
-use Prim.Native.Nat.{ℕ, _+_, _*_, _-_, _<_}
+use Prim.Native.Nat.{ℕ}
 use mathlib.Core.Path.{ap, _∙_}
 use native.Mathlib.Omega.{arith}
 use borrow.Author.Needs.{needs}
@@ -15,30 +13,18 @@ returns c =
     let at-hinted = at-if1 .before .before in
     at-hinted .hinted .ensures (at-if1 .if1 .taken)
 
-mul-slot-of : tie.Need-mul-slot-of
-mul-slot-of c =
+slot-at-entry-requires : tie.Need-slot-at-entry-requires
+slot-at-entry-requires c κs =
     let at-entry-of = c in
     let start = at-entry-of .before .before .before .before .before .before .before in
-    let h = entry-few (start .args .keys .now) (start .args .order .now) (start .args .words .now) (start .args .page) (at-entry-of .entry-of .result) (start .pre .0) (at-entry-of .entry-of .ensures) in omega arith
-
-add-slot-of : tie.Need-add-slot-of
-add-slot-of c =
-    let at-entry-of = c in
-    let start = at-entry-of .before .before .before .before .before .before .before in
-    let h = entry-few (start .args .keys .now) (start .args .order .now) (start .args .words .now) (start .args .page) (at-entry-of .entry-of .result) (start .pre .0) (at-entry-of .entry-of .ensures) in omega arith
-
-add-slot-of-2 : tie.Need-add-slot-of-2
-add-slot-of-2 c =
-    let at-entry-of = c in
-    let start = at-entry-of .before .before .before .before .before .before .before in
-    let h = entry-few (start .args .keys .now) (start .args .order .now) (start .args .words .now) (start .args .page) (at-entry-of .entry-of .result) (start .pre .0) (at-entry-of .entry-of .ensures) in let l = start .pre .1 in omega arith
+    (start .pre .0 .slots, entry-few (start .args .keys .now) (start .args .order .now) (start .args .words .now) (start .args .page .0) (at-entry-of .entry-of .result) (start .pre .0) (at-entry-of .entry-of .ensures), omega (arith, start .pre .1))
 
 returns-2 : tie.Need-returns-2
 returns-2 c =
-    let at-slot-of = c in
-    let at-entry-of = at-slot-of .before in
+    let at-slot-at-entry = c in
+    let at-entry-of = at-slot-at-entry .before in
     let start = at-entry-of .before .before .before .before .before .before .before in
-    at-slot-of .slot-of .ensures ∙ ap (λ (e : ℕ). seek (take (slotCount (start .args .words .now)) (start .args .keys .now)) (e * 33554432 + start .args .chunk + 1)) (at-entry-of .entry-of .ensures)
+    at-slot-at-entry .slot-at-entry .ensures ∙ ap (λ (e : ℕ). slotAtEntry (start .args .keys .now) (start .args .words .now) e (start .args .chunk)) (at-entry-of .entry-of .ensures)
 
 pub place-of-spec : {M : Type 1} → statement M
 place-of-spec =
@@ -48,8 +34,5 @@ place-of-spec =
     (λ c. search needs)
     returns
     (λ c κs. search needs)
-    mul-slot-of
-    add-slot-of
-    add-slot-of-2
-    (λ c κs. search needs)
+    slot-at-entry-requires
     returns-2)

@@ -20,7 +20,7 @@ drop-chunks-requires-2 c κs =
     let at-drop-chunks = c .before .before .before .before .before .before .before .before .before .before .before .before in
     let at-window-end = at-drop-chunks .before .before .before .before .before in
     let start = at-window-end .before .before .before .before .before in
-    let t = end-top (start .args .start) (start .args .length) in let e = at-window-end .window-end .ensures in record { page = page-still _ _ (start .pre) _ _ _ (at-drop-chunks .drop-chunks .ensures .0); order = omega arith; top = omega arith }
+    let t = end-top (start .args .start .0) (start .args .length) in let e = at-window-end .window-end .ensures in record { page = page-still _ _ (start .pre) _ _ _ (at-drop-chunks .drop-chunks .ensures .0); order = omega arith; top = omega arith }
 
 same-length : tie.Need-same-length
 same-length c = search needs
@@ -40,7 +40,7 @@ returns c =
     let at-drop-chunks = at-drop-chunks2 .before .before .before .before .before .before .before .before .before .before .before .before .before in
     let at-window-end = at-drop-chunks .before .before .before .before .before in
     let start = at-window-end .before .before .before .before .before in
-    window-done (start .args .start) (start .args .length) _ _ (start .pre) _ (at-drop-chunks .drop-chunks .ensures .0) _ (at-window-end .window-end .ensures) _ (at-drop-chunks2 .drop-chunks2 .ensures .0)
+    window-done (start .args .start .0) (start .args .length) _ _ (start .pre) _ (at-drop-chunks .drop-chunks .ensures .0) _ (at-window-end .window-end .ensures) _ (at-drop-chunks2 .drop-chunks2 .ensures .0)
 
 pub retain-window-spec : {M : Type 1} → statement M
 retain-window-spec =

@@ -12,14 +12,14 @@ add-end : tie.Need-add-end
 add-end c =
     let at-touched = c in
     let start = at-touched .before in
-    let e = at-touched .touched .ensures in let t = touched-few (start .args .start) (start .args .length) in omega (arith, start .fits .start, start .fits .length)
+    let e = at-touched .touched .ensures in let t = touched-few (start .args .start .0) (start .args .length) in omega (arith, start .fits .start, start .fits .length)
 
 returns : tie.Need-returns
 returns c =
     let at-if1 = c in
     let at-touched = at-if1 .before in
     let start = at-touched .before in
-    let e = at-touched .touched .ensures in let l = at-if1 .if1 .taken in end-past (start .args .start) (start .args .length) (omega arith)
+    let e = at-touched .touched .ensures in let l = at-if1 .if1 .taken in end-past (start .args .start .0) (start .args .length) (omega arith)
 
 cast-result : tie.Need-cast-result
 cast-result c =
@@ -31,7 +31,7 @@ returns-2 c =
     let at-if1 = c in
     let at-touched = at-if1 .before in
     let start = at-touched .before in
-    let e = at-touched .touched .ensures in let l = at-if1 .if1 .left in ap (λ (x : ℕ). start .args .start / 256 + x) e ∙ end-within (start .args .start) (start .args .length) (omega arith)
+    let e = at-touched .touched .ensures in let l = at-if1 .if1 .left in ap (λ (x : ℕ). start .args .start .0 / 256 + x) e ∙ end-within (start .args .start .0) (start .args .length) (omega arith)
 
 pub window-end-spec : {M : Type 1} → statement M
 window-end-spec =

@@ -1,3 +1,4 @@
+use Rattle.view.specs.Calls.{nothing}
 use Rattle.outcome.specs.Outcome.{answerOutcome}
 use Rattle.outcome.specs.declared.Answer.{Answer}
 use Rattle.heaptrace.specs.Trace.{reported}

@@ -7,13 +7,13 @@ returns : tie.Need-returns
 returns c =
     let at-if1 = c in
     let start = at-if1 .before .before in
-    hook-off (start .args .hook .on) (eqb (start .args .address) (start .args .hook .address .0)) (at-if1 .if1 .taken)
+    hook-off (start .args .hook .on) (eqb (start .args .address .0) (start .args .hook .address .0)) (at-if1 .if1 .taken)
 
 returns-2 : tie.Need-returns-2
 returns-2 c =
     let at-if1 = c .before in
     let start = at-if1 .before .before in
-    hook-on (start .args .hook .on) (eqb (start .args .address) (start .args .hook .address .0)) (at-if1 .if1 .left)
+    hook-on (start .args .hook .on) (eqb (start .args .address .0) (start .args .hook .address .0)) (at-if1 .if1 .left)
 
 pub hits-spec : {M : Type 1} → statement M
 hits-spec = tie.close (tie.spec returns returns-2)

@@ -19,7 +19,7 @@ returns c =
     let at-slot-at = at-if1 .before .before in
     let start = at-slot-at .before .before .before .before .before in
     let m = mem (start .args .bytes .now) (start .args .keys .now) (start .args .order .now) (start .args .words .now) in
-    byte-none m (start .pre) (start .args .page) (start .args .address / 256) (at-slot-at .slot-at .result) (at-slot-at .slot-at .ensures (start .args .bytes .now)) (at-if1 .if1 .taken) (start .args .address) refl
+    byte-none m (start .pre) (start .args .page .0) (start .args .address .0 / 256) (at-slot-at .slot-at .result) (at-slot-at .slot-at .ensures (start .args .bytes .now)) (at-if1 .if1 .taken) (start .args .address .0) refl
 
 returns-2 : tie.Need-returns-2
 returns-2 c =
@@ -27,7 +27,7 @@ returns-2 c =
     let at-slot-at = at-if1 .before .before in
     let start = at-slot-at .before .before .before .before .before in
     let m = mem (start .args .bytes .now) (start .args .keys .now) (start .args .order .now) (start .args .words .now) in
-    byte-held m (start .pre) (start .args .page) (start .args .address / 256) (at-slot-at .slot-at .result) (at-slot-at .slot-at .ensures (start .args .bytes .now)) (at-if1 .if1 .left) (start .args .address) _ refl refl
+    byte-held m (start .pre) (start .args .page .0) (start .args .address .0 / 256) (at-slot-at .slot-at .result) (at-slot-at .slot-at .ensures (start .args .bytes .now)) (at-if1 .if1 .left) (start .args .address .0) _ refl refl
 
 pub byte-at-spec : {M : Type 1} → statement M
 byte-at-spec =

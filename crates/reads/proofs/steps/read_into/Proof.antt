@@ -38,7 +38,7 @@ loop-again c =
     let m = mem (start .args .bytes .now) (start .args .keys .now) (start .args .order .now) (start .args .words .now) in (
       omega (arith, at-least .least .ensures, at-loop .loop .inv .1, at-loop-test .loop-test .taken),
       at-read-part .read-part .ensures .long ∙ at-loop .loop .inv .1,
-      part-on m (start .pre .0) (start .args .page) (start .args .start) (at-loop .loop .pos) (at-least .least .result) (at-loop .loop .out) _ (at-loop .loop .inv .2) (at-read-part .read-part .ensures),
+      part-on m (start .pre .0) (start .args .page .0) (start .args .start .0) (at-loop .loop .pos) (at-least .least .result) (at-loop .loop .out) _ (at-loop .loop .inv .2) (at-read-part .read-part .ensures),
     )
 
 returns : tie.Need-returns Inv-loop μ-loop
@@ -47,7 +47,7 @@ returns c =
     let at-loop = at-loop-test .before in
     let start = at-loop .before .before .before .before .before .before in
     let m = mem (start .args .bytes .now) (start .args .keys .now) (start .args .order .now) (start .args .words .now) in
-    tab-is (length (start .args .out .now)) (λ i. byteAt m (start .args .page) (start .args .start + i)) (at-loop .loop .out) (at-loop .loop .inv .1) (λ i l. at-loop .loop .inv .2 i (omega (arith, at-loop .loop .inv .1, at-loop-test .loop-test .left)))
+    tab-is (length (start .args .out .now)) (λ i. byteAt m (start .args .page .0) (start .args .start .0 + i)) (at-loop .loop .out) (at-loop .loop .inv .1) (λ i l. at-loop .loop .inv .2 i (omega (arith, at-loop .loop .inv .1, at-loop-test .loop-test .left)))
 
 pub read-into-spec : {M : Type 1} → statement M
 read-into-spec =

@@ -10,7 +10,7 @@ returns c =
     let at-read-into = c .before in
     let start = at-read-into .before .before .before .before .before .before in
     let m = mem (start .args .bytes .now) (start .args .keys .now) (start .args .order .now) (start .args .words .now) in
-    padded-is (viewOf m) (start .args .page) (start .args .start) (start .args .n) _ (start .pre .1) (at-read-into .read-into .ensures)
+    padded-is (viewOf m) (start .args .page .0) (start .args .start .0) (start .args .n) _ (start .pre .1) (at-read-into .read-into .ensures)
 
 pub read-padded-spec : {M : Type 1} → statement M
 read-padded-spec =

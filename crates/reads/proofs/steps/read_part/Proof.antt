@@ -19,7 +19,7 @@ returns c =
     let at-slot-at = at-if1 .before .before in
     let start = at-slot-at .before .before .before .before .before .before in
     let m = mem (start .args .bytes .now) (start .args .keys .now) (start .args .order .now) (start .args .words .now) in
-    part-none m (start .pre .0) (start .args .page) (start .args .a) (start .args .n) (at-slot-at .slot-at .result) (start .pre .1 .0) (at-slot-at .slot-at .ensures (start .args .bytes .now)) (start .args .to) _ _ (at-if1 .if1 .taken) (at-fill .fill .ensures)
+    part-none m (start .pre .0) (start .args .page .0) (start .args .a) (start .args .n) (at-slot-at .slot-at .result) (start .pre .1 .0) (at-slot-at .slot-at .ensures (start .args .bytes .now)) (start .args .to) _ _ (at-if1 .if1 .taken) (at-fill .fill .ensures)
 
 returns-2 : tie.Need-returns-2
 returns-2 c =
@@ -28,7 +28,7 @@ returns-2 c =
     let at-slot-at = at-if1 .before .before in
     let start = at-slot-at .before .before .before .before .before .before in
     let m = mem (start .args .bytes .now) (start .args .keys .now) (start .args .order .now) (start .args .words .now) in
-    part-held m (start .pre .0) (start .args .page) (start .args .a) (start .args .n) (at-slot-at .slot-at .result) (start .pre .1 .0) (at-slot-at .slot-at .ensures (start .args .bytes .now)) (start .args .to) _ _ (at-if1 .if1 .left) (put-spread _ _ _ _ _ (at-copy .copy .kept .1 .1 .0) (at-copy .copy .ensures))
+    part-held m (start .pre .0) (start .args .page .0) (start .args .a) (start .args .n) (at-slot-at .slot-at .result) (start .pre .1 .0) (at-slot-at .slot-at .ensures (start .args .bytes .now)) (start .args .to) _ _ (at-if1 .if1 .left) (put-spread _ _ _ _ _ (at-copy .copy .kept .1 .1 .0) (at-copy .copy .ensures))
 
 pub read-part-spec : {M : Type 1} → statement M
 read-part-spec =

@@ -22,7 +22,7 @@ write-at-requires c κs =
     let at-place-of-last = c .before .before in
     let at-place-of = at-place-of-last .before .before in
     let start = at-place-of .before .before .before .before .before .before in
-    held-word (mem (start .args .bytes .now) (start .args .keys .now) (start .args .order .now) (start .args .words .now)) (start .args .page) (start .args .address) (at-place-of .place-of .result) (at-place-of-last .place-of-last .result) (omega (arith, start .fits .address)) (start .pre) (at-place-of .place-of .ensures) (at-place-of-last .place-of-last .ensures)
+    held-word (mem (start .args .bytes .now) (start .args .keys .now) (start .args .order .now) (start .args .words .now)) (start .args .page .0) (start .args .address .0) (at-place-of .place-of .result) (at-place-of-last .place-of-last .result) (omega (arith, start .fits .address)) (start .pre) (at-place-of .place-of .ensures) (at-place-of-last .place-of-last .ensures)
 
 returns : tie.Need-returns
 returns c =

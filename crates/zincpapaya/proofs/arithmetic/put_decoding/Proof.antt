@@ -9,19 +9,19 @@ use borrow.Author.Needs.{needs}
 use Rattle.zincpapaya.proofs.arithmetic.put_decoding.Statement.{statement}
 use Rattle.zincpapaya.proofs.arithmetic.put_decoding.Tie as tie
 
-kind-of-requires : tie.Need-kind-of-requires
-kind-of-requires c κs = tt
+kind-number-requires : tie.Need-kind-number-requires
+kind-number-requires c κs = tt
 
-group-of-requires : tie.Need-group-of-requires
-group-of-requires c κs = tt
+group-number-requires : tie.Need-group-number-requires
+group-number-requires c κs = tt
 
 returns-2 : tie.Need-returns-2
 returns-2 c =
     let at-put-two = c .before .before in
-    let at-group-of = at-put-two .before in
-    let at-kind-of = at-group-of .before in
-    let at-decoding2 = at-kind-of .before .before .before in
-    done-told (ap (λ (d : Decoding). mapped pageNumbers (decodingOutcome d)) (at-decoding2 .decoding2 .given .1)) (at-put-two .put-two .ensures .0) (at-put-two .put-two .ensures .1 ∙ pair-is (at-kind-of .kind-of .ensures) (at-group-of .group-of .ensures))
+    let at-group-number = at-put-two .before in
+    let at-kind-number = at-group-number .before in
+    let at-decoding2 = at-kind-number .before .before .before in
+    done-told (ap (λ (d : Decoding). mapped pageNumbers (decodingOutcome d)) (at-decoding2 .decoding2 .given .1)) (at-put-two .put-two .ensures .0) (at-put-two .put-two .ensures .1 ∙ pair-is (at-kind-number .kind-number .ensures) (at-group-number .group-number .ensures))
 
 pub put-decoding-spec : {M : Type 1} → statement M
 put-decoding-spec =
@@ -29,8 +29,8 @@ put-decoding-spec =
     (tie.spec
     (λ c. search needs)
     (λ c. search needs)
-    kind-of-requires
-    group-of-requires
+    kind-number-requires
+    group-number-requires
     (λ c κs. search needs)
     (λ c. search needs)
     (λ c. search needs)

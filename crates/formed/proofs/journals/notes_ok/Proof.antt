@@ -7,8 +7,8 @@ use borrow.Author.Needs.{needs}
 use Rattle.index.specs.Index.{all}
 use Rattle.index.proofs.All.{all-none, all-more, all-fails, all-done}
 use Rattle.formed.specs.Formed.{noted}
-use Rattle.formed.proofs.journal.notes_ok.Statement.{statement}
-use Rattle.formed.proofs.journal.notes_ok.Tie as tie
+use Rattle.formed.proofs.journals.notes_ok.Statement.{statement}
+use Rattle.formed.proofs.journals.notes_ok.Tie as tie
 
 abbrev Inv-loop : tie.InvT-loop
 Inv-loop holders notes n k i₀ i = (i ≤ n) × (all (noted holders notes k) i ≡ true)

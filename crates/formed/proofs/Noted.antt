@@ -3,38 +3,27 @@
 use mathlib.Core.Path.{_≡_, refl, sym, ap, _∙_}
 use mathlib.Core.Bool.{Bool, true, _&&_}
 use mathlib.Core.List.{List}
-use Prim.Native.Nat.{ℕ, _+_, _*_, _/_, _<_}
+use Prim.Native.Nat.{ℕ, zero, suc, _+_, _*_, _/_, _<_, _≤_}
 use native.Mathlib.Nat.{mul-assoc}
 use native.Mathlib.Omega.{arith}
 use lib.Dec.{leb, eqb}
 use lib.ListN.{getD, take, drop}
 use lib.Seq.{getD-take, getD-drop}
 use borrow.Author.Tests.{le-leb, eq-eqb, leb-true, eqb-true}
+use Rattle.store.specs.Keys.{keyOf}
 use Rattle.index.specs.Index.{all}
 use Rattle.index.proofs.Logic.{and-left, and-right, and-both}
 use Rattle.store.specs.Mem.{Mem, journalWords, holders}
 use Rattle.formed.specs.Pages.{journalCount, journalPlace}
-use Rattle.formed.specs.Parts.{keyOf, noteAt, noteAddress, noteFirst, noteLast}
-use Rattle.formed.specs.Formed.{noted, journalOf}
+use Rattle.formed.specs.Parts.{noteAt, noteAddress, noteFirst, noteLast}
+use Rattle.formed.specs.Formed.{noted, journalRight}
 use Rattle.formed.specs.WellFormed.{holder, NotedRight}
 
--- the two journals
-module _ (hs w : List ℕ) where
-  pub journal-heap : (leb (getD w 12 0) (journalWords w) && all (noted hs (take (3 * journalWords w) (drop 16 w)) 67108865) (getD w 12 0)) ≡ journalOf hs w 0
-  unfolding journalOf
-  journal-heap =
-      let e : 16 ≡ 16 + 3 * journalWords w * 0 = omega arith in
-      ap (λ (x : ℕ). leb (getD w 12 0) (journalWords w) && all (noted hs (take (3 * journalWords w) (drop x w)) 67108865) (getD w 12 0)) e
-
-  pub journal-aux : (leb (getD w 13 0) (journalWords w) && all (noted hs (take (3 * journalWords w) (drop (16 + 3 * journalWords w) w)) 100663297) (getD w 13 0)) ≡ journalOf hs w 1
-  unfolding journalOf
-  journal-aux =
-      let e : 16 + 3 * journalWords w ≡ 16 + 3 * journalWords w * 1 = omega arith in
-      ap (λ (x : ℕ). leb (getD w 13 0) (journalWords w) && all (noted hs (take (3 * journalWords w) (drop x w)) 100663297) (getD w 13 0)) e
-
-  pub journals-two : (journalOf hs w 0 && journalOf hs w 1) ≡ all (journalOf hs w) journalCount
-  unfolding all
-  journals-two = refl
+-- the words of a journal lie within the buffer
+pub words-end : (n j : ℕ) → j < journalCount → 3 * n * j + 3 * n ≤ 6 * n
+words-end n zero l = omega arith
+words-end n (suc zero) l = omega arith
+words-end n (suc (suc j)) l = absurd (omega arith)
 
 -- the numbers of a journal's words
 note-at : (w : List ℕ) (n j i c : ℕ) → i < n → c < 3 → (x y : ℕ) → x ≡ 3 * i + c → y ≡ 16 + 3 * (n * j + i) + c → getD (take (3 * n) (drop (16 + 3 * n * j) w)) x 0 ≡ getD w y 0

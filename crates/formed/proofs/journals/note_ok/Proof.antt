@@ -3,8 +3,8 @@ use lib.Dec.{leb}
 use borrow.Author.Tests.{lt-leb, le-leb, not-true, not-false}
 use borrow.Author.Needs.{needs}
 use Rattle.formed.proofs.Bools.{and-stop, and-pass}
-use Rattle.formed.proofs.journal.note_ok.Statement.{statement}
-use Rattle.formed.proofs.journal.note_ok.Tie as tie
+use Rattle.formed.proofs.journals.note_ok.Statement.{statement}
+use Rattle.formed.proofs.journals.note_ok.Tie as tie
 
 returns : tie.Need-returns
 returns c =

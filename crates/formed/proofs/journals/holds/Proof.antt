@@ -3,8 +3,8 @@ use native.Mathlib.Omega.{arith}
 use lib.ListN.{List·getD-eq-default}
 use borrow.Author.Tests.{ne-eqb}
 use borrow.Author.Needs.{needs}
-use Rattle.formed.proofs.journal.holds.Statement.{statement}
-use Rattle.formed.proofs.journal.holds.Tie as tie
+use Rattle.formed.proofs.journals.holds.Statement.{statement}
+use Rattle.formed.proofs.journals.holds.Tie as tie
 
 returns : tie.Need-returns
 returns c =

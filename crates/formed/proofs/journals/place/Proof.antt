@@ -1,8 +1,8 @@
 use native.Mathlib.Omega.{arith}
 use borrow.Author.Needs.{needs}
-use Rattle.journal.proofs.Numbers.{place-other}
-use Rattle.journal.proofs.place.Statement.{statement}
-use Rattle.journal.proofs.place.Tie as tie
+use Rattle.formed.proofs.Pages.{place-other}
+use Rattle.formed.proofs.journals.place.Statement.{statement}
+use Rattle.formed.proofs.journals.place.Tie as tie
 
 returns-2 : tie.Need-returns-2
 returns-2 c =

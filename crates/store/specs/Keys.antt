@@ -1,0 +1,18 @@
+-- Keys: the key of a slot says which chunk of which page entry the slot holds; 0 says that it is pooled.
+-- Assumes nothing.
+use Prim.Native.Nat.{ℕ, _+_, _*_, _-_, _/_, _%_}
+
+-- the highest chunk number: the word at the last address ends in that chunk
+abbrev pub lastChunk : ℕ
+lastChunk = 16777216
+
+-- the key of chunk k of the page at entry e
+abbrev pub keyOf : ℕ → ℕ → ℕ
+keyOf e k = e * 33554432 + k + 1
+
+-- and back: the entry and the chunk number of a key
+abbrev pub keyEntry : ℕ → ℕ
+keyEntry key = (key - 1) / 33554432
+
+abbrev pub keyChunk : ℕ → ℕ
+keyChunk key = (key - 1) % 33554432

@@ -35,7 +35,7 @@ returns-2 c =
     let at-decode = at-is-undecodable .before in
     let start = at-decode .before .before .before .before .before in
     let m = mem (start .args .bytes .now) (start .args .keys .now) (start .args .order .now) (start .args .words .now) in
-    bytes-8 (settingOf m) (viewOf m) (start .args .page .0) _ (at-decode .decode .ensures) (start .args .start .0) (start .args .n) (sym (at-is-undecodable .is-undecodable .ensures) ∙ at-if1 .if1 .left) (start .fits .start .fits) (at-if2 .if2 .taken)
+    bytes-8 (settingOf m) (viewOf m) (start .args .page .0) _ (at-decode .decode .ensures) (start .args .start .0) (start .args .n) (sym (at-is-undecodable .is-undecodable .ensures) ∙ at-if1 .if1 .left) (start .good .1 .1 .1 .1 .1 .0 .fits) (at-if2 .if2 .taken)
 
 capacity-refusal-requires : tie.Need-capacity-refusal-requires
 capacity-refusal-requires c κs =
@@ -56,7 +56,7 @@ returns-3 c =
     let at-decode = at-is-undecodable .before in
     let start = at-decode .before .before .before .before .before in
     let m = mem (start .args .bytes .now) (start .args .keys .now) (start .args .order .now) (start .args .words .now) in
-    bytes-room (settingOf m) (viewOf m) (start .args .page .0) _ (at-decode .decode .ensures) (start .args .start .0) (start .args .n) (sym (at-is-undecodable .is-undecodable .ensures) ∙ at-if1 .if1 .left) (start .fits .start .fits) (at-if2 .if2 .left) _ (room-chosen (start .args .start .0) (start .args .n) _ (at-touched .touched .ensures) (settingOf m) (viewOf m) (start .args .page .0) (alignedCount (start .args .start .0) (start .args .n)) _ _ (at-aligned .aligned .ensures) (at-capacity-refusal .capacity-refusal .ensures))
+    bytes-room (settingOf m) (viewOf m) (start .args .page .0) _ (at-decode .decode .ensures) (start .args .start .0) (start .args .n) (sym (at-is-undecodable .is-undecodable .ensures) ∙ at-if1 .if1 .left) (start .good .1 .1 .1 .1 .1 .0 .fits) (at-if2 .if2 .left) _ (room-chosen (start .args .start .0) (start .args .n) _ (at-touched .touched .ensures) (settingOf m) (viewOf m) (start .args .page .0) (alignedCount (start .args .start .0) (start .args .n)) _ _ (at-aligned .aligned .ensures) (at-capacity-refusal .capacity-refusal .ensures))
 
 pub bytes-checks-spec : {M : Type 1} → statement M
 bytes-checks-spec =

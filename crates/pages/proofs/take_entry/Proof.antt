@@ -27,7 +27,7 @@ add-words c =
 add-raise : tie.Need-add-raise
 add-raise c =
     let start = c .before .before .before .before .before .before .before .before .before .before .before .before .before .before .before .before .before .before in
-    let h = div-le-self (start .args .page .0 - getD (start .args .words .now) 4 0) (getD (start .args .words .now) 5 0) in omega (arith, h, start .fits .page)
+    let h = div-le-self (start .args .page .0 - getD (start .args .words .now) 4 0) (getD (start .args .words .now) 5 0) in omega (arith, h, start .good .1 .1 .1)
 
 same-length-3 : tie.Need-same-length-3
 same-length-3 c =

@@ -13,7 +13,7 @@ window-end-requires c κs = search needs
 drop-chunks-requires : tie.Need-drop-chunks-requires
 drop-chunks-requires c κs =
     let start = c .before .before .before .before .before .before .before .before .before in
-    record { page = start .pre; order = omega arith; top = omega (arith, start .fits .start) }
+    record { page = start .pre; order = omega arith; top = omega (arith, start .good .1 .1 .1 .1 .1 .0) }
 
 drop-chunks-requires-2 : tie.Need-drop-chunks-requires-2
 drop-chunks-requires-2 c κs =

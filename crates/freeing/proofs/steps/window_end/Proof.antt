@@ -12,7 +12,7 @@ add-end : tie.Need-add-end
 add-end c =
     let at-touched = c in
     let start = at-touched .before in
-    let e = at-touched .touched .ensures in let t = touched-few (start .args .start .0) (start .args .length) in omega (arith, start .fits .start, start .fits .length)
+    let e = at-touched .touched .ensures in let t = touched-few (start .args .start .0) (start .args .length) in omega (arith, start .good .0, start .fits .length)
 
 returns : tie.Need-returns
 returns c =

@@ -37,7 +37,7 @@ returns c =
     let at-if1 = at-hinted-last .before in
     let at-hinted = at-if1 .before in
     let start = at-hinted .before .before .before .before .before .before in
-    at-word-in .word-in .ensures ∙ word-held (mem (start .args .bytes .now) (start .args .keys .now) (start .args .order .now) (start .args .words .now)) (start .pre) (start .args .page .0) (start .args .address .0) (at-hinted .hinted .result) (at-hinted-last .hinted-last .result) (omega (arith, start .fits .address)) (at-hinted .hinted .ensures (at-if1 .if1 .taken)) (at-hinted-last .hinted-last .ensures (at-if2 .if2 .taken)) (at-if1 .if1 .taken) (at-if2 .if2 .taken)
+    at-word-in .word-in .ensures ∙ word-held (mem (start .args .bytes .now) (start .args .keys .now) (start .args .order .now) (start .args .words .now)) (start .pre) (start .args .page .0) (start .args .address .0) (at-hinted .hinted .result) (at-hinted-last .hinted-last .result) (omega (arith, start .good .1 .1 .1 .1 .1)) (at-hinted .hinted .ensures (at-if1 .if1 .taken)) (at-hinted-last .hinted-last .ensures (at-if2 .if2 .taken)) (at-if1 .if1 .taken) (at-if2 .if2 .taken)
 
 pub read-word-spec : {M : Type 1} → statement M
 read-word-spec = tie.close (tie.spec (λ c. search needs) hinted-requires hinted-last-requires (λ c. search needs) word-in-requires returns (λ c κs. search needs) (λ c. search needs))

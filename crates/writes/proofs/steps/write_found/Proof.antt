@@ -35,7 +35,7 @@ write-at-requires c κs =
     let at-if1 = at-hinted-last .before .before in
     let at-hinted = at-if1 .before in
     let start = at-hinted .before .before .before .before .before .before .before in
-    found-asks (mem (start .args .bytes .now) (start .args .keys .now) (start .args .order .now) (start .args .words .now)) (start .args .page .0) (start .args .address .0) (omega (arith, start .fits .page)) (omega (arith, start .fits .address)) (start .pre) (at-hinted .hinted .result) (at-hinted-last .hinted-last .result) (at-if1 .if1 .left) (at-if2 .if2 .left) (at-hinted .hinted .ensures (at-if1 .if1 .left)) (at-hinted-last .hinted-last .ensures (at-if2 .if2 .left))
+    found-asks (mem (start .args .bytes .now) (start .args .keys .now) (start .args .order .now) (start .args .words .now)) (start .args .page .0) (start .args .address .0) (omega (arith, start .good .1 .1 .1 .1 .0)) (omega (arith, start .good .1 .1 .1 .1 .1 .0)) (start .pre) (at-hinted .hinted .result) (at-hinted-last .hinted-last .result) (at-if1 .if1 .left) (at-if2 .if2 .left) (at-hinted .hinted .ensures (at-if1 .if1 .left)) (at-hinted-last .hinted-last .ensures (at-if2 .if2 .left))
 
 returns-3 : tie.Need-returns-3
 returns-3 c =
@@ -45,7 +45,7 @@ returns-3 c =
     let at-if1 = at-hinted-last .before .before in
     let at-hinted = at-if1 .before in
     let start = at-hinted .before .before .before .before .before .before .before in
-    found-written (mem (start .args .bytes .now) (start .args .keys .now) (start .args .order .now) (start .args .words .now)) (start .args .page .0) (start .args .address .0) (omega (arith, start .fits .page)) (omega (arith, start .fits .address)) (start .pre) (at-hinted .hinted .result) (at-hinted-last .hinted-last .result) (at-if1 .if1 .left) (at-if2 .if2 .left) (at-hinted .hinted .ensures (at-if1 .if1 .left)) (at-hinted-last .hinted-last .ensures (at-if2 .if2 .left)) (start .args .value) (start .good .1 .1 .1 .1 .1 .1 .0 .1 .0 .1) _ (at-write-at .write-at .ensures)
+    found-written (mem (start .args .bytes .now) (start .args .keys .now) (start .args .order .now) (start .args .words .now)) (start .args .page .0) (start .args .address .0) (omega (arith, start .good .1 .1 .1 .1 .0)) (omega (arith, start .good .1 .1 .1 .1 .1 .0)) (start .pre) (at-hinted .hinted .result) (at-hinted-last .hinted-last .result) (at-if1 .if1 .left) (at-if2 .if2 .left) (at-hinted .hinted .ensures (at-if1 .if1 .left)) (at-hinted-last .hinted-last .ensures (at-if2 .if2 .left)) (start .args .value) (start .good .1 .1 .1 .1 .1 .1 .0 .1 .0 .1) _ (at-write-at .write-at .ensures)
 
 pub write-found-spec : {M : Type 1} → statement M
 write-found-spec = tie.close (tie.spec (λ c. search needs) hinted-requires (λ c. search needs) returns hinted-last-requires (λ c. search needs) returns-2 write-at-requires (λ c. search needs) (λ c. search needs) returns-3)

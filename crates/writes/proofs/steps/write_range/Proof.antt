@@ -20,20 +20,20 @@ cast-count : tie.Need-cast-count
 cast-count c =
     let at-touched = c in
     let start = at-touched .before .before .before .before .before .before in
-    let h = count-small (mem (start .args .bytes .now) (start .args .keys .now) (start .args .order .now) (start .args .words .now)) (start .args .page .0) (start .args .start .0) (length (start .args .src .now)) (alignedCount (start .args .start .0) (length (start .args .src .now))) (at-touched .touched .result) (bytes-cleared (mem (start .args .bytes .now) (start .args .keys .now) (start .args .order .now) (start .args .words .now)) (start .args .page .0) (start .args .start .0) (at-touched .touched .result) (omega (arith, start .fits .page)) (length (start .args .src .now)) (start .pre) (at-touched .touched .ensures)) in omega arith
+    let h = count-small (mem (start .args .bytes .now) (start .args .keys .now) (start .args .order .now) (start .args .words .now)) (start .args .page .0) (start .args .start .0) (length (start .args .src .now)) (alignedCount (start .args .start .0) (length (start .args .src .now))) (at-touched .touched .result) (bytes-cleared (mem (start .args .bytes .now) (start .args .keys .now) (start .args .order .now) (start .args .words .now)) (start .args .page .0) (start .args .start .0) (at-touched .touched .result) (omega (arith, start .good .1 .1 .1 .1 .0)) (length (start .args .src .now)) (start .pre) (at-touched .touched .ensures)) in omega arith
 
 prepare-requires : tie.Need-prepare-requires
 prepare-requires c κs =
     let at-touched = c .before .before .before .before in
     let start = at-touched .before .before .before .before .before .before in
-    prepare-asks (mem (start .args .bytes .now) (start .args .keys .now) (start .args .order .now) (start .args .words .now)) (start .args .page .0) (start .args .start .0) (length (start .args .src .now)) (alignedCount (start .args .start .0) (length (start .args .src .now))) (at-touched .touched .result) (bytes-cleared (mem (start .args .bytes .now) (start .args .keys .now) (start .args .order .now) (start .args .words .now)) (start .args .page .0) (start .args .start .0) (at-touched .touched .result) (omega (arith, start .fits .page)) (length (start .args .src .now)) (start .pre) (at-touched .touched .ensures))
+    prepare-asks (mem (start .args .bytes .now) (start .args .keys .now) (start .args .order .now) (start .args .words .now)) (start .args .page .0) (start .args .start .0) (length (start .args .src .now)) (alignedCount (start .args .start .0) (length (start .args .src .now))) (at-touched .touched .result) (bytes-cleared (mem (start .args .bytes .now) (start .args .keys .now) (start .args .order .now) (start .args .words .now)) (start .args .page .0) (start .args .start .0) (at-touched .touched .result) (omega (arith, start .good .1 .1 .1 .1 .0)) (length (start .args .src .now)) (start .pre) (at-touched .touched .ensures))
 
 journal-range-requires : tie.Need-journal-range-requires
 journal-range-requires c κs =
     let at-prepare = c .before .before .before .before .before .before .before .before .before .before in
     let at-touched = at-prepare .before .before .before .before .before in
     let start = at-touched .before .before .before .before .before .before in
-    (journal-asks (mem (start .args .bytes .now) (start .args .keys .now) (start .args .order .now) (start .args .words .now)) (start .args .page .0) (start .args .start .0) (length (start .args .src .now)) (alignedCount (start .args .start .0) (length (start .args .src .now))) (at-touched .touched .result) (bytes-cleared (mem (start .args .bytes .now) (start .args .keys .now) (start .args .order .now) (start .args .words .now)) (start .args .page .0) (start .args .start .0) (at-touched .touched .result) (omega (arith, start .fits .page)) (length (start .args .src .now)) (start .pre) (at-touched .touched .ensures)) (mem (start .args .bytes .now) (at-prepare .prepare .last .1 .0) (at-prepare .prepare .last .1 .1 .0) (at-prepare .prepare .last .1 .1 .1 .0)) (at-prepare .prepare .ensures), bytes-passed (settingOf (mem (start .args .bytes .now) (start .args .keys .now) (start .args .order .now) (start .args .words .now))) (viewOf (mem (start .args .bytes .now) (start .args .keys .now) (start .args .order .now) (start .args .words .now))) (start .args .page .0) (start .args .start .0) (length (start .args .src .now)) (start .pre .1) .1)
+    (journal-asks (mem (start .args .bytes .now) (start .args .keys .now) (start .args .order .now) (start .args .words .now)) (start .args .page .0) (start .args .start .0) (length (start .args .src .now)) (alignedCount (start .args .start .0) (length (start .args .src .now))) (at-touched .touched .result) (bytes-cleared (mem (start .args .bytes .now) (start .args .keys .now) (start .args .order .now) (start .args .words .now)) (start .args .page .0) (start .args .start .0) (at-touched .touched .result) (omega (arith, start .good .1 .1 .1 .1 .0)) (length (start .args .src .now)) (start .pre) (at-touched .touched .ensures)) (mem (start .args .bytes .now) (at-prepare .prepare .last .1 .0) (at-prepare .prepare .last .1 .1 .0) (at-prepare .prepare .last .1 .1 .1 .0)) (at-prepare .prepare .ensures), bytes-passed (settingOf (mem (start .args .bytes .now) (start .args .keys .now) (start .args .order .now) (start .args .words .now))) (viewOf (mem (start .args .bytes .now) (start .args .keys .now) (start .args .order .now) (start .args .words .now))) (start .args .page .0) (start .args .start .0) (length (start .args .src .now)) (start .pre .1) .1)
 
 write-from-requires : tie.Need-write-from-requires
 write-from-requires c κs =
@@ -41,7 +41,7 @@ write-from-requires c κs =
     let at-prepare = at-journal-range .before .before .before .before .before .before .before .before .before .before .before in
     let at-touched = at-prepare .before .before .before .before .before in
     let start = at-touched .before .before .before .before .before .before in
-    put-asks (mem (start .args .bytes .now) (start .args .keys .now) (start .args .order .now) (start .args .words .now)) (start .args .page .0) (start .args .start .0) (start .args .src .now) (alignedCount (start .args .start .0) (length (start .args .src .now))) (at-touched .touched .result) (bytes-cleared (mem (start .args .bytes .now) (start .args .keys .now) (start .args .order .now) (start .args .words .now)) (start .args .page .0) (start .args .start .0) (at-touched .touched .result) (omega (arith, start .fits .page)) (length (start .args .src .now)) (start .pre) (at-touched .touched .ensures)) (mem (start .args .bytes .now) (at-prepare .prepare .last .1 .0) (at-prepare .prepare .last .1 .1 .0) (at-prepare .prepare .last .1 .1 .1 .0)) (at-prepare .prepare .ensures) (λ (v : View). alignedNotes v (start .args .page .0) (start .args .start .0) (length (start .args .src .now))) (λ v w. aligned-notes-same v w (start .args .page .0) (start .args .start .0) (length (start .args .src .now))) (mem (at-journal-range .journal-range .last .0) (at-prepare .prepare .last .1 .0) (at-prepare .prepare .last .1 .1 .0) (at-journal-range .journal-range .last .1 .1 .1 .0)) (at-journal-range .journal-range .ensures)
+    put-asks (mem (start .args .bytes .now) (start .args .keys .now) (start .args .order .now) (start .args .words .now)) (start .args .page .0) (start .args .start .0) (start .args .src .now) (alignedCount (start .args .start .0) (length (start .args .src .now))) (at-touched .touched .result) (bytes-cleared (mem (start .args .bytes .now) (start .args .keys .now) (start .args .order .now) (start .args .words .now)) (start .args .page .0) (start .args .start .0) (at-touched .touched .result) (omega (arith, start .good .1 .1 .1 .1 .0)) (length (start .args .src .now)) (start .pre) (at-touched .touched .ensures)) (mem (start .args .bytes .now) (at-prepare .prepare .last .1 .0) (at-prepare .prepare .last .1 .1 .0) (at-prepare .prepare .last .1 .1 .1 .0)) (at-prepare .prepare .ensures) (λ (v : View). alignedNotes v (start .args .page .0) (start .args .start .0) (length (start .args .src .now))) (λ v w. aligned-notes-same v w (start .args .page .0) (start .args .start .0) (length (start .args .src .now))) (mem (at-journal-range .journal-range .last .0) (at-prepare .prepare .last .1 .0) (at-prepare .prepare .last .1 .1 .0) (at-journal-range .journal-range .last .1 .1 .1 .0)) (at-journal-range .journal-range .ensures)
 
 returns : tie.Need-returns
 returns c =
@@ -50,7 +50,7 @@ returns c =
     let at-prepare = at-journal-range .before .before .before .before .before .before .before .before .before .before .before in
     let at-touched = at-prepare .before .before .before .before .before in
     let start = at-touched .before .before .before .before .before .before in
-    write-done (mem (start .args .bytes .now) (start .args .keys .now) (start .args .order .now) (start .args .words .now)) (start .args .page .0) (start .args .start .0) (start .args .src .now) (alignedCount (start .args .start .0) (length (start .args .src .now))) (at-touched .touched .result) (bytes-cleared (mem (start .args .bytes .now) (start .args .keys .now) (start .args .order .now) (start .args .words .now)) (start .args .page .0) (start .args .start .0) (at-touched .touched .result) (omega (arith, start .fits .page)) (length (start .args .src .now)) (start .pre) (at-touched .touched .ensures)) (mem (start .args .bytes .now) (at-prepare .prepare .last .1 .0) (at-prepare .prepare .last .1 .1 .0) (at-prepare .prepare .last .1 .1 .1 .0)) (at-prepare .prepare .ensures) (λ (v : View). alignedNotes v (start .args .page .0) (start .args .start .0) (length (start .args .src .now))) (λ v w. aligned-notes-same v w (start .args .page .0) (start .args .start .0) (length (start .args .src .now))) _ (shows-then (putting (start .args .page .0) (start .args .start .0) (start .args .src .now)) (at-journal-range .journal-range .ensures) (at-write-from .write-from .ensures))
+    write-done (mem (start .args .bytes .now) (start .args .keys .now) (start .args .order .now) (start .args .words .now)) (start .args .page .0) (start .args .start .0) (start .args .src .now) (alignedCount (start .args .start .0) (length (start .args .src .now))) (at-touched .touched .result) (bytes-cleared (mem (start .args .bytes .now) (start .args .keys .now) (start .args .order .now) (start .args .words .now)) (start .args .page .0) (start .args .start .0) (at-touched .touched .result) (omega (arith, start .good .1 .1 .1 .1 .0)) (length (start .args .src .now)) (start .pre) (at-touched .touched .ensures)) (mem (start .args .bytes .now) (at-prepare .prepare .last .1 .0) (at-prepare .prepare .last .1 .1 .0) (at-prepare .prepare .last .1 .1 .1 .0)) (at-prepare .prepare .ensures) (λ (v : View). alignedNotes v (start .args .page .0) (start .args .start .0) (length (start .args .src .now))) (λ v w. aligned-notes-same v w (start .args .page .0) (start .args .start .0) (length (start .args .src .now))) _ (shows-then (putting (start .args .page .0) (start .args .start .0) (start .args .src .now)) (at-journal-range .journal-range .ensures) (at-write-from .write-from .ensures))
 
 pub write-range-spec : {M : Type 1} → statement M
 write-range-spec = tie.close (tie.spec touched-requires cast-count prepare-requires journal-range-requires write-from-requires (λ c. search needs) (λ c. search needs) (λ c. search needs) (λ c. search needs) returns)

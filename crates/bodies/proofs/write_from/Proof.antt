@@ -15,7 +15,7 @@ use Rattle.bodies.proofs.write_from.Tie as tie
 abbrev Inv-loop : tie.InvT-loop
 Inv-loop bytes₀ keys order words page address src pos₀ bytes pos =
     (pos ≤ length src) × (length bytes ≡ length bytes₀)
-    × Shows (settingOf (mem bytes₀ keys order words)) (putting page address (take pos src) (viewOf (mem bytes₀ keys order words))) (mem bytes keys order words)
+    × Shows (settingOf (mem bytes₀ keys order words)) (putting (page .0) (address .0) (take pos src) (viewOf (mem bytes₀ keys order words))) (mem bytes keys order words)
 
 abbrev μ-loop : tie.MeasureT-loop
 μ-loop bytes₀ keys order words page address src pos₀ bytes pos = length src - pos
@@ -27,18 +27,18 @@ loop-holds c =
 
 cast-place-of : tie.Need-cast-place-of Inv-loop μ-loop
 cast-place-of c =
-    let start = c .before .before .before .before .before .before .before in
+    let start = c .before .before .before .before .before .before .before .before in
     let top = start .pre .top in omega arith
 
 place-of-requires : tie.Need-place-of-requires Inv-loop μ-loop
 place-of-requires c κs =
-    let start = c .before .before .before .before .before .before .before in
+    let start = c .before .before .before .before .before .before .before .before in
     let top = start .pre .top in (find-asked _ (start .pre .formed), omega arith)
 
 mul-copy : tie.Need-mul-copy Inv-loop μ-loop
 mul-copy c =
     let at-place-of = c .before .before in
-    let at-loop-test = at-place-of .before in
+    let at-loop-test = at-place-of .before .before in
     let at-loop = at-loop-test .before in
     let start = at-loop .before .before .before .before .before .before in
     let small = put-in _ _ _ _ _ _ (start .args .src .now) (start .pre) (at-place-of .place-of .result) (at-loop .loop .pos) (at-loop-test .loop-test .taken) (at-place-of .place-of .ensures) in
@@ -47,7 +47,7 @@ mul-copy c =
 add-copy : tie.Need-add-copy Inv-loop μ-loop
 add-copy c =
     let at-place-of = c .before .before in
-    let at-loop-test = at-place-of .before in
+    let at-loop-test = at-place-of .before .before in
     let at-loop = at-loop-test .before in
     let start = at-loop .before .before .before .before .before .before in
     let small = put-in _ _ _ _ _ _ (start .args .src .now) (start .pre) (at-place-of .place-of .result) (at-loop .loop .pos) (at-loop-test .loop-test .taken) (at-place-of .place-of .ensures) in
@@ -57,7 +57,7 @@ copy-requires : tie.Need-copy-requires Inv-loop μ-loop
 copy-requires c κs =
     let at-piece = c .before in
     let at-place-of = at-piece .before in
-    let at-loop-test = at-place-of .before in
+    let at-loop-test = at-place-of .before .before in
     let at-loop = at-loop-test .before in
     let start = at-loop .before .before .before .before .before .before in
     let small = put-in _ _ _ _ _ _ (start .args .src .now) (start .pre) (at-place-of .place-of .result) (at-loop .loop .pos) (at-loop-test .loop-test .taken) (at-place-of .place-of .ensures) in
@@ -70,7 +70,7 @@ loop-again c =
     let at-copy = c .before .before in
     let at-piece = at-copy .before .before in
     let at-place-of = at-piece .before in
-    let at-loop-test = at-place-of .before in
+    let at-loop-test = at-place-of .before .before in
     let at-loop = at-loop-test .before in
     let start = at-loop .before .before .before .before .before .before in
     let fit = at-piece .piece .ensures in
@@ -86,10 +86,10 @@ returns c =
 pub write-from-spec : {M : Type 1} → statement M
 write-from-spec =
     tie.close
-    (tie.spec
-    Inv-loop
+    (tie.spec Inv-loop
     μ-loop
     loop-holds
+    (λ c. search needs)
     (λ c. search needs)
     cast-place-of
     place-of-requires

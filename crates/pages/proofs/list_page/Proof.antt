@@ -35,8 +35,7 @@ returns-2 c =
 pub list-page-spec : {M : Type 1} → statement M
 list-page-spec =
     tie.close
-    (tie.spec
-    entry-of-requires
+    (tie.spec entry-of-requires
     (λ c. search needs)
     (λ c. search needs)
     (λ c. search needs)

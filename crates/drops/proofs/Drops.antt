@@ -10,7 +10,7 @@ use lib.Dec.{leb, ltb, eqb}
 use lib.ListN.{length, getD, set, take, drop, length-set, length-append, length-drop, List·getD-eq-default}
 use lib.Seq.{getD-take, getD-set-same, getD-set-other, length-take-le}
 use borrow.Author.Tests.{leb-true, ltb-true, eq-eqb, ne-eqb, eqb-true}
-use Rattle.store.specs.Keys.{keyEntry, keyChunk}
+use Rattle.store.specs.Keys.{keyEntry, keyChunk, keyOf}
 use Rattle.index.specs.Index.{indexed, seek, keyAt, LowerBound, Removed}
 use Rattle.index.proofs.Logic.{same-or-not, lt-or-ge, and-left, and-right, le-of-not-lt, both-ways}
 use Rattle.index.proofs.Orders.{index-fits}
@@ -338,12 +338,13 @@ module _ (m : Mem) (p : ℕ) (a : PageAsks m p) where
         whole true = refl
         whole false = refl
 
--- `drop_chunks`, by the entry that it found
-pub dropped-by : (bytes keys order words bytes' keys' order' words' : List ℕ) (p lo hi e : ℕ) → (a : DropAsks (mem bytes keys order words) p lo hi) → e ≡ seek (drop (slotCount words) keys) (p + 1)
-    → Released (e * 33554432 + 1 + lo) (e * 33554432 + 1 + hi) bytes keys order words bytes' keys' order' words'
+-- `drop_chunks`, by the entry that it found and the keys of the range
+pub dropped-by : (bytes keys order words bytes' keys' order' words' : List ℕ) (p lo hi e from to : ℕ) → (a : DropAsks (mem bytes keys order words) p lo hi) → e ≡ seek (drop (slotCount words) keys) (p + 1)
+    → from ≡ keyOf e lo → to ≡ keyOf e hi → Released from to bytes keys order words bytes' keys' order' words'
     → (Shows (settingOf (mem bytes keys order words)) (dropping (settingOf (mem bytes keys order words)) p lo hi (viewOf (mem bytes keys order words))) (mem bytes' keys' order' words')) × (entries (mem bytes' keys' order' words') ≡ entries (mem bytes keys order words))
-dropped-by bytes keys order words bytes' keys' order' words' p lo hi e a q g =
-    let h = subst (λ (x : ℕ). Released (x * 33554432 + 1 + lo) (x * 33554432 + 1 + hi) bytes keys order words bytes' keys' order' words') q g in
+dropped-by bytes keys order words bytes' keys' order' words' p lo hi e from to a q f t g =
+    let x = seek (drop (slotCount words) keys) (p + 1) in
+    let h = subst (λ (y : ℕ). Released y (x * 33554432 + 1 + hi) bytes keys order words bytes' keys' order' words') {x = from} {y = x * 33554432 + 1 + lo} (omega arith) (subst (λ (y : ℕ). Released from y bytes keys order words bytes' keys' order' words') {x = to} {y = x * 33554432 + 1 + hi} (omega arith) g) in
     (dropped bytes keys order words bytes' keys' order' words' p lo hi a h, pages-same bytes keys order words bytes' keys' order' words' p lo hi a h)
 
 -- `free_page`, by its two steps

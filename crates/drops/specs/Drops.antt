@@ -5,6 +5,7 @@ use mathlib.Core.Bool.{true, false, cond, _&&_}
 use Prim.Native.Nat.{ℕ, _+_, _≤_}
 use lib.Dec.{eqb}
 use lib.ListN.{getD}
+use Rattle.store.specs.Keys.{lastChunk}
 use Rattle.store.specs.Mem.{Mem, layoutOf, entries}
 use Rattle.store.specs.Give.{within}
 use Rattle.formed.specs.Pages.{dynamic}
@@ -33,7 +34,7 @@ pub record PageAsks (m : Mem) (p : ℕ) : Type 0 where
 pub record DropAsks (m : Mem) (p lo hi : ℕ) : Type 0 where
   pub page : PageAsks m p
   pub order : lo ≤ hi
-  pub top : hi ≤ 16777217
+  pub top : hi ≤ lastChunk + 1
 
 pub record UnlistAsks (m : Mem) (p : ℕ) : Type 0 where
   pub page : PageAsks m p

@@ -52,8 +52,7 @@ returns-2 c =
 pub hold-chunk-spec : {M : Type 1} → statement M
 hold-chunk-spec =
     tie.close
-    (tie.spec
-    hinted-requires
+    (tie.spec hinted-requires
     (λ c. search needs)
     (λ c. search needs)
     (λ c. search needs)

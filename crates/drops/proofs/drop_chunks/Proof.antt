@@ -10,51 +10,41 @@ entry-of-requires c κs =
     let start = c .before .before .before .before .before .before .before in
     pages-asked _ (start .pre .page .formed)
 
-mul-k : tie.Need-mul-k
-mul-k c =
+key-of-requires : tie.Need-key-of-requires
+key-of-requires c κs =
     let at-entry-of = c in
     let start = at-entry-of .before .before .before .before .before .before .before .before in
-    let h = entry-in _ _ (start .pre .page) in let l = start .pre .page .formed .lengths .pages-hi in let e = at-entry-of .entry-of .ensures in omega arith
+    let h = entry-in _ _ (start .pre .page) in let l = start .pre .page .formed .lengths .pages-hi in let e = at-entry-of .entry-of .ensures in (omega arith, omega (arith, start .fits .lo))
 
-add-k : tie.Need-add-k
-add-k c =
-    let at-entry-of = c in
+key-of-requires-2 : tie.Need-key-of-requires-2
+key-of-requires-2 c κs =
+    let at-entry-of = c .before in
     let start = at-entry-of .before .before .before .before .before .before .before .before in
-    let h = entry-in _ _ (start .pre .page) in let l = start .pre .page .formed .lengths .pages-hi in let e = at-entry-of .entry-of .ensures in omega arith
-
-add-give : tie.Need-add-give
-add-give c =
-    let at-entry-of = c .before .before .before .before in
-    let start = at-entry-of .before .before .before .before .before .before .before .before in
-    let h = entry-in _ _ (start .pre .page) in let l = start .pre .page .formed .lengths .pages-hi in let e = at-entry-of .entry-of .ensures in omega (arith, start .fits .lo)
-
-add-give-2 : tie.Need-add-give-2
-add-give-2 c =
-    let at-entry-of = c .before .before .before .before in
-    let start = at-entry-of .before .before .before .before .before .before .before .before in
-    let h = entry-in _ _ (start .pre .page) in let l = start .pre .page .formed .lengths .pages-hi in let e = at-entry-of .entry-of .ensures in omega (arith, start .fits .hi)
+    let h = entry-in _ _ (start .pre .page) in let l = start .pre .page .formed .lengths .pages-hi in let e = at-entry-of .entry-of .ensures in (omega arith, omega (arith, start .fits .hi))
 
 give-requires : tie.Need-give-requires
 give-requires c κs =
-    let start = c .before .before .before .before .before .before .before .before .before .before .before .before in
-    let l = start .pre .page .formed .lengths .in-bytes in let o = start .pre .order in (slots-asked _ (start .pre .page .formed), (omega arith, omega arith, omega arith))
+    let at-key-of2 = c .before .before .before .before in
+    let at-key-of = at-key-of2 .before in
+    let start = at-key-of .before .before .before .before .before .before .before .before .before in
+    let l = start .pre .page .formed .lengths .in-bytes in
+    (slots-asked _ (start .pre .page .formed), (omega arith, omega (arith, at-key-of .key-of .ensures), omega (arith, start .pre .order, at-key-of .key-of .ensures, at-key-of2 .key-of2 .ensures)))
 
 returns : tie.Need-returns
 returns c =
     let at-give = c .before .before .before .before .before .before .before .before in
-    let at-entry-of = at-give .before .before .before .before .before in
+    let at-key-of2 = at-give .before .before .before .before .before in
+    let at-key-of = at-key-of2 .before in
+    let at-entry-of = at-key-of .before in
     let start = at-entry-of .before .before .before .before .before .before .before .before in
-    dropped-by _ _ _ _ _ _ _ _ _ _ _ _ (start .pre) (at-entry-of .entry-of .ensures) (at-give .give .ensures)
+    dropped-by _ _ _ _ _ _ _ _ _ _ _ _ _ _ (start .pre) (at-entry-of .entry-of .ensures) (at-key-of .key-of .ensures) (at-key-of2 .key-of2 .ensures) (at-give .give .ensures)
 
 pub drop-chunks-spec : {M : Type 1} → statement M
 drop-chunks-spec =
     tie.close
-    (tie.spec
-    entry-of-requires
-    mul-k
-    add-k
-    add-give
-    add-give-2
+    (tie.spec entry-of-requires
+    key-of-requires
+    key-of-requires-2
     give-requires
     (λ c. search needs)
     (λ c. search needs)

@@ -25,7 +25,7 @@ returns c =
 pub free-page-spec : {M : Type 1} → statement M
 free-page-spec =
     tie.close
-    (tie.spec
+    (tie.spec (λ c. search needs)
     drop-chunks-requires
     unlist-page-requires
     (λ c. search needs)

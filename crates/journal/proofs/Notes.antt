@@ -9,6 +9,7 @@ use native.Mathlib.Numerals.{add-one}
 use native.Mathlib.Omega.{arith}
 use lib.ListN.{length, getD, take}
 use borrow.Author.Tests.{eq-eqb, ne-eqb}
+use Rattle.store.specs.Find.{slotAtEntry}
 use Rattle.index.specs.Index.{seek}
 use Rattle.index.proofs.Logic.{same-or-not, lt-or-ge}
 use Rattle.store.specs.Mem.{Mem, mem, layoutOf, slotCount, journalWords, journalLength}
@@ -35,15 +36,15 @@ use Rattle.journal.proofs.Places.{slot-there, slot-in, slot-key}
 -- the slots that two searches find, e being the entry of the journal's page
 pub note-slots : (bytes keys order words : List ℕ) (j a : ℕ) → NoteAsks (mem bytes keys order words) j a
     → (e : ℕ) → e ≡ journalPlace j → (s t : ℕ)
-    → s ≡ seek (take (slotCount words) keys) (e * 33554432 + 1 + a / 256)
-    → t ≡ seek (take (slotCount words) keys) (e * 33554432 + 1 + (a + 31) / 256)
+    → s ≡ slotAtEntry keys words e (a / 256)
+    → t ≡ slotAtEntry keys words e ((a + 31) / 256)
     → NoteSlots (mem bytes keys order words) j a s t
 note-slots bytes keys order words j a asks e is s t first last =
     let m = mem bytes keys order words in
     let small = asks .address in
     record {
-      first = slot-there m (asks .formed) j (asks .which) (a / 256) (omega arith) s (first ∙ ap (λ (x : ℕ). seek (take (slotCount words) keys) (x * 33554432 + 1 + a / 256)) is);
-      last = slot-there m (asks .formed) j (asks .which) ((a + 31) / 256) (omega arith) t (last ∙ ap (λ (x : ℕ). seek (take (slotCount words) keys) (x * 33554432 + 1 + (a + 31) / 256)) is);
+      first = slot-there m (asks .formed) j (asks .which) (a / 256) (omega arith) s (first ∙ ap (λ (x : ℕ). slotAtEntry keys words x (a / 256)) is);
+      last = slot-there m (asks .formed) j (asks .which) ((a + 31) / 256) (omega arith) t (last ∙ ap (λ (x : ℕ). slotAtEntry keys words x ((a + 31) / 256)) is);
     }
 
 module _ (bytes keys order words : List ℕ) (j a : ℕ) (asks : NoteAsks (mem bytes keys order words) j a)

@@ -51,8 +51,8 @@ module _ (m : Mem) (w : WellFormed m) (j : ℕ) (which : j < journalCount) where
     slot-is = slot-near m page k near ∙ ap (λ (x : ℕ). seek (holders m) (keyOf x k)) page-entry
 
     -- what a search for the key finds
-    pub slot-there : (s : ℕ) → s ≡ seek (holders m) (journalPlace j * 33554432 + 1 + k) → slotOfChunk m page k ≡ s
-    slot-there s e = slot-is ∙ ap (seek (holders m)) (let q : keyOf (journalPlace j) k ≡ journalPlace j * 33554432 + 1 + k = omega arith in q) ∙ sym e
+    pub slot-there : (s : ℕ) → s ≡ seek (holders m) (keyOf (journalPlace j) k) → slotOfChunk m page k ≡ s
+    slot-there s e = slot-is ∙ sym e
 
     module _ (s : ℕ) (e : slotOfChunk m page k ≡ s) where
       pub slot-in : holds m page k ≡ true → s < slotCount (m .words)

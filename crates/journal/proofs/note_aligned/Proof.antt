@@ -51,8 +51,7 @@ returns c =
 pub note-aligned-spec : {M : Type 1} → statement M
 note-aligned-spec =
     tie.close
-    (tie.spec
-    Inv-loop
+    (tie.spec Inv-loop
     μ-loop
     loop-holds
     (λ c. search needs)

@@ -15,4 +15,7 @@ returns c =
     note-shows (start .args .bytes .now) (start .args .keys .now) (start .args .order .now) (start .args .words .now) (start .args .j) (start .args .address .0) (start .pre .0) (start .args .s) (start .args .t) (start .pre .1) (at-note-at .note-at .last .0) (at-note-at .note-at .last .1 .0) (at-note-at .note-at .kept .0) (at-note-at .note-at .ensures)
 
 pub note-found-spec : {M : Type 1} → statement M
-note-found-spec = tie.close (tie.spec note-at-requires (λ c. search needs) (λ c. search needs) returns)
+note-found-spec = tie.close (tie.spec note-at-requires
+    (λ c. search needs)
+    (λ c. search needs)
+    returns)

@@ -28,7 +28,7 @@ ranked m i = getD (m .order) i 0
 pub record Ranks (m n : Mem) (e i : ℕ) : Type 0 where
   pub within : i ≤ heldNow (m .words)
   pub agree : (k : ℕ) → k < i → Agrees m n (ranked m k)
-  pub next : i < heldNow (m .words) → e * 33554432 < holder m (ranked m i)
+  pub next : i < heldNow (m .words) → e ≤ keyEntry (holder m (ranked m i))
 
 -- and n has the pages of m's entries below e
 pub record Seen (m n : Mem) (e i : ℕ) : Type 0 where
@@ -79,7 +79,7 @@ module _ (m n : Mem) (f : WellFormed m) (g : WellFormed n) where
   seen-none = record {
     within = omega arith;
     pages = λ d l. absurd (omega arith);
-    ranks = record { within = omega arith; agree = λ k l. absurd (omega arith); next = λ l. let h = ranked-pos m f 0 l in omega arith };
+    ranks = record { within = omega arith; agree = λ k l. absurd (omega arith); next = λ l. omega arith };
   }
 
   -- past a slot
@@ -91,11 +91,11 @@ module _ (m n : Mem) (f : WellFormed m) (g : WellFormed n) where
   }
 
   -- past a page, whose slots end at rank i
-  pub past-page : (e i₀ i : ℕ) → e < pageCount (m .words) + 4 → Seen m n e i₀ → Has m n e → Ranks m n e i → (i < heldNow (m .words) → (e + 1) * 33554432 < holder m (ranked m i)) → Seen m n (e + 1) i
+  pub past-page : (e i₀ i : ℕ) → e < pageCount (m .words) + 4 → Seen m n e i₀ → Has m n e → Ranks m n e i → (i < heldNow (m .words) → e < keyEntry (holder m (ranked m i))) → Seen m n (e + 1) i
   past-page e i₀ i l v has r next = record {
     within = omega arith;
     pages = below-more _ _ (v .pages) has;
-    ranks = record { within = r .within; agree = r .agree; next = next };
+    ranks = record { within = r .within; agree = r .agree; next = λ h. let x = next h in omega arith };
   }
 
   -- past a free entry, which no slot has
@@ -106,12 +106,12 @@ module _ (m n : Mem) (f : WellFormed m) (g : WellFormed n) where
       let y = v .ranks .next h in
       let w = held-entry m f (ranked m i) (ranked-pos m f i h) in
       ⊎-elim
-      (λ (u : holder m (ranked m i) < (e + 1) * 33554432 + 1).
+      (λ (u : e < keyEntry (holder m (ranked m i))). u)
+      (λ (u : keyEntry (holder m (ranked m i)) ≤ e).
       let k : keyEntry (holder m (ranked m i)) ≡ e = omega arith in
       let q = ap (λ (d : ℕ). getD (entries m) d 0) k in
       absurd (omega arith))
-      (λ (u : (e + 1) * 33554432 + 1 ≤ holder m (ranked m i)). omega arith)
-      (lt-or-ge (holder m (ranked m i)) ((e + 1) * 33554432 + 1)))
+      (lt-or-ge e (keyEntry (holder m (ranked m i)))))
 
   -- past all: no slot is left, since its entry would lie past the entries
   pub all-seen : (e i : ℕ) → pageCount (m .words) + 4 ≤ e → Seen m n e i → covers (viewOf m) (viewOf n) ≡ true
@@ -148,7 +148,7 @@ module _ (m n : Mem) (f : WellFormed m) (g : WellFormed n) where
         page-missing m n f g e (omega arith) (omega arith)
 
     -- ---- its slot at rank i: t is the slot of the same chunk in n
-    module _ (i t : ℕ) (l : i < heldNow (m .words)) (r : Ranks m n e i) (top : getD (m .keys) (ranked m i) 0 ≤ (e + 1) * 33554432)
+    module _ (i t : ℕ) (l : i < heldNow (m .words)) (r : Ranks m n e i) (top : keyEntry (getD (m .keys) (ranked m i) 0) ≤ e)
         (at : t ≡ seek (holders n) (keyOf h (keyChunk (getD (m .keys) (ranked m i) 0)))) (j : ℕ) (lj : j < 256) where
       left-byte : slotByte m (ranked m i) j ≡ getD (m .bytes) (256 * ranked m i + j) 0
       left-byte = getD-take (256 * slotCount (m .words)) (m .bytes) (256 * ranked m i + j) 0 (let x = ranked-lt m f i l in omega arith)

@@ -101,13 +101,13 @@ shared-slice-read-listed c =
     let start = at-pages .before .before .before .before .before .before .before .before .before .before .before .before .before .before in
     omega (arith, at-pages-test .pages-test .taken, start .pre .0 .lengths)
 
-sub-entry-of : tie.Need-sub-entry-of Inv-loop μ-loop Inv-chunks μ-chunks Inv-pages μ-pages
-sub-entry-of c =
+sub-t35 : tie.Need-sub-t35 Inv-loop μ-loop Inv-chunks μ-chunks Inv-pages μ-pages
+sub-t35 c =
     let at-if1 = c in
     omega (arith, at-if1 .if1 .taken)
 
-cast-entry-of : tie.Need-cast-entry-of Inv-loop μ-loop Inv-chunks μ-chunks Inv-pages μ-pages
-cast-entry-of c =
+cast-t36 : tie.Need-cast-t36 Inv-loop μ-loop Inv-chunks μ-chunks Inv-pages μ-pages
+cast-t36 c =
     let at-if1 = c in
     let at-pages = at-if1 .before .before .before in
     let start = at-pages .before .before .before .before .before .before .before .before .before .before .before .before .before .before in
@@ -162,21 +162,18 @@ shared-slice-read-key c =
     let s = ranked-lt (left start) (start .pre .0) (at-chunks .chunks .i) (at-chunks-test .chunks-test .taken) in
     omega (arith, start .pre .0 .lengths)
 
-add-if3 : tie.Need-add-if3 Inv-loop μ-loop Inv-chunks μ-chunks Inv-pages μ-pages
-add-if3 c =
-    let at-pages-test = c .before .before .before .before .before .before .before .before in
-    let start = at-pages-test .before .before .before .before .before .before .before .before .before .before .before .before .before .before .before in
-    omega (arith, at-pages-test .pages-test .taken, start .pre .0 .lengths)
-
-mul-if3 : tie.Need-mul-if3 Inv-loop μ-loop Inv-chunks μ-chunks Inv-pages μ-pages
-mul-if3 c =
-    let at-pages-test = c .before .before .before .before .before .before .before .before in
-    let start = at-pages-test .before .before .before .before .before .before .before .before .before .before .before .before .before .before .before in
-    omega (arith, at-pages-test .pages-test .taken, start .pre .0 .lengths)
+key-entry-requires : tie.Need-key-entry-requires Inv-loop μ-loop Inv-chunks μ-chunks Inv-pages μ-pages
+key-entry-requires c κs =
+    let at-chunks-test = c .before .before in
+    let at-chunks = at-chunks-test .before in
+    let start = at-chunks .before .before .before .before .before .before .before .before .before .before .before .before .before .before .before .before .before .before .before .before in
+    let p = ranked-pos (left start) (start .pre .0) (at-chunks .chunks .i) (at-chunks-test .chunks-test .taken) in
+    let k = ranked-key (left start) (start .pre .0) (at-chunks .chunks .i) (at-chunks-test .chunks-test .taken) in
+    omega arith
 
 slot-beside-requires : tie.Need-slot-beside-requires Inv-loop μ-loop Inv-chunks μ-chunks Inv-pages μ-pages
 slot-beside-requires c κs =
-    let at-chunks-test = c .before .before .before in
+    let at-chunks-test = c .before .before .before .before in
     let at-chunks = at-chunks-test .before in
     let at-if2 = at-chunks .before in
     let start = at-if2 .before .before .before .before .before .before .before .before .before .before .before .before .before .before .before .before .before .before .before in
@@ -186,13 +183,13 @@ slot-beside-requires c κs =
 
 loop-holds : tie.Need-loop-holds Inv-loop μ-loop Inv-chunks μ-chunks Inv-pages μ-pages
 loop-holds c =
-    let at-chunks = c .before .before .before .before .before in
+    let at-chunks = c .before .before .before .before .before .before in
     (at-chunks .chunks .inv .0, omega arith, λ r l. absurd (omega arith))
 
 mul-if4 : tie.Need-mul-if4 Inv-loop μ-loop Inv-chunks μ-chunks Inv-pages μ-pages
 mul-if4 c =
     let at-loop-test = c in
-    let at-chunks-test = at-loop-test .before .before .before .before .before .before in
+    let at-chunks-test = at-loop-test .before .before .before .before .before .before .before in
     let at-chunks = at-chunks-test .before in
     let start = at-chunks .before .before .before .before .before .before .before .before .before .before .before .before .before .before .before .before .before .before .before .before in
     let s = ranked-lt (left start) (start .pre .0) (at-chunks .chunks .i) (at-chunks-test .chunks-test .taken) in
@@ -201,7 +198,7 @@ mul-if4 c =
 add-if4 : tie.Need-add-if4 Inv-loop μ-loop Inv-chunks μ-chunks Inv-pages μ-pages
 add-if4 c =
     let at-loop-test = c in
-    let at-chunks-test = at-loop-test .before .before .before .before .before .before in
+    let at-chunks-test = at-loop-test .before .before .before .before .before .before .before in
     let at-chunks = at-chunks-test .before in
     let start = at-chunks .before .before .before .before .before .before .before .before .before .before .before .before .before .before .before .before .before .before .before .before in
     let s = ranked-lt (left start) (start .pre .0) (at-chunks .chunks .i) (at-chunks-test .chunks-test .taken) in
@@ -210,7 +207,7 @@ add-if4 c =
 shared-slice-read-if4 : tie.Need-shared-slice-read-if4 Inv-loop μ-loop Inv-chunks μ-chunks Inv-pages μ-pages
 shared-slice-read-if4 c =
     let at-loop-test = c .before in
-    let at-chunks-test = at-loop-test .before .before .before .before .before .before in
+    let at-chunks-test = at-loop-test .before .before .before .before .before .before .before in
     let at-chunks = at-chunks-test .before in
     let start = at-chunks .before .before .before .before .before .before .before .before .before .before .before .before .before .before .before .before .before .before .before .before in
     let s = ranked-lt (left start) (start .pre .0) (at-chunks .chunks .i) (at-chunks-test .chunks-test .taken) in
@@ -219,7 +216,7 @@ shared-slice-read-if4 c =
 byte-beside-requires : tie.Need-byte-beside-requires Inv-loop μ-loop Inv-chunks μ-chunks Inv-pages μ-pages
 byte-beside-requires c κs =
     let at-loop-test = c .before in
-    let start = at-loop-test .before .before .before .before .before .before .before .before .before .before .before .before .before .before .before .before .before .before .before .before .before .before .before .before .before .before .before in
+    let start = at-loop-test .before .before .before .before .before .before .before .before .before .before .before .before .before .before .before .before .before .before .before .before .before .before .before .before .before .before .before .before in
     (omega (arith, start .pre .1 .lengths), omega (arith, at-loop-test .loop-test .taken))
 
 add-j : tie.Need-add-j Inv-loop μ-loop Inv-chunks μ-chunks Inv-pages μ-pages
@@ -240,7 +237,8 @@ loop-again c =
     let at-loop = at-loop-test .before in
     let at-slot-beside = at-loop .before in
     let at-if3 = at-slot-beside .before in
-    let at-chunks-test = at-if3 .before .before .before in
+    let at-key-entry = at-if3 .before in
+    let at-chunks-test = at-key-entry .before .before .before in
     let at-chunks = at-chunks-test .before in
     let at-entry-of = at-chunks .before .before in
     let at-if1 = at-entry-of .before in
@@ -250,27 +248,27 @@ loop-again c =
       omega (arith, at-loop-test .loop-test .taken),
       below-more _ _ (at-loop .loop .inv .2)
           (byte-same (left start) (right start) (start .pre .0) (start .pre .1) (at-pages .pages .e) (at-entry-of .entry-of .result) (at-if1 .if1 .taken) (at-entry-of .entry-of .ensures)
-          (at-chunks .chunks .i) (at-slot-beside .slot-beside .result) (at-chunks-test .chunks-test .taken) (at-chunks .chunks .inv .1) (at-if3 .if3 .left) (at-slot-beside .slot-beside .ensures)
+          (at-chunks .chunks .i) (at-slot-beside .slot-beside .result) (at-chunks-test .chunks-test .taken) (at-chunks .chunks .inv .1) (omega (arith, at-if3 .if3 .left, at-key-entry .key-entry .ensures)) (at-slot-beside .slot-beside .ensures)
           (at-loop .loop .j) (omega (arith, at-loop-test .loop-test .taken)) (at-byte-beside .byte-beside .result) (at-byte-beside .byte-beside .ensures)
           (at-if4 .if4 .left)),
     )
 
 add-i : tie.Need-add-i Inv-loop μ-loop Inv-chunks μ-chunks Inv-pages μ-pages
 add-i c =
-    let at-chunks-test = c .before .before .before .before .before .before in
+    let at-chunks-test = c .before .before .before .before .before .before .before in
     let start = at-chunks-test .before .before .before .before .before .before .before .before .before .before .before .before .before .before .before .before .before .before .before .before .before in
     omega (arith, at-chunks-test .chunks-test .taken, held-few (left start) (start .pre .0), start .pre .0 .lengths)
 
 chunks-less : tie.Need-chunks-less Inv-loop μ-loop Inv-chunks μ-chunks Inv-pages μ-pages
 chunks-less c =
-    let at-chunks-test = c .before .before .before .before .before .before in
+    let at-chunks-test = c .before .before .before .before .before .before .before in
     omega (arith, at-chunks-test .chunks-test .taken)
 
 chunks-again : tie.Need-chunks-again Inv-loop μ-loop Inv-chunks μ-chunks Inv-pages μ-pages
 chunks-again c =
     let at-loop-test = c in
     let at-loop = at-loop-test .before in
-    let at-chunks-test = at-loop .before .before .before .before .before in
+    let at-chunks-test = at-loop .before .before .before .before .before .before in
     let at-chunks = at-chunks-test .before in
     let at-pages = at-chunks .before .before .before .before .before .before in
     let start = at-pages .before .before .before .before .before .before .before .before .before .before .before .before .before .before in
@@ -304,8 +302,8 @@ pages-again c =
     (λ v.
     ⊎-elim
     (λ w. (
-      w .8 ∙ w .3 .inv .0,
-      rw (w .9) (on (w .3 .i) (at-pages-test .pages-test .taken) (at-pages .pages .inv .1) (here (w .1 .result) (w .0 .taken) (w .1 .ensures) (w .2 .left)) (w .3 .inv .1) (λ l. omega (arith, ranked-key (left start) (start .pre .0) (w .3 .i) l, w .7 .taken))),
+      w .9 ∙ w .3 .inv .0,
+      rw (w .10) (on (w .3 .i) (at-pages-test .pages-test .taken) (at-pages .pages .inv .1) (here (w .1 .result) (w .0 .taken) (w .1 .ensures) (w .2 .left)) (w .3 .inv .1) (λ l. omega (arith, ranked-key (left start) (start .pre .0) (w .3 .i) l, w .7 .ensures, w .8 .taken))),
     ))
     (λ w. (
       w .1 ∙ at-pages .pages .inv .0,
@@ -338,7 +336,8 @@ returns-3 c =
     let at-loop = at-loop-test .before in
     let at-slot-beside = at-loop .before in
     let at-if3 = at-slot-beside .before in
-    let at-chunks-test = at-if3 .before .before .before in
+    let at-key-entry = at-if3 .before in
+    let at-chunks-test = at-key-entry .before .before .before in
     let at-chunks = at-chunks-test .before in
     let at-entry-of = at-chunks .before .before in
     let at-if1 = at-entry-of .before in
@@ -346,7 +345,7 @@ returns-3 c =
     let start = at-pages .before .before .before .before .before .before .before .before .before .before .before .before .before .before in
     sym
     (byte-other (left start) (right start) (start .pre .0) (start .pre .1) (at-pages .pages .e) (at-entry-of .entry-of .result) (at-if1 .if1 .taken) (at-entry-of .entry-of .ensures)
-    (at-chunks .chunks .i) (at-slot-beside .slot-beside .result) (at-chunks-test .chunks-test .taken) (at-chunks .chunks .inv .1) (at-if3 .if3 .left) (at-slot-beside .slot-beside .ensures)
+    (at-chunks .chunks .i) (at-slot-beside .slot-beside .result) (at-chunks-test .chunks-test .taken) (at-chunks .chunks .inv .1) (omega (arith, at-if3 .if3 .left, at-key-entry .key-entry .ensures)) (at-slot-beside .slot-beside .ensures)
     (at-loop .loop .j) (omega (arith, at-loop-test .loop-test .taken)) (at-byte-beside .byte-beside .result) (at-byte-beside .byte-beside .ensures)
     (at-if4 .if4 .taken))
 
@@ -371,8 +370,8 @@ covered-spec =
     add-listed
     mul-listed
     shared-slice-read-listed
-    sub-entry-of
-    cast-entry-of
+    sub-t35
+    cast-t36
     entry-of-requires
     chunks-holds
     mul-s
@@ -380,8 +379,7 @@ covered-spec =
     cast-s
     mul-key
     shared-slice-read-key
-    add-if3
-    mul-if3
+    key-entry-requires
     slot-beside-requires
     loop-holds
     mul-if4

@@ -53,7 +53,7 @@ fn span(start: Address, end: Address) -> u32
     if end.0 < start.0 {
         return 0;
     }
-    end - start
+    end.0 - start.0
 }
 
 // Whether a block is 256 zero bytes.
@@ -222,7 +222,7 @@ pub fn chunk<'a>(
     if !is_zero_block(block) {
         return &block[0..0];
     }
-    steps::chunk_of(bytes, keys, order, words, page.0, number, block)
+    steps::chunk_of(bytes, keys, order, words, page, number, block)
 }
 
 pub fn chunk_check(

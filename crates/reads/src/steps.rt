@@ -151,13 +151,13 @@ pub fn chunk_of<'a>(
     keys: &[u64],
     order: &[u32],
     words: &[u64],
-    page: u32,
+    page: PageId,
     number: u32,
     block: &'a [u8],
 ) -> &'a [u8]
     requires { ⌜ WellFormed (mem (now bytes) (now keys) (now order) (now words)) ⌝ }
     requires { ⌜ (length (now block) ≡ 256) × (zeros (now block) ≡ true) ⌝ }
-    ensures { λ r. ⌜ now r ≡ run (viewOf (mem (now (bytes .entry)) (now (keys .entry)) (now (order .entry)) (now (words .entry)))) page (256 * number) 256 ⌝ }
+    ensures { λ r. ⌜ now r ≡ run (viewOf (mem (now (bytes .entry)) (now (keys .entry)) (now (order .entry)) (now (words .entry)))) (page .0) (256 * number) 256 ⌝ }
 {
     let s = slot_at(keys, order, words, page, number as usize);
     if s >= words[head::CHUNKS] as usize {

@@ -17,7 +17,7 @@ returns c =
     let at-slot-at = at-if1 .before .before in
     let start = at-slot-at .before .before .before .before .before .before in
     let m = mem (start .args .bytes .now) (start .args .keys .now) (start .args .order .now) (start .args .words .now) in
-    chunk-none m (start .pre .0) (start .args .page) (start .args .number) (at-slot-at .slot-at .result) (at-slot-at .slot-at .ensures (start .args .bytes .now)) (at-if1 .if1 .taken) (start .args .block .now) (start .pre .1 .0) (start .pre .1 .1)
+    chunk-none m (start .pre .0) (start .args .page .0) (start .args .number) (at-slot-at .slot-at .result) (at-slot-at .slot-at .ensures (start .args .bytes .now)) (at-if1 .if1 .taken) (start .args .block .now) (start .pre .1 .0) (start .pre .1 .1)
 
 returns-2 : tie.Need-returns-2
 returns-2 c =
@@ -25,7 +25,7 @@ returns-2 c =
     let at-slot-at = at-if1 .before .before in
     let start = at-slot-at .before .before .before .before .before .before in
     let m = mem (start .args .bytes .now) (start .args .keys .now) (start .args .order .now) (start .args .words .now) in
-    chunk-held m (start .pre .0) (start .args .page) (start .args .number) (at-slot-at .slot-at .result) (at-slot-at .slot-at .ensures (start .args .bytes .now)) (at-if1 .if1 .left)
+    chunk-held m (start .pre .0) (start .args .page .0) (start .args .number) (at-slot-at .slot-at .result) (at-slot-at .slot-at .ensures (start .args .bytes .now)) (at-if1 .if1 .left)
 
 pub chunk-of-spec : {M : Type 1} → statement M
 chunk-of-spec =

@@ -12,7 +12,7 @@ use Rattle.reads.proofs.steps.read_into.Statement.{statement}
 use Rattle.reads.proofs.steps.read_into.Tie as tie
 
 abbrev Inv-loop : tie.InvT-loop
-Inv-loop bytes keys order words page start out₀ pos₀ out pos = (pos ≤ length out₀) × (length out ≡ length out₀) × ((i : ℕ) → i < pos → getD out i 0 ≡ byteAt (mem bytes keys order words) page (start + i))
+Inv-loop bytes keys order words page start out₀ pos₀ out pos = (pos ≤ length out₀) × (length out ≡ length out₀) × ((i : ℕ) → i < pos → getD out i 0 ≡ byteAt (mem bytes keys order words) (page .0) (start .0 + i))
 
 abbrev μ-loop : tie.MeasureT-loop
 μ-loop bytes keys order words page start out₀ pos₀ out pos = length out₀ - pos
@@ -23,7 +23,7 @@ loop-holds c = (search needs, refl, λ i l. absurd (not-suc-le-zero l))
 read-part-requires : tie.Need-read-part-requires Inv-loop μ-loop
 read-part-requires c κs =
     let at-least = c .before in
-    let at-loop-test = at-least .before in
+    let at-loop-test = at-least .before .before in
     let at-loop = at-loop-test .before in
     let start = at-loop .before .before .before .before .before .before in
     (start .pre .0, (omega (arith, at-least .least .ensures), omega (arith, at-least .least .ensures, at-loop .loop .inv .1, at-loop-test .loop-test .taken)))
@@ -32,7 +32,7 @@ loop-again : tie.Need-loop-again Inv-loop μ-loop
 loop-again c =
     let at-read-part = c .before .before in
     let at-least = at-read-part .before .before in
-    let at-loop-test = at-least .before in
+    let at-loop-test = at-least .before .before in
     let at-loop = at-loop-test .before in
     let start = at-loop .before .before .before .before .before .before in
     let m = mem (start .args .bytes .now) (start .args .keys .now) (start .args .order .now) (start .args .words .now) in (
@@ -56,6 +56,7 @@ read-into-spec =
     Inv-loop
     μ-loop
     loop-holds
+    (λ c. search needs)
     (λ c. search needs)
     (λ c. search needs)
     (λ c. search needs)

@@ -2,14 +2,14 @@
 -- Assumes nothing.
 use mathlib.Core.Path.{_≡_, refl, sym, _∙_}
 use mathlib.Core.Bool.{Bool, true, false, _||_}
-use Prim.Native.Nat.{ℕ, _+_, _<_}
+use Prim.Native.Nat.{ℕ, zero, suc, _+_, _<_}
 use native.Mathlib.Omega.{arith}
 use lib.Dec.{ltb}
-use lib.ListN.{length, getD}
+use lib.ListN.{length}
 use borrow.Author.Tests.{lt-ltb, eq-eqb, ne-eqb}
 use Rattle.formed.proofs.Same.{tab-long}
-use Rattle.store.specs.Mem.{Mem, journalWords, journalLength}
-use Rattle.formed.specs.Pages.{journalCount}
+use Rattle.store.specs.Mem.{Mem, layoutOf, journalWords, journalLength}
+use Rattle.formed.specs.Pages.{journalCount, journalPage}
 use Rattle.formed.specs.Parts.{journal}
 use Rattle.formed.specs.WellFormed.{WellFormed}
 use Rattle.view.specs.View.{settingOf, viewOf}
@@ -24,16 +24,17 @@ or-none true = refl
 or-none false = refl
 
 module _ (m : Mem) (f : WellFormed m) (p x : ℕ) where
-  pub full-heap : p ≡ getD (m .words) 2 0 → overfull (settingOf m) (viewOf m) p x journalCount ≡ ltb (journalWords (m .words)) (getD (m .words) 12 0 + x)
-  unfolding overfull
-  full-heap e =
-      let apart : p ≡ getD (m .words) 3 0 → ⊥ = λ q. f .layout .distinct 2 3 (omega arith) (omega arith) (sym e ∙ q) in
-      rw (ne-eqb p (getD (m .words) 3 0) apart, eq-eqb p (getD (m .words) 2 0) e, journal-long m 0 (omega arith)) (or-none _)
+  apart : p ≡ journalPage (layoutOf (m .words)) 0 → p ≡ journalPage (layoutOf (m .words)) 1 → ⊥
+  apart e q = f .layout .distinct 2 3 (omega arith) (omega arith) (sym e ∙ q)
 
-  pub full-aux : (p ≡ getD (m .words) 2 0 → ⊥) → p ≡ getD (m .words) 3 0 → overfull (settingOf m) (viewOf m) p x journalCount ≡ ltb (journalWords (m .words)) (getD (m .words) 13 0 + x)
+  -- page p has journal j
+  pub full-own : (j : ℕ) → j < journalCount → p ≡ journalPage (layoutOf (m .words)) j → overfull (settingOf m) (viewOf m) p x journalCount ≡ ltb (journalWords (m .words)) (journalLength (m .words) j + x)
   unfolding overfull
-  full-aux n e = rw (eq-eqb p (getD (m .words) 3 0) e, ne-eqb p (getD (m .words) 2 0) n, journal-long m 1 (omega arith)) (or-none _)
+  full-own zero l e = rw (ne-eqb p _ (apart e), eq-eqb p _ e, journal-long m 0 l) (or-none _)
+  full-own (suc zero) l e = rw (eq-eqb p _ e, ne-eqb p _ (λ q. apart q e), journal-long m 1 l) (or-none _)
+  full-own (suc (suc j)) l e = absurd (omega arith)
 
-  pub full-none : (p ≡ getD (m .words) 2 0 → ⊥) → (p ≡ getD (m .words) 3 0 → ⊥) → overfull (settingOf m) (viewOf m) p x journalCount ≡ false
+  -- it has none
+  pub full-none : ((i : ℕ) → i < journalCount → p ≡ journalPage (layoutOf (m .words)) i → ⊥) → overfull (settingOf m) (viewOf m) p x journalCount ≡ false
   unfolding overfull
-  full-none n o = rw (ne-eqb p (getD (m .words) 3 0) o, ne-eqb p (getD (m .words) 2 0) n) refl
+  full-none n = rw (ne-eqb p _ (n 1 (omega arith)), ne-eqb p _ (n 0 (omega arith))) refl

@@ -1,18 +1,17 @@
 -- The number of the first check that holds.
 -- Assumes nothing.
-use mathlib.Core.Path.{_≡_, refl, ap, _∙_}
+use mathlib.Core.Path.{_≡_, _∙_}
 use mathlib.Core.Bool.{Bool, true, false, not, _&&_}
-use mathlib.Core.List.{List, [], _∷_}
-use Prim.Native.Nat.{ℕ, suc}
-use native.Mathlib.Omega.{arith}
+use mathlib.Core.List.{[], _∷_}
+use Prim.Native.Nat.{ℕ}
 use lib.Dec.{ltb, eqb}
 use Rattle.view.proofs.Refused.{first-holds, first-fails}
-use Rattle.outcome.specs.Outcome.{Outcome, refused, panicked, done, refusalNumber}
+use Rattle.outcome.specs.Outcome.{refused}
 use Rattle.formed.specs.Pages.{journalCount}
 use Rattle.view.specs.View.{View, Setting}
 use Rattle.view.specs.Steps.{missing}
-use Rattle.view.specs.Checks.{Check, overfull, capacityChecks}
-use Rattle.view.specs.Calls.{Value, firstRefusal}
+use Rattle.view.specs.Checks.{overfull, capacityChecks}
+use Rattle.view.specs.Calls.{firstRefusal}
 
 -- ---- 9, 10, 11
 module _ (s : Setting) (v : View) (p k count w : ℕ) where

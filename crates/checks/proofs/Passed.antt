@@ -2,27 +2,22 @@
 -- Assumes nothing.
 use mathlib.Core.Path.{_≡_, refl, sym, ap, _∙_}
 use mathlib.Core.Bool.{Bool, true, false, not, _&&_, _||_, false≢true}
-use mathlib.Core.List.{List, [], _∷_}
+use mathlib.Core.List.{[], _∷_}
 use mathlib.Core.Logic.{⊎-elim}
 use Prim.Native.Nat.{ℕ, zero, suc, _+_, _^_, _<_, _≤_}
 use native.Mathlib.Omega.{arith}
 use lib.Dec.{ltb, eqb}
 use lib.ListN.{length}
 use borrow.Author.Tests.{lt-ltb, lt-leb, le-leb, ltb-false, eq-eqb}
-use Rattle.view.proofs.Refused.{none-first, refusal-told, Refusals, end, next}
-use Rattle.outcome.specs.Outcome.{refused, done, carriedOut, firstOf, refusalNumber}
+use Rattle.view.proofs.Refused.{none-first, Refusals, end, next}
+use Rattle.outcome.specs.Outcome.{refused}
 use Rattle.index.proofs.Logic.{lt-or-ge}
 use Rattle.page_ids.specs.Decode.{Page, none, page, decoded, isNone, isDynamic, isFixed}
-use Rattle.store.specs.Mem.{Mem}
 use Rattle.formed.specs.Pages.{fixed, dynamic, journalCount, journalPage}
-use Rattle.formed.specs.Formed.{wellFormed}
-use Rattle.formed.specs.WellFormed.{WellFormed}
-use Rattle.formed.proofs.Meaning.{well-formed-means}
 use Rattle.view.specs.View.{View, Setting}
 use Rattle.view.specs.Steps.{needs, alignedCount}
-use Rattle.view.specs.Checks.{Check, undecodable, overfull, capacityChecksAt, onMemory, wordWriteChecks, byteWriteChecks, allocateChecks}
-use Rattle.view.specs.Does.{Does, Shows}
-use Rattle.view.specs.Calls.{Value, nothing, firstRefusal}
+use Rattle.view.specs.Checks.{undecodable, overfull, capacityChecksAt, wordWriteChecks, byteWriteChecks, allocateChecks}
+use Rattle.view.specs.Calls.{firstRefusal}
 
 -- ---- the tests of a write
 decodable-by : (d : Page) → isNone d ≡ false → (isFixed d || isDynamic d) ≡ true

@@ -1,24 +1,23 @@
 -- What the numbers of a well-formed memory's tables tell: whether a page is allocated, an entry left, a chunk held.
 -- Assumes nothing.
 use mathlib.Core.Path.{_≡_, refl}
-use mathlib.Core.Bool.{true, false, not}
+use mathlib.Core.Bool.{true, not}
 use mathlib.Core.List.{List}
 use mathlib.Core.Logic.{⊎-elim}
 use Prim.Native.Nat.{ℕ, zero, suc, _+_, _≤_, _<_}
 use native.Mathlib.Omega.{arith}
 use native.Mathlib.Nat.{le-refl}
 use lib.Dec.{ltb, leb, eqb}
-use lib.ListN.{take}
 use borrow.Author.Tests.{eq-eqb, ne-eqb, lt-ltb, le-ltb, lt-leb, le-leb}
-use Rattle.store.specs.Keys.{keyOf}
-use Rattle.index.specs.Index.{seek}
 use Rattle.index.proofs.Logic.{lt-or-ge}
+use Rattle.store.specs.Keys.{lastChunk}
+use Rattle.store.specs.Find.{slotAtEntry}
 use Rattle.store.specs.Mem.{Mem, slotCount, pageCount, inUse}
 use Rattle.formed.specs.Parts.{entryOf, allocated, entriesLeft, holds, slotOfChunk}
 use Rattle.formed.specs.WellFormed.{WellFormed}
 use Rattle.formed.proofs.Sizes.{entries-long}
 use Rattle.formed.proofs.Sense.{left-is}
-use Rattle.checks.specs.Refusals.{lacksAt}
+use Rattle.checks.specs.Refusals.{holdsAt, lacksAt}
 
 module _ (m : Mem) (f : WellFormed m) where
   -- a page is allocated if its entry is one of the table
@@ -34,9 +33,10 @@ module _ (m : Mem) (f : WellFormed m) where
       both n zero t e = rw (eq-eqb n t (omega arith)) refl
       both n (suc l) t e = rw (ne-eqb n t (λ q. omega arith), ne-eqb (suc l) 0 (λ q. omega arith)) refl
 
-pub lacks-at : (m : Mem) (p e k : ℕ) → e ≡ entryOf m p → lacksAt (m .keys) (m .words) e k ≡ not (holds m p k)
+-- the chunks that a page holds are those that its entry holds
+pub held-at : (m : Mem) (p e : ℕ) → e ≡ entryOf m p → holdsAt (m .keys) (m .words) e ≡ holds m p
 unfolding holds slotOfChunk
-lacks-at m p e k q = rw q refl
+held-at m p e q = rw q refl
 
 not-lt : (a b : ℕ) → leb b a ≡ not (ltb a b)
 not-lt a b =
@@ -46,8 +46,8 @@ not-lt a b =
     (lt-or-ge a b)
 
 -- the tests of `lacks`
-pub lacks-far : (ks w : List ℕ) (e k : ℕ) → 16777216 < k → true ≡ lacksAt ks w e k
-lacks-far ks w e k l = rw (lt-leb k 16777216 l, le-ltb (slotCount w) (slotCount w) (le-refl (slotCount w))) refl
+pub lacks-far : (ks w : List ℕ) (e k : ℕ) → lastChunk < k → true ≡ lacksAt ks w e k
+lacks-far ks w e k l = rw (lt-leb k lastChunk l, le-ltb (slotCount w) (slotCount w) (le-refl (slotCount w))) refl
 
-pub lacks-near : (ks w : List ℕ) (e k s : ℕ) → k ≤ 16777216 → s ≡ seek (take (slotCount w) ks) (keyOf e k) → leb (slotCount w) s ≡ lacksAt ks w e k
-lacks-near ks w e k s l q = rw (le-leb k 16777216 l, q) (not-lt (seek (take (slotCount w) ks) (keyOf e k)) (slotCount w))
+pub lacks-near : (ks w : List ℕ) (e k s : ℕ) → k ≤ lastChunk → s ≡ slotAtEntry ks w e k → leb (slotCount w) s ≡ lacksAt ks w e k
+lacks-near ks w e k s l q = rw (le-leb k lastChunk l, q) (not-lt (slotAtEntry ks w e k) (slotCount w))

@@ -116,7 +116,7 @@ fn short_of_words(
     ensures { λ r. ⌜ r ≡ overfull (settingOf (mem (now (bytes .entry)) (now (keys .entry)) (now (order .entry)) (now (words .entry)))) (viewOf (mem (now (bytes .entry)) (now (keys .entry)) (now (order .entry)) (now (words .entry)))) (page .0) w journalCount ⌝ }
 {
     let j = formed::journals::journal_of(words, page);
-    if j == head::JOURNAL_COUNT {
+    if j >= head::JOURNAL_COUNT {
         return false;
     }
     words[head::JOURNAL_WORDS] < words[head::JOURNALS + j] + w

@@ -30,33 +30,33 @@ returns c =
 returns-2 : tie.Need-returns-2
 returns-2 c =
     let at-if2 = c in
-    let at-if1 = at-if2 .before in
+    let at-if1 = at-if2 .before .before in
     let at-is-undecodable = at-if1 .before in
     let at-decode = at-is-undecodable .before in
     let start = at-decode .before .before .before .before .before in
     let m = mem (start .args .bytes .now) (start .args .keys .now) (start .args .order .now) (start .args .words .now) in
-    bytes-8 (settingOf m) (viewOf m) (start .args .page .0) _ (at-decode .decode .ensures) (start .args .start .0) (start .args .n) (sym (at-is-undecodable .is-undecodable .ensures) ∙ at-if1 .if1 .left) (start .good .1 .1 .1 .1 .1 .0 .fits) (at-if2 .if2 .taken)
+    bytes-8 (settingOf m) (viewOf m) (start .args .page .0) _ (at-decode .decode .ensures) (start .args .start .0) (start .args .n) (sym (at-is-undecodable .is-undecodable .ensures) ∙ at-if1 .if1 .left) (omega (arith, start .good .1 .1 .1 .1 .1 .0)) (at-if2 .if2 .taken)
 
 capacity-refusal-requires : tie.Need-capacity-refusal-requires
 capacity-refusal-requires c κs =
-    let at-aligned = c in
+    let at-aligned = c .before in
     let at-touched = at-aligned .before in
     let at-if2 = at-touched .before in
-    let start = at-if2 .before .before .before .before .before .before .before .before in
+    let start = at-if2 .before .before .before .before .before .before .before .before .before in
     let l = at-if2 .if2 .left in (start .pre, chunks-fit (start .args .start .0) (start .args .n) _ (at-touched .touched .ensures) (omega arith), words-fit (start .args .start .0) (start .args .n) _ (at-aligned .aligned .ensures) (omega arith))
 
 returns-3 : tie.Need-returns-3
 returns-3 c =
     let at-capacity-refusal = c in
-    let at-aligned = at-capacity-refusal .before in
+    let at-aligned = at-capacity-refusal .before .before in
     let at-touched = at-aligned .before in
     let at-if2 = at-touched .before in
-    let at-if1 = at-if2 .before in
+    let at-if1 = at-if2 .before .before in
     let at-is-undecodable = at-if1 .before in
     let at-decode = at-is-undecodable .before in
     let start = at-decode .before .before .before .before .before in
     let m = mem (start .args .bytes .now) (start .args .keys .now) (start .args .order .now) (start .args .words .now) in
-    bytes-room (settingOf m) (viewOf m) (start .args .page .0) _ (at-decode .decode .ensures) (start .args .start .0) (start .args .n) (sym (at-is-undecodable .is-undecodable .ensures) ∙ at-if1 .if1 .left) (start .good .1 .1 .1 .1 .1 .0 .fits) (at-if2 .if2 .left) _ (room-chosen (start .args .start .0) (start .args .n) _ (at-touched .touched .ensures) (settingOf m) (viewOf m) (start .args .page .0) (alignedCount (start .args .start .0) (start .args .n)) _ _ (at-aligned .aligned .ensures) (at-capacity-refusal .capacity-refusal .ensures))
+    bytes-room (settingOf m) (viewOf m) (start .args .page .0) _ (at-decode .decode .ensures) (start .args .start .0) (start .args .n) (sym (at-is-undecodable .is-undecodable .ensures) ∙ at-if1 .if1 .left) (omega (arith, start .good .1 .1 .1 .1 .1 .0)) (at-if2 .if2 .left) _ (room-chosen (start .args .start .0) (start .args .n) _ (at-touched .touched .ensures) (settingOf m) (viewOf m) (start .args .page .0) (alignedCount (start .args .start .0) (start .args .n)) _ _ (at-aligned .aligned .ensures) (at-capacity-refusal .capacity-refusal .ensures))
 
 pub bytes-checks-spec : {M : Type 1} → statement M
 bytes-checks-spec =
@@ -65,6 +65,7 @@ bytes-checks-spec =
     decode-requires
     (λ c κs. search needs)
     returns
+    (λ c. search needs)
     (λ c. search needs)
     returns-2
     (λ c κs. search needs)

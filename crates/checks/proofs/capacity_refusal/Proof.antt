@@ -7,16 +7,28 @@ use Rattle.checks.proofs.capacity_refusal.Statement.{statement}
 use Rattle.checks.proofs.capacity_refusal.Tie as tie
 
 returns : tie.Need-returns
-returns c = let start = c .before .before .before .before .before .before in room-9 (settingOf (mem (start .args .bytes .now) (start .args .keys .now) (start .args .order .now) (start .args .words .now))) (viewOf (mem (start .args .bytes .now) (start .args .keys .now) (start .args .order .now) (start .args .words .now))) (start .args .page .0) (start .args .first) (start .args .count) (start .args .w) (sym (c .before .no-entry .ensures) ∙ c .if1 .taken)
+returns c =
+    let start = c .before .before .before .before .before .before in
+    let m = mem (start .args .bytes .now) (start .args .keys .now) (start .args .order .now) (start .args .words .now) in
+    room-9 (settingOf m) (viewOf m) (start .args .page .0) (start .args .first) (start .args .count) (start .args .w) (sym (c .before .no-entry .ensures) ∙ c .if1 .taken)
 
 returns-2 : tie.Need-returns-2
-returns-2 c = let start = c .before .before .before .before .before .before .before .before in room-10 (settingOf (mem (start .args .bytes .now) (start .args .keys .now) (start .args .order .now) (start .args .words .now))) (viewOf (mem (start .args .bytes .now) (start .args .keys .now) (start .args .order .now) (start .args .words .now))) (start .args .page .0) (start .args .first) (start .args .count) (start .args .w) (sym (c .before .before .before .no-entry .ensures) ∙ c .before .before .if1 .left) (sym (c .before .short-of-chunks .ensures) ∙ c .if2 .taken)
+returns-2 c =
+    let start = c .before .before .before .before .before .before .before .before in
+    let m = mem (start .args .bytes .now) (start .args .keys .now) (start .args .order .now) (start .args .words .now) in
+    room-10 (settingOf m) (viewOf m) (start .args .page .0) (start .args .first) (start .args .count) (start .args .w) (sym (c .before .before .before .no-entry .ensures) ∙ c .before .before .if1 .left) (sym (c .before .short-of-chunks .ensures) ∙ c .if2 .taken)
 
 returns-3 : tie.Need-returns-3
-returns-3 c = let start = c .before .before .before .before .before .before .before .before .before .before in room-11 (settingOf (mem (start .args .bytes .now) (start .args .keys .now) (start .args .order .now) (start .args .words .now))) (viewOf (mem (start .args .bytes .now) (start .args .keys .now) (start .args .order .now) (start .args .words .now))) (start .args .page .0) (start .args .first) (start .args .count) (start .args .w) (sym (c .before .before .before .before .before .no-entry .ensures) ∙ c .before .before .before .before .if1 .left) (sym (c .before .before .before .short-of-chunks .ensures) ∙ c .before .before .if2 .left) (sym (c .before .short-of-words .ensures) ∙ c .if3 .taken)
+returns-3 c =
+    let start = c .before .before .before .before .before .before .before .before .before .before in
+    let m = mem (start .args .bytes .now) (start .args .keys .now) (start .args .order .now) (start .args .words .now) in
+    room-11 (settingOf m) (viewOf m) (start .args .page .0) (start .args .first) (start .args .count) (start .args .w) (sym (c .before .before .before .before .before .no-entry .ensures) ∙ c .before .before .before .before .if1 .left) (sym (c .before .before .before .short-of-chunks .ensures) ∙ c .before .before .if2 .left) (sym (c .before .short-of-words .ensures) ∙ c .if3 .taken)
 
 returns-4 : tie.Need-returns-4
-returns-4 c = let start = c .before .before .before .before .before .before .before .before .before .before in room-0 (settingOf (mem (start .args .bytes .now) (start .args .keys .now) (start .args .order .now) (start .args .words .now))) (viewOf (mem (start .args .bytes .now) (start .args .keys .now) (start .args .order .now) (start .args .words .now))) (start .args .page .0) (start .args .first) (start .args .count) (start .args .w) (sym (c .before .before .before .before .before .no-entry .ensures) ∙ c .before .before .before .before .if1 .left) (sym (c .before .before .before .short-of-chunks .ensures) ∙ c .before .before .if2 .left) (sym (c .before .short-of-words .ensures) ∙ c .if3 .left)
+returns-4 c =
+    let start = c .before .before .before .before .before .before .before .before .before .before in
+    let m = mem (start .args .bytes .now) (start .args .keys .now) (start .args .order .now) (start .args .words .now) in
+    room-0 (settingOf m) (viewOf m) (start .args .page .0) (start .args .first) (start .args .count) (start .args .w) (sym (c .before .before .before .before .before .no-entry .ensures) ∙ c .before .before .before .before .if1 .left) (sym (c .before .before .before .short-of-chunks .ensures) ∙ c .before .before .if2 .left) (sym (c .before .short-of-words .ensures) ∙ c .if3 .left)
 
 pub capacity-refusal-spec : {M : Type 1} → statement M
 capacity-refusal-spec =

@@ -9,7 +9,10 @@ returns : tie.Need-returns
 returns c = let t = sym (c .before .is-allocated .ensures) ∙ c .if1 .taken in rw t refl
 
 returns-2 : tie.Need-returns-2
-returns-2 c = let start = c .before .before .before .before .before .before .before .before in let t = sym (c .before .before .before .is-allocated .ensures) ∙ c .before .before .if1 .left in rw t (left-none (mem (start .args .bytes .now) (start .args .keys .now) (start .args .order .now) (start .args .words .now)) (start .pre))
+returns-2 c =
+    let start = c .before .before .before .before .before .before .before .before in
+    let t = sym (c .before .before .before .is-allocated .ensures) ∙ c .before .before .if1 .left in
+    rw t (left-none (mem (start .args .bytes .now) (start .args .keys .now) (start .args .order .now) (start .args .words .now)) (start .pre))
 
 pub no-entry-spec : {M : Type 1} → statement M
 no-entry-spec =

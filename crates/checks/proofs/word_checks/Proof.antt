@@ -24,14 +24,14 @@ returns c =
 
 capacity-refusal-requires : tie.Need-capacity-refusal-requires
 capacity-refusal-requires c κs =
-    let at-touched = c in
+    let at-touched = c .before in
     let start = at-touched .before .before .before .before .before .before .before .before in
     (start .pre, chunks-fit (start .args .address .0) 32 _ (at-touched .touched .ensures) (omega arith), omega arith)
 
 returns-2 : tie.Need-returns-2
 returns-2 c =
     let at-capacity-refusal = c in
-    let at-touched = at-capacity-refusal .before in
+    let at-touched = at-capacity-refusal .before .before in
     let at-if1 = at-touched .before in
     let at-is-undecodable = at-if1 .before in
     let at-decode = at-is-undecodable .before in

@@ -11,6 +11,8 @@ ghost use Rattle.view.specs.Does.{Shows};
 ghost use Rattle.page_ids.specs.declared.Layout.{Layout};
 ghost use Rattle.opening.specs.Opening.{layoutFrom, setting, headed, sizesRight, OpenAsks, FixedAsks, FirstPages, openingOutcome, CalldataAsks};
 use outcome::Answer;
+use page_ids::Address;
+use page_ids::BasePage;
 use page_ids::Layout;
 use page_ids::PageId;
 use store::head;
@@ -40,24 +42,24 @@ fn clear_keys(keys: &mut [u64])
 // The head: layout and counts, no slot held, four entries in use, dynamic length 0, and no word in a journal.
 fn write_head(
     words: &mut [u64],
-    statics: u32,
-    calldata: u32,
-    heap: u32,
-    aux: u32,
-    base: u32,
+    statics: PageId,
+    calldata: PageId,
+    heap: PageId,
+    aux: PageId,
+    base: BasePage,
     stride: u32,
     chunks: u32,
     pages: u32,
     room: u32,
 )
     requires { ⌜ headLength ≤ length (now words) ⌝ }
-    ensures { λ _. ⌜ now (words .exit) ≡ headed (setting (layoutFrom statics calldata heap aux base stride) chunks pages room) (now (words .entry)) ⌝ }
+    ensures { λ _. ⌜ now (words .exit) ≡ headed (setting (layoutFrom (statics .0) (calldata .0) (heap .0) (aux .0) (base .0) stride) chunks pages room) (now (words .entry)) ⌝ }
 {
-    words[head::STATIC_MEMORY] = statics as u64;
-    words[head::CALLDATA] = calldata as u64;
-    words[head::BOOTLOADER_HEAP] = heap as u64;
-    words[head::BOOTLOADER_AUX] = aux as u64;
-    words[head::BASE] = base as u64;
+    words[head::STATIC_MEMORY] = statics.0 as u64;
+    words[head::CALLDATA] = calldata.0 as u64;
+    words[head::BOOTLOADER_HEAP] = heap.0 as u64;
+    words[head::BOOTLOADER_AUX] = aux.0 as u64;
+    words[head::BASE] = base.0 as u64;
     words[head::STRIDE] = stride as u64;
     words[head::CHUNKS] = chunks as u64;
     words[head::PAGES] = pages as u64;
@@ -87,18 +89,18 @@ fn start_with(
     keys: &mut [u64],
     order: &mut [u32],
     words: &mut [u64],
-    statics: u32,
-    calldata: u32,
-    heap: u32,
-    aux: u32,
-    base: u32,
+    statics: PageId,
+    calldata: PageId,
+    heap: PageId,
+    aux: PageId,
+    base: BasePage,
     stride: u32,
     chunks: u32,
     pages: u32,
     room: u32,
 )
-    requires { ⌜ OpenAsks (setting (layoutFrom statics calldata heap aux base stride) chunks pages room) (mem (now bytes) (now keys) (now order) (now words)) ⌝ }
-    ensures { λ _. let s = setting (layoutFrom statics calldata heap aux base stride) chunks pages room in ⌜ Shows s (emptyView s) (mem (now (bytes .exit)) (now (keys .exit)) (now (order .exit)) (now (words .exit))) ⌝ }
+    requires { ⌜ OpenAsks (setting (layoutFrom (statics .0) (calldata .0) (heap .0) (aux .0) (base .0) stride) chunks pages room) (mem (now bytes) (now keys) (now order) (now words)) ⌝ }
+    ensures { λ _. let s = setting (layoutFrom (statics .0) (calldata .0) (heap .0) (aux .0) (base .0) stride) chunks pages room in ⌜ Shows s (emptyView s) (mem (now (bytes .exit)) (now (keys .exit)) (now (order .exit)) (now (words .exit))) ⌝ }
 {
     let c = chunks as usize;
     let end = 256 * c;
@@ -133,11 +135,11 @@ pub fn start(
     requires { ⌜ OpenAsks (setting layout chunks pages room) (mem (now bytes) (now keys) (now order) (now words)) ⌝ }
     ensures { λ _. let s = setting layout chunks pages room in ⌜ Shows s (emptyView s) (mem (now (bytes .exit)) (now (keys .exit)) (now (order .exit)) (now (words .exit))) ⌝ }
 {
-    let statics = layout.static_memory.0;
-    let calldata = layout.calldata.0;
-    let heap = layout.bootloader_heap.0;
-    let aux = layout.bootloader_aux.0;
-    let base = layout.base.0;
+    let statics = layout.static_memory;
+    let calldata = layout.calldata;
+    let heap = layout.bootloader_heap;
+    let aux = layout.bootloader_aux;
+    let base = layout.base;
     let stride = layout.stride;
     start_with(
         bytes,

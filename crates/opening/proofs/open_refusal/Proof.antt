@@ -1,20 +1,28 @@
-use Rattle.view.specs.Calls.{nothing}
 use mathlib.Core.Path.{sym, _∙_}
 use lib.ListN.{length}
 use borrow.Author.Tests.{not-true, not-false}
 use borrow.Author.Needs.{needs}
-use Rattle.store.specs.Mem.{mem}
+use Rattle.store.specs.Mem.{Mem, mem}
+use Rattle.view.specs.View.{Setting}
+use Rattle.view.specs.Calls.{nothing}
 use Rattle.opening.specs.Opening.{setting}
 use Rattle.opening.proofs.Refusals.{refused-1, refused-2, refused-10, refused-not}
 use Rattle.opening.proofs.open_refusal.Statement.{statement}
 use Rattle.opening.proofs.open_refusal.Tie as tie
+
+-- the setting that is asked for, and the buffers
+abbrev asked : tie.Start → Setting
+asked start = setting (start .args .layout) (start .args .chunks) (start .args .pages) (start .args .room)
+
+abbrev lent : tie.Start → Mem
+lent start = mem (start .args .bytes .now) (start .args .keys .now) (start .args .order .now) (start .args .words .now)
 
 returns : tie.Need-returns
 returns c =
     let at-if1 = c in
     let at-bad-layout = at-if1 .before in
     let start = at-bad-layout .before .before .before .before .before .before in
-    refused-1 nothing (setting (start .args .layout) (start .args .chunks) (start .args .pages) (start .args .room)) (mem (start .args .bytes .now) (start .args .keys .now) (start .args .order .now) (start .args .words .now)) (length (start .args .calldata .now)) (sym (at-bad-layout .bad-layout .ensures) ∙ at-if1 .if1 .taken)
+    refused-1 nothing (asked start) (lent start) (length (start .args .calldata .now)) (sym (at-bad-layout .bad-layout .ensures) ∙ at-if1 .if1 .taken)
 
 returns-2 : tie.Need-returns-2
 returns-2 c =
@@ -23,7 +31,7 @@ returns-2 c =
     let at-if1 = at-sizes-right .before in
     let at-bad-layout = at-if1 .before in
     let start = at-bad-layout .before .before .before .before .before .before in
-    refused-2 nothing (setting (start .args .layout) (start .args .chunks) (start .args .pages) (start .args .room)) (mem (start .args .bytes .now) (start .args .keys .now) (start .args .order .now) (start .args .words .now)) (length (start .args .calldata .now)) (sym (at-bad-layout .bad-layout .ensures) ∙ at-if1 .if1 .left) (sym (at-sizes-right .sizes-right .ensures (start .args .layout)) ∙ not-true _ (at-if2 .if2 .taken))
+    refused-2 nothing (asked start) (lent start) (length (start .args .calldata .now)) (sym (at-bad-layout .bad-layout .ensures) ∙ at-if1 .if1 .left) (sym (at-sizes-right .sizes-right .ensures (start .args .layout)) ∙ not-true _ (at-if2 .if2 .taken))
 
 returns-3 : tie.Need-returns-3
 returns-3 c =
@@ -33,7 +41,7 @@ returns-3 c =
     let at-if1 = at-sizes-right .before in
     let at-bad-layout = at-if1 .before in
     let start = at-bad-layout .before .before .before .before .before .before in
-    refused-10 nothing (setting (start .args .layout) (start .args .chunks) (start .args .pages) (start .args .room)) (mem (start .args .bytes .now) (start .args .keys .now) (start .args .order .now) (start .args .words .now)) (length (start .args .calldata .now)) (sym (at-bad-layout .bad-layout .ensures) ∙ at-if1 .if1 .left) (sym (at-sizes-right .sizes-right .ensures (start .args .layout)) ∙ not-false _ (at-if2 .if2 .left)) (at-if3 .if3 .taken)
+    refused-10 nothing (asked start) (lent start) (length (start .args .calldata .now)) (sym (at-bad-layout .bad-layout .ensures) ∙ at-if1 .if1 .left) (sym (at-sizes-right .sizes-right .ensures (start .args .layout)) ∙ not-false _ (at-if2 .if2 .left)) (at-if3 .if3 .taken)
 
 returns-4 : tie.Need-returns-4
 returns-4 c =
@@ -43,7 +51,7 @@ returns-4 c =
     let at-if1 = at-sizes-right .before in
     let at-bad-layout = at-if1 .before in
     let start = at-bad-layout .before .before .before .before .before .before in
-    refused-not nothing (setting (start .args .layout) (start .args .chunks) (start .args .pages) (start .args .room)) (mem (start .args .bytes .now) (start .args .keys .now) (start .args .order .now) (start .args .words .now)) (length (start .args .calldata .now)) (sym (at-bad-layout .bad-layout .ensures) ∙ at-if1 .if1 .left) (sym (at-sizes-right .sizes-right .ensures (start .args .layout)) ∙ not-false _ (at-if2 .if2 .left)) (at-if3 .if3 .left)
+    refused-not nothing (asked start) (lent start) (length (start .args .calldata .now)) (sym (at-bad-layout .bad-layout .ensures) ∙ at-if1 .if1 .left) (sym (at-sizes-right .sizes-right .ensures (start .args .layout)) ∙ not-false _ (at-if2 .if2 .left)) (at-if3 .if3 .left)
 
 pub open-refusal-spec : {M : Type 1} → statement M
 open-refusal-spec =

@@ -1,4 +1,8 @@
-// The five instructions, each one step of a frame: x m op gas heap aux hbound abound area x0 x1 x2 x3 tagged v0 v1 v2 v3 hookon hookaddress.
+// The five instructions, each one step of a frame: x memory op gas heap aux hbound abound area WORD tag WORD hook address.
+use crate::answers;
+use crate::arithmetic;
+use crate::calls::Call;
+use crate::numbers::Numbers;
 use instructions::Execution;
 use instructions::ExecutionStatus;
 use instructions::Hook;
@@ -6,99 +10,154 @@ use instructions::Operand;
 use page_ids::Address;
 use state::Area;
 use state::Frame;
-use stored::answers;
-use stored::answers::Got;
-use stored::numbers;
-use stored::numbers::small;
-use stored::plain;
 use word::Word;
+
+// ---- the places of the numbers
+
+const OP: usize = 1;
+
+const GAS: usize = 2;
+
+const HEAP: usize = 3;
+
+const AUX: usize = 4;
+
+const HEAP_BOUND: usize = 5;
+
+const AUX_BOUND: usize = 6;
+
+const AREA: usize = 7;
+
+const OPERAND: usize = 8;
+
+const TAG: usize = 12;
+
+const VALUE: usize = 13;
+
+const HOOKING: usize = 17;
+
+const HOOK: usize = 18;
+
+// ---- the instructions' numbers
+
+const LOAD: u64 = 0;
+
+const STORE: u64 = 1;
+
+const LOAD_POINTER: u64 = 2;
+
+const LOAD_STATIC: u64 = 3;
+
+const STORE_STATIC: u64 = 4;
+
+// ---- the status of an instruction that was carried out, or that panicked
+
+const RUNNING: u64 = 0;
+
+const PANICKED: u64 = 100;
+
+const SUSPENDED: u64 = 101;
 
 // ---- arguments
 
-fn frame(n: &[u64; 80]) -> Frame {
-    plain::frame(
-        small(n, 2),
-        small(n, 3),
-        small(n, 4),
-        small(n, 5),
-        small(n, 6),
+fn frame_of(call: Call) -> Frame {
+    arithmetic::frame(
+        call.small(GAS),
+        call.small(HEAP),
+        call.small(AUX),
+        call.small(HEAP_BOUND),
+        call.small(AUX_BOUND),
     )
 }
 
-fn area(n: &[u64; 80]) -> Area {
-    plain::area(small(n, 7))
+fn area_of(call: Call) -> Area {
+    arithmetic::area(call.small(AREA))
 }
 
-fn operand(n: &[u64; 80]) -> Operand {
+fn operand_of(call: Call) -> Operand {
     Operand {
-        word: numbers::word(n, 8, 9, 10, 11),
-        tagged: small(n, 12) == 1,
+        word: call.word(OPERAND),
+        tagged: call.number(TAG) == 1,
     }
 }
 
-fn value(n: &[u64; 80]) -> Word {
-    numbers::word(n, 13, 14, 15, 16)
+fn value_of(call: Call) -> Word {
+    call.word(VALUE)
 }
 
-fn hook(n: &[u64; 80]) -> Hook {
+fn hook_of(call: Call) -> Hook {
     Hook {
-        on: small(n, 17) == 1,
-        address: Address(small(n, 18)),
+        on: call.number(HOOKING) == 1,
+        address: Address(call.small(HOOK)),
     }
 }
 
 // ---- answers
 
+// A status and what is left of a frame's gas and bounds.
+fn with_frame(status: u64, frame: Frame) -> Numbers {
+    Numbers::none()
+        .and(status)
+        .and(frame.gas as u64)
+        .and(frame.heap_bound as u64)
+        .and(frame.aux_bound as u64)
+}
+
 // An instruction that was carried out, and the hook's value or 0.
-fn carried_out(status: u64, e: Execution, stop: u32) -> Got {
+fn carried_out(status: u64, e: Execution, stop: u32) -> Numbers {
     let frame = e.frame;
     let word = e.word;
     let operand = e.operand;
     let next = operand.word;
-    Got {
-        count: 14,
-        a: status,
-        b: frame.gas as u64,
-        c: frame.heap_bound as u64,
-        d: frame.aux_bound as u64,
-        e: 0,
-        word: word,
-        next: next,
-        tag: answers::told(operand.tagged) as u64,
-        stop: stop as u64,
-    }
+    let read = answers::and_word(with_frame(status, frame), word);
+    answers::and_word(read, next)
+        .and(answers::flag(operand.tagged) as u64)
+        .and(stop as u64)
 }
 
-fn panicked(e: Execution) -> Got {
-    let frame = e.frame;
-    answers::few(
-        4,
-        100,
-        frame.gas as u64,
-        frame.heap_bound as u64,
-        frame.aux_bound as u64,
-        0,
-    )
-}
-
-fn executed(e: Execution) -> Got {
+fn executed(e: Execution) -> Numbers {
     let status = e.status;
+    let frame = e.frame;
     match status {
-        ExecutionStatus::Running => carried_out(0, e, 0),
-        ExecutionStatus::SuspendedOnHook(stop) => carried_out(101, e, stop),
-        ExecutionStatus::Panicked => panicked(e),
+        ExecutionStatus::Running => carried_out(RUNNING, e, 0),
+        ExecutionStatus::SuspendedOnHook(stop) => carried_out(SUSPENDED, e, stop),
+        ExecutionStatus::Panicked => with_frame(PANICKED, frame),
         ExecutionStatus::Refused(n) => answers::alone(n),
     }
 }
 
 // ---- instructions
 
-pub fn load(bytes: &[u8], keys: &[u64], order: &[u32], words: &[u64], n: &[u64; 80]) -> Got {
-    match small(n, 1) {
-        0 => executed(instructions::load(bytes, keys, order, words, frame(n), area(n), operand(n))),
-        2 => executed(instructions::load_pointer(bytes, keys, order, words, frame(n), operand(n))),
-        3 => executed(instructions::load_static(bytes, keys, order, words, frame(n), operand(n))),
-        _ => answers::none(),
+// Whether an instruction is one that writes.
+pub fn writes(call: Call) -> bool {
+    let op = call.number(OP);
+    match op {
+        STORE | STORE_STATIC => true,
+        _ => false,
+    }
+}
+
+pub fn load(bytes: &[u8], keys: &[u64], order: &[u32], words: &[u64], call: Call) -> Numbers {
+    let op = call.number(OP);
+    let frame = frame_of(call);
+    let operand = operand_of(call);
+    match op {
+        LOAD => executed(instructions::load(
+            bytes,
+            keys,
+            order,
+            words,
+            frame,
+            area_of(call),
+            operand,
+        )),
+        LOAD_POINTER => {
+            executed(instructions::load_pointer(bytes, keys, order, words, frame, operand))
+        }
+        LOAD_STATIC => {
+            executed(instructions::load_static(bytes, keys, order, words, frame, operand))
+        }
+        _ => Numbers::none(),
     }
 }
 
@@ -107,27 +166,27 @@ pub fn store(
     keys: &mut [u64],
     order: &mut [u32],
     words: &mut [u64],
-    n: &[u64; 80],
-) -> Got {
-    executed(instructions::store(
-        bytes,
-        keys,
-        order,
-        words,
-        frame(n),
-        area(n),
-        operand(n),
-        value(n),
-        hook(n),
-    ))
-}
-
-pub fn store_static(
-    bytes: &mut [u8],
-    keys: &mut [u64],
-    order: &mut [u32],
-    words: &mut [u64],
-    n: &[u64; 80],
-) -> Got {
-    executed(instructions::store_static(bytes, keys, order, words, frame(n), operand(n), value(n)))
+    call: Call,
+) -> Numbers {
+    let op = call.number(OP);
+    let frame = frame_of(call);
+    let operand = operand_of(call);
+    let value = value_of(call);
+    match op {
+        STORE => executed(instructions::store(
+            bytes,
+            keys,
+            order,
+            words,
+            frame,
+            area_of(call),
+            operand,
+            value,
+            hook_of(call),
+        )),
+        STORE_STATIC => {
+            executed(instructions::store_static(bytes, keys, order, words, frame, operand, value))
+        }
+        _ => Numbers::none(),
+    }
 }

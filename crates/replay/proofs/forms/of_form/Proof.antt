@@ -1,0 +1,28 @@
+use borrow.Author.Needs.{needs}
+use Prim.Native.Nat.{_-_, _≤_}
+use lib.ListN.{length}
+use Rattle.replay.proofs.forms.of_form.Statement.{statement}
+use Rattle.replay.proofs.forms.of_form.Tie as tie
+
+abbrev Inv-loop : tie.InvT-loop
+Inv-loop numbers form values i₀ i = i ≤ length form
+
+abbrev μ-loop : tie.MeasureT-loop
+μ-loop numbers form values i₀ i = length form - i
+
+pub of-form-spec : {M : Type 1} → statement M
+of-form-spec =
+    tie.close
+    (tie.spec
+    Inv-loop
+    μ-loop
+    (λ c. search needs)
+    (λ c. search needs)
+    (λ c. search needs)
+    (λ c. search needs)
+    (λ c κs. search needs)
+    (λ c. search needs)
+    (λ c. search needs)
+    (λ c. search needs)
+    (λ c. search needs)
+    (λ c. search needs))

@@ -1,0 +1,64 @@
+// The numbers of an answer: a status, and then the values.
+use crate::numbers::Numbers;
+use outcome::Answer;
+use word::Word;
+
+// The status of an answer, which is 0 or a refusal's number.
+pub fn status(answer: Answer) -> u32 {
+    match answer {
+        Answer::Done => 0,
+        Answer::Refused(n) => n,
+    }
+}
+
+// A status and nothing more.
+pub fn alone(status: u32) -> Numbers {
+    Numbers::none().and(status as u64)
+}
+
+// A call that was carried out, with no value yet.
+fn done() -> Numbers {
+    alone(0)
+}
+
+pub fn one(x: u64) -> Numbers {
+    done().and(x)
+}
+
+// One value, or a refusal alone.
+pub fn one_or_refusal(refusal: u32, x: u64) -> Numbers {
+    if refusal != 0 {
+        return alone(refusal);
+    }
+    one(x)
+}
+
+pub fn two(x: u32, y: u32) -> Numbers {
+    done().and(x as u64).and(y as u64)
+}
+
+pub fn four(a: u32, b: u32, c: u32, d: u32) -> Numbers {
+    two(a, b).and(c as u64).and(d as u64)
+}
+
+// Numbers and the limbs of a word, the lowest first.
+pub fn and_word(numbers: Numbers, word: Word) -> Numbers {
+    let limbs = word.limbs;
+    numbers
+        .and(limbs[0])
+        .and(limbs[1])
+        .and(limbs[2])
+        .and(limbs[3])
+}
+
+pub fn word(w: Word) -> Numbers {
+    and_word(done(), w)
+}
+
+// 1 for true.
+pub fn flag(x: bool) -> u32 {
+    if x {
+        return 1;
+    }
+    0
+}

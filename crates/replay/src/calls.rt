@@ -1,0 +1,162 @@
+// A call: its letter and its numbers. rust/README.md describes the line of each.
+ghost use Prim.Native.Nat.{_≤_, _<_};
+use crate::numbers::CAPACITY;
+use page_ids::Address;
+use page_ids::BasePage;
+use page_ids::Layout;
+use page_ids::PageId;
+use word::Word;
+
+// ---- letters
+
+// A line that cannot be read.
+pub const UNREADABLE: u8 = 0;
+
+pub const OPEN: u8 = b'o';
+
+pub const ALLOCATE: u8 = b'a';
+
+pub const ALLOCATE_WITH_CONTENT: u8 = b'A';
+
+pub const DEALLOCATE: u8 = b'f';
+
+pub const READ_WORD: u8 = b'r';
+
+pub const READ_WORD_PARTIALLY: u8 = b'p';
+
+pub const READ_RANGE: u8 = b'g';
+
+pub const READ_CHUNK: u8 = b'k';
+
+pub const READ_BYTE: u8 = b'y';
+
+pub const WRITE_WORD: u8 = b'w';
+
+pub const WRITE_BYTES: u8 = b'b';
+
+pub const COMPACT: u8 = b'c';
+
+pub const TRUNCATE: u8 = b'T';
+
+pub const DYNAMIC_LENGTH: u8 = b'l';
+
+pub const SNAPSHOT: u8 = b's';
+
+pub const ROLL_BACK: u8 = b'u';
+
+pub const DELETE_HISTORY: u8 = b'd';
+
+pub const COMPARE: u8 = b'e';
+
+pub const COUNTS: u8 = b'v';
+
+pub const DECODE: u8 = b'D';
+
+pub const PAGE_ID: u8 = b'h';
+
+pub const POINTER: u8 = b'P';
+
+pub const POINTER_WORD: u8 = b'Q';
+
+pub const USE_GAS: u8 = b'U';
+
+pub const GROW: u8 = b'G';
+
+pub const EXECUTE: u8 = b'x';
+
+// ---- numbers
+
+// The places of the numbers that several calls have.
+const MEMORY: usize = 0;
+
+const PAGE: usize = 1;
+
+const ADDRESS: usize = 2;
+
+const END: usize = 3;
+
+// The place of the layout of an opening, which has six numbers.
+const LAYOUT: usize = 1;
+
+pub struct Call {
+    pub letter: u8,
+    pub numbers: [u64; CAPACITY],
+}
+
+// A number's low 32 bits.
+fn low(x: u64) -> u32 {
+    (x % 4294967296) as u32
+}
+
+impl Call {
+    pub fn unreadable() -> Self {
+        let numbers = [0u64; CAPACITY];
+        Self {
+            letter: UNREADABLE,
+            numbers: numbers,
+        }
+    }
+
+    pub fn number(self, place: usize) -> u64
+        requires { ⌜ place < 19 ⌝ }
+    {
+        self.numbers[place]
+    }
+
+    pub fn small(self, place: usize) -> u32
+        requires { ⌜ place < 19 ⌝ }
+    {
+        low(self.numbers[place])
+    }
+
+    // The word whose lowest limb is at a place.
+    pub fn word(self, place: usize) -> Word
+        requires { ⌜ place < 16 ⌝ }
+    {
+        let n = self.numbers;
+        let limbs = [n[place], n[place + 1], n[place + 2], n[place + 3]];
+        Word { limbs: limbs }
+    }
+
+    // The memory at a place: 0 or 1.
+    pub fn memory_at(self, place: usize) -> usize
+        requires { ⌜ place < 19 ⌝ }
+        ensures { λ r. ⌜ r ≤ 1 ⌝ }
+    {
+        if self.numbers[place] == 0 {
+            return 0;
+        }
+        1
+    }
+
+    // The memory that the call is on.
+    pub fn memory(self) -> usize
+        ensures { λ r. ⌜ r ≤ 1 ⌝ }
+    {
+        self.memory_at(MEMORY)
+    }
+
+    pub fn page(self) -> PageId {
+        PageId(self.small(PAGE))
+    }
+
+    pub fn address(self) -> Address {
+        Address(self.small(ADDRESS))
+    }
+
+    pub fn end(self) -> Address {
+        Address(self.small(END))
+    }
+
+    // The layout of an opening.
+    pub fn layout(self) -> Layout {
+        Layout {
+            static_memory: PageId(self.small(LAYOUT)),
+            calldata: PageId(self.small(LAYOUT + 1)),
+            bootloader_heap: PageId(self.small(LAYOUT + 2)),
+            bootloader_aux: PageId(self.small(LAYOUT + 3)),
+            base: BasePage(self.small(LAYOUT + 4)),
+            stride: self.small(LAYOUT + 5),
+        }
+    }
+}

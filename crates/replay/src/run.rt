@@ -1,0 +1,141 @@
+// Takes the lines of the input one by one, and puts the call of each to the library.
+ghost use Prim.Native.Nat.{_≤_, _<_};
+use crate::calls;
+use crate::calls::Call;
+use crate::changes;
+use crate::input;
+use crate::memories::ALL_BYTES;
+use crate::memories::ALL_KEYS;
+use crate::memories::ALL_ORDER;
+use crate::memories::ALL_WORDS;
+use crate::numbers::Numbers;
+use crate::parse;
+use crate::parse::LINE;
+use crate::queries;
+use crate::report;
+use crate::report::Report;
+use page_ids::Layout;
+
+// No input has so many lines.
+const LAST_LINE: u64 = 18446744073709551615;
+
+// What is kept from line to line: the layout of the latest opening, and the counts.
+pub struct Run {
+    pub layout: Layout,
+    pub report: Report,
+}
+
+fn new_run() -> Run {
+    Run {
+        layout: Call::unreadable().layout(),
+        report: report::empty(),
+    }
+}
+
+fn answer(
+    bytes: &mut [u8; ALL_BYTES],
+    keys: &mut [u64; ALL_KEYS],
+    order: &mut [u32; ALL_ORDER],
+    words: &mut [u64; ALL_WORDS],
+    call: Call,
+    layout: Layout,
+) -> Numbers {
+    if changes::is_change(call) {
+        return changes::answer(bytes, keys, order, words, call);
+    }
+    queries::answer(bytes, keys, order, words, call, layout)
+}
+
+// The layout of an opening; any other call keeps the one before.
+fn layout_after(call: Call, before: Layout) -> Layout {
+    if call.letter == calls::OPEN {
+        return call.layout();
+    }
+    before
+}
+
+// Takes a line that is no comment and no title.
+fn take_call(
+    bytes: &mut [u8; ALL_BYTES],
+    keys: &mut [u64; ALL_KEYS],
+    order: &mut [u32; ALL_ORDER],
+    words: &mut [u64; ALL_WORDS],
+    line: &[u8; LINE],
+    length: usize,
+    number: u64,
+    run: Run,
+) -> Run
+    requires { ⌜ length ≤ 512 ⌝ }
+{
+    let stored = parse::read_call(line, length);
+    let call = stored.call;
+    let expected = stored.expected;
+    let before = run.layout;
+    let layout = layout_after(call, before);
+    let answer = answer(bytes, keys, order, words, call, layout);
+    let report = run.report;
+    Run {
+        layout: layout,
+        report: report::count(report, expected, answer, number),
+    }
+}
+
+// Takes a line: nothing, a comment, a title, or a call.
+fn take_line(
+    bytes: &mut [u8; ALL_BYTES],
+    keys: &mut [u64; ALL_KEYS],
+    order: &mut [u32; ALL_ORDER],
+    words: &mut [u64; ALL_WORDS],
+    line: &[u8; LINE],
+    length: usize,
+    number: u64,
+    run: Run,
+) -> Run
+    requires { ⌜ length ≤ 512 ⌝ }
+{
+    if length == 0 {
+        return run;
+    }
+    let letter = line[0];
+    let layout = run.layout;
+    let report = run.report;
+    match letter {
+        b'#' => run,
+        b't' => Run {
+            layout: layout,
+            report: report::begin_group(report, line, length),
+        },
+        _ => take_call(bytes, keys, order, words, line, length, number, run),
+    }
+}
+
+// The number of the next line; the highest where the input has ended.
+fn next_number(number: u64, ended: bool) -> u64
+    requires { ⌜ number < 18446744073709551615 ⌝ }
+    ensures { λ r. ⌜ (number < r) × (r ≤ 18446744073709551615) ⌝ }
+{
+    if ended {
+        return LAST_LINE;
+    }
+    number + 1
+}
+
+// Takes all lines. A proved loop has to end, so it counts lines up to a number that no input has.
+pub fn replay(
+    bytes: &mut [u8; ALL_BYTES],
+    keys: &mut [u64; ALL_KEYS],
+    order: &mut [u32; ALL_ORDER],
+    words: &mut [u64; ALL_WORDS],
+) {
+    let mut block = [0u8; input::BLOCK];
+    let mut line = [0u8; LINE];
+    let mut cursor = input::empty(false);
+    let mut run = new_run();
+    let mut number: u64 = 1;
+    while number < LAST_LINE {
+        cursor = input::read_line(&mut block, &mut line, cursor);
+        run = take_line(bytes, keys, order, words, &line, cursor.length, number, run);
+        number = next_number(number, cursor.ended);
+    }
+    report::end(run.report);
+}

@@ -13,7 +13,7 @@ pub fn status(answer: Answer) -> u32 {
 
 // A status and nothing more.
 pub fn alone(status: u32) -> Numbers {
-    Numbers::none().and(status as u64)
+    Numbers::none().push(status as u64)
 }
 
 // A call that was carried out, with no value yet.
@@ -22,7 +22,7 @@ fn done() -> Numbers {
 }
 
 pub fn one(x: u64) -> Numbers {
-    done().and(x)
+    done().push(x)
 }
 
 // One value, or a refusal alone.
@@ -34,25 +34,25 @@ pub fn one_or_refusal(refusal: u32, x: u64) -> Numbers {
 }
 
 pub fn two(x: u32, y: u32) -> Numbers {
-    done().and(x as u64).and(y as u64)
+    done().push(x as u64).push(y as u64)
 }
 
 pub fn four(a: u32, b: u32, c: u32, d: u32) -> Numbers {
-    two(a, b).and(c as u64).and(d as u64)
+    two(a, b).push(c as u64).push(d as u64)
 }
 
 // Numbers and the limbs of a word, the lowest first.
-pub fn and_word(numbers: Numbers, word: Word) -> Numbers {
+pub fn push_word(numbers: Numbers, word: Word) -> Numbers {
     let limbs = word.limbs;
     numbers
-        .and(limbs[0])
-        .and(limbs[1])
-        .and(limbs[2])
-        .and(limbs[3])
+        .push(limbs[0])
+        .push(limbs[1])
+        .push(limbs[2])
+        .push(limbs[3])
 }
 
 pub fn word(w: Word) -> Numbers {
-    and_word(done(), w)
+    push_word(done(), w)
 }
 
 // 1 for true.

@@ -111,24 +111,6 @@ fn use_gas(gas: u32, amount: u32) -> Numbers {
     answers::two(g.left, answers::flag(g.paid))
 }
 
-pub fn area(x: u32) -> Area {
-    if x == 0 {
-        return Area::Heap;
-    }
-    Area::Aux
-}
-
-pub fn frame(gas: u32, heap: u32, aux: u32, heap_bound: u32, aux_bound: u32) -> Frame {
-    Frame {
-        gas: gas,
-        heap: PageId(heap),
-        aux: PageId(aux),
-        heap_bound: heap_bound,
-        aux_bound: aux_bound,
-        panicked: false,
-    }
-}
-
 // Pays for a bound, by the library's `grow_heap` on a frame that it is lent.
 fn grown(before: Frame, area: Area, bound: u32) -> Numbers {
     let step = state::grow_frame(before, area, bound);
@@ -143,14 +125,7 @@ fn grown(before: Frame, area: Area, bound: u32) -> Numbers {
 
 // G gas heap aux hbound abound area bound
 fn grow(call: Call) -> Numbers {
-    let before = frame(
-        call.small(0),
-        call.small(1),
-        call.small(2),
-        call.small(3),
-        call.small(4),
-    );
-    grown(before, area(call.small(5)), call.small(6))
+    grown(call.frame(0), call.area(5), call.small(6))
 }
 
 // The answer to a call without a memory; none where the call is another.

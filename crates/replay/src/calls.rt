@@ -5,6 +5,8 @@ use page_ids::Address;
 use page_ids::BasePage;
 use page_ids::Layout;
 use page_ids::PageId;
+use state::Area;
+use state::Frame;
 use word::Word;
 
 // ---- letters
@@ -69,6 +71,8 @@ pub const EXECUTE: u8 = b'x';
 // The places of the numbers that several calls have.
 const MEMORY: usize = 0;
 
+const OTHER_MEMORY: usize = 1;
+
 const PAGE: usize = 1;
 
 const ADDRESS: usize = 2;
@@ -83,9 +87,21 @@ pub struct Call {
     pub numbers: [u64; CAPACITY],
 }
 
-// A number's low 32 bits.
+const TWO_TO_32: u64 = 4294967296;
+
+// The low 32 bits.
 fn low(x: u64) -> u32 {
-    (x % 4294967296) as u32
+    (x % TWO_TO_32) as u32
+}
+
+// A memory is 0 or 1.
+fn memory_of(x: u64) -> usize
+    ensures { λ r. ⌜ r ≤ 1 ⌝ }
+{
+    if x == 0 {
+        return 0;
+    }
+    1
 }
 
 impl Call {
@@ -118,22 +134,41 @@ impl Call {
         Word { limbs: limbs }
     }
 
-    // The memory at a place: 0 or 1.
-    pub fn memory_at(self, place: usize) -> usize
+    // The frame whose five numbers begin at a place.
+    pub fn frame(self, place: usize) -> Frame
+        requires { ⌜ place < 15 ⌝ }
+    {
+        Frame {
+            gas: self.small(place),
+            heap: PageId(self.small(place + 1)),
+            aux: PageId(self.small(place + 2)),
+            heap_bound: self.small(place + 3),
+            aux_bound: self.small(place + 4),
+            panicked: false,
+        }
+    }
+
+    pub fn area(self, place: usize) -> Area
         requires { ⌜ place < 19 ⌝ }
-        ensures { λ r. ⌜ r ≤ 1 ⌝ }
     {
         if self.numbers[place] == 0 {
-            return 0;
+            return Area::Heap;
         }
-        1
+        Area::Aux
     }
 
     // The memory that the call is on.
     pub fn memory(self) -> usize
         ensures { λ r. ⌜ r ≤ 1 ⌝ }
     {
-        self.memory_at(MEMORY)
+        memory_of(self.numbers[MEMORY])
+    }
+
+    // The memory that a comparison compares it with.
+    pub fn other_memory(self) -> usize
+        ensures { λ r. ⌜ r ≤ 1 ⌝ }
+    {
+        memory_of(self.numbers[OTHER_MEMORY])
     }
 
     pub fn page(self) -> PageId {

@@ -29,7 +29,7 @@ const VALUE: usize = 3;
 const WINDOW_LENGTH: usize = 3;
 
 // T memory length
-const DYNAMIC_LENGTH: usize = 1;
+const NEW_LENGTH: usize = 1;
 
 // u memory heap aux
 const HEAP_MARK: usize = 1;
@@ -95,7 +95,7 @@ fn on_all(
     let letter = call.letter;
     match letter {
         calls::TRUNCATE => {
-            freeing::truncate_dynamic_to(bytes, keys, order, words, call.number(DYNAMIC_LENGTH))
+            freeing::truncate_dynamic_to(bytes, keys, order, words, call.number(NEW_LENGTH))
         }
         calls::ROLL_BACK => history::rollback(
             bytes,
@@ -184,6 +184,9 @@ fn on_memory(
 ) -> Numbers {
     let letter = call.letter;
     match letter {
+        calls::ALLOCATE | calls::DEALLOCATE | calls::WRITE_WORD | calls::COMPACT => {
+            answered(on_page(bytes, keys, order, words, call))
+        }
         calls::TRUNCATE | calls::ROLL_BACK | calls::DELETE_HISTORY => {
             answered(on_all(bytes, keys, order, words, call))
         }
@@ -191,23 +194,11 @@ fn on_memory(
             with_content(bytes, keys, order, words, call)
         }
         calls::EXECUTE => machine::store(bytes, keys, order, words, call),
-        _ => answered(on_page(bytes, keys, order, words, call)),
+        _ => Numbers::none(),
     }
 }
 
 // ---- calls on one of the two memories
-
-// Whether a call changes a memory.
-pub fn is_change(call: Call) -> bool {
-    let letter = call.letter;
-    match letter {
-        calls::ALLOCATE | calls::DEALLOCATE | calls::WRITE_WORD | calls::COMPACT => true,
-        calls::TRUNCATE | calls::ROLL_BACK | calls::DELETE_HISTORY => true,
-        calls::ALLOCATE_WITH_CONTENT | calls::WRITE_BYTES | calls::OPEN => true,
-        calls::EXECUTE => machine::writes(call),
-        _ => false,
-    }
-}
 
 // Lends the part of each buffer that is the memory's.
 fn on_part(
@@ -233,7 +224,7 @@ fn on_part(
     )
 }
 
-// The answer to a call that changes a memory.
+// The answer to a call that changes a memory; none for any other.
 pub fn answer(
     bytes: &mut [u8; ALL_BYTES],
     keys: &mut [u64; ALL_KEYS],

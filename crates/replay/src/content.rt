@@ -1,25 +1,28 @@
 // The bytes of a call, which a line has by their number and a seed, and the digest of bytes.
 ghost use Prim.Native.Nat.{_≤_};
 
-// A call has at most so many bytes.
+// The most bytes of a call.
 pub const CONTENT: usize = 1024;
+
+// How much each byte is more than the one before it.
+const STEP: u64 = 31;
 
 const DIGEST_FACTOR: u64 = 257;
 
 const DIGEST_MODULUS: u64 = 4294967291;
 
-// The first byte is the seed, and each other is 31 more than the one before.
+// Makes as many bytes as a call can have; the first is the seed.
 pub fn fill(content: &mut [u8; CONTENT], seed: u64) {
     let mut next = seed;
     let mut i: usize = 0;
     while i < CONTENT {
         content[i] = (next % 256) as u8;
-        next = next % 256 + 31;
+        next = next % 256 + STEP;
         i += 1;
     }
 }
 
-// So many of the bytes, from the first on.
+// The first bytes, as many as a call has.
 pub fn first(content: &[u8; CONTENT], count: usize) -> &[u8]
     requires { ⌜ count ≤ 1024 ⌝ }
 {

@@ -1,10 +1,12 @@
 // Reads the lines of the standard input, in blocks.
 ghost use Prim.Native.Nat.{_≤_};
-use crate::parse::LINE;
 use libc::STDIN_FILENO;
 
-// A block is that of io::large_buffer.
+// The bytes of a block.
 pub const BLOCK: usize = 65536;
+
+// The most bytes of a line.
+pub const LINE: usize = 512;
 
 // The next place in a block, and the block's end; the byte that was taken last, and whether the input ended there; the length of the last line.
 pub struct Cursor {

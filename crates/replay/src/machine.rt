@@ -1,6 +1,5 @@
 // The five instructions, each one step of a frame: x memory op gas heap aux hbound abound area WORD tag WORD hook address.
 use crate::answers;
-use crate::arithmetic;
 use crate::calls::Call;
 use crate::numbers::Numbers;
 use instructions::Execution;
@@ -8,23 +7,13 @@ use instructions::ExecutionStatus;
 use instructions::Hook;
 use instructions::Operand;
 use page_ids::Address;
-use state::Area;
 use state::Frame;
-use word::Word;
 
 // ---- the places of the numbers
 
 const OP: usize = 1;
 
-const GAS: usize = 2;
-
-const HEAP: usize = 3;
-
-const AUX: usize = 4;
-
-const HEAP_BOUND: usize = 5;
-
-const AUX_BOUND: usize = 6;
+const FRAME: usize = 2;
 
 const AREA: usize = 7;
 
@@ -60,29 +49,11 @@ const SUSPENDED: u64 = 101;
 
 // ---- arguments
 
-fn frame_of(call: Call) -> Frame {
-    arithmetic::frame(
-        call.small(GAS),
-        call.small(HEAP),
-        call.small(AUX),
-        call.small(HEAP_BOUND),
-        call.small(AUX_BOUND),
-    )
-}
-
-fn area_of(call: Call) -> Area {
-    arithmetic::area(call.small(AREA))
-}
-
 fn operand_of(call: Call) -> Operand {
     Operand {
         word: call.word(OPERAND),
         tagged: call.number(TAG) == 1,
     }
-}
-
-fn value_of(call: Call) -> Word {
-    call.word(VALUE)
 }
 
 fn hook_of(call: Call) -> Hook {
@@ -97,10 +68,10 @@ fn hook_of(call: Call) -> Hook {
 // A status and what is left of a frame's gas and bounds.
 fn with_frame(status: u64, frame: Frame) -> Numbers {
     Numbers::none()
-        .and(status)
-        .and(frame.gas as u64)
-        .and(frame.heap_bound as u64)
-        .and(frame.aux_bound as u64)
+        .push(status)
+        .push(frame.gas as u64)
+        .push(frame.heap_bound as u64)
+        .push(frame.aux_bound as u64)
 }
 
 // An instruction that was carried out, and the hook's value or 0.
@@ -109,10 +80,10 @@ fn carried_out(status: u64, e: Execution, stop: u32) -> Numbers {
     let word = e.word;
     let operand = e.operand;
     let next = operand.word;
-    let read = answers::and_word(with_frame(status, frame), word);
-    answers::and_word(read, next)
-        .and(answers::flag(operand.tagged) as u64)
-        .and(stop as u64)
+    let read = answers::push_word(with_frame(status, frame), word);
+    answers::push_word(read, next)
+        .push(answers::flag(operand.tagged) as u64)
+        .push(stop as u64)
 }
 
 fn executed(e: Execution) -> Numbers {
@@ -128,18 +99,10 @@ fn executed(e: Execution) -> Numbers {
 
 // ---- instructions
 
-// Whether an instruction is one that writes.
-pub fn writes(call: Call) -> bool {
-    let op = call.number(OP);
-    match op {
-        STORE | STORE_STATIC => true,
-        _ => false,
-    }
-}
-
+// An instruction that reads; no answer to any other.
 pub fn load(bytes: &[u8], keys: &[u64], order: &[u32], words: &[u64], call: Call) -> Numbers {
     let op = call.number(OP);
-    let frame = frame_of(call);
+    let frame = call.frame(FRAME);
     let operand = operand_of(call);
     match op {
         LOAD => executed(instructions::load(
@@ -148,7 +111,7 @@ pub fn load(bytes: &[u8], keys: &[u64], order: &[u32], words: &[u64], call: Call
             order,
             words,
             frame,
-            area_of(call),
+            call.area(AREA),
             operand,
         )),
         LOAD_POINTER => {
@@ -161,6 +124,7 @@ pub fn load(bytes: &[u8], keys: &[u64], order: &[u32], words: &[u64], call: Call
     }
 }
 
+// An instruction that writes; no answer to any other.
 pub fn store(
     bytes: &mut [u8],
     keys: &mut [u64],
@@ -169,9 +133,9 @@ pub fn store(
     call: Call,
 ) -> Numbers {
     let op = call.number(OP);
-    let frame = frame_of(call);
+    let frame = call.frame(FRAME);
     let operand = operand_of(call);
-    let value = value_of(call);
+    let value = call.word(VALUE);
     match op {
         STORE => executed(instructions::store(
             bytes,
@@ -179,7 +143,7 @@ pub fn store(
             order,
             words,
             frame,
-            area_of(call),
+            call.area(AREA),
             operand,
             value,
             hook_of(call),

@@ -20,7 +20,7 @@ impl Numbers {
     }
 
     // The list with one number more.
-    pub fn and(self, x: u64) -> Self {
+    pub fn push(self, x: u64) -> Self {
         let mut longer = self;
         let count = self.count;
         if count < CAPACITY {

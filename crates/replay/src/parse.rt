@@ -3,16 +3,16 @@ ghost use Prim.Native.Nat.{_≤_};
 use crate::calls::Call;
 use crate::content;
 use crate::forms;
+use crate::input::LINE;
 use crate::numbers::Numbers;
 
-// A line has at most so many bytes.
-pub const LINE: usize = 512;
-
-// An answer has at most so many numbers.
+// The most numbers of an answer.
 const MOST_EXPECTED: usize = 16;
 
-// The highest number that has room for any digit more, within 64 bits; one higher has room for a digit up to 5.
-const TENTH: u64 = 1844674407370955161;
+// The highest number of 64 bits without its last digit, and that digit.
+const HIGHEST_TENTH: u64 = 1844674407370955161;
+
+const HIGHEST_LAST_DIGIT: u64 = 5;
 
 // A call, and the answer that its line expects.
 pub struct StoredCall {
@@ -63,7 +63,7 @@ fn space(r: Reading) -> Reading {
             next: Next::FirstDigit,
         },
         Next::Digit => Reading {
-            numbers: numbers.and(r.value),
+            numbers: numbers.push(r.value),
             value: 0,
             next: Next::FirstDigit,
         },
@@ -71,13 +71,13 @@ fn space(r: Reading) -> Reading {
     }
 }
 
-// A number with one digit more, where that has at most 64 bits.
+// A digit is added to the number that is being read. One of more than 64 bits is wrong.
 fn longer(numbers: Numbers, value: u64, digit: u64) -> Reading {
-    if TENTH < value {
+    if HIGHEST_TENTH < value {
         return wrong();
     }
-    if value == TENTH {
-        if 5 < digit {
+    if value == HIGHEST_TENTH {
+        if HIGHEST_LAST_DIGIT < digit {
             return wrong();
         }
     }
@@ -111,7 +111,7 @@ fn end(r: Reading) -> Numbers {
     let numbers = r.numbers;
     let next = r.next;
     match next {
-        Next::Digit => numbers.and(r.value),
+        Next::Digit => numbers.push(r.value),
         _ => Numbers::none(),
     }
 }
@@ -152,7 +152,7 @@ fn unreadable() -> StoredCall {
     }
 }
 
-// A call with its answer, if the call has the right numbers and the answer has some.
+// A call with its answer, where both have numbers as they must be.
 fn stored_call(letter: u8, numbers: Numbers, expected: Numbers) -> StoredCall {
     if expected.count == 0 {
         return unreadable();
@@ -160,7 +160,7 @@ fn stored_call(letter: u8, numbers: Numbers, expected: Numbers) -> StoredCall {
     if MOST_EXPECTED < expected.count {
         return unreadable();
     }
-    if !forms::right(letter, numbers) {
+    if !forms::fits(letter, numbers) {
         return unreadable();
     }
     let values = numbers.values;

@@ -1,6 +1,5 @@
-// The calls that change no memory.
+// The calls that read a memory.
 use crate::answers;
-use crate::arithmetic;
 use crate::calls;
 use crate::calls::Call;
 use crate::content;
@@ -13,19 +12,16 @@ use crate::memories::ALL_ORDER;
 use crate::memories::ALL_WORDS;
 use crate::numbers::Numbers;
 use compare::Comparison;
-use page_ids::Layout;
 use reads::ByteRead;
 use reads::LengthRead;
 use reads::Marks;
 use reads::WordRead;
 
-// ---- the places of numbers
-
-// k memory page number
+// The place of a chunk's number: k memory page number.
 const CHUNK_NUMBER: usize = 2;
 
-// e memory other
-const OTHER_MEMORY: usize = 1;
+// The bytes of a chunk.
+const CHUNK: usize = 256;
 
 // ---- answers
 
@@ -105,7 +101,7 @@ fn range(bytes: &[u8], keys: &[u64], order: &[u32], words: &[u64], call: Call) -
 
 // The digest of a chunk.
 fn chunk(bytes: &[u8], keys: &[u64], order: &[u32], words: &[u64], call: Call) -> Numbers {
-    let block = [0u8; 256];
+    let block = [0u8; CHUNK];
     let page = call.page();
     let number = call.small(CHUNK_NUMBER);
     let answer = reads::chunk_check(bytes, keys, order, words, page, number, &block);
@@ -126,10 +122,10 @@ fn counts(bytes: &[u8], keys: &[u64], order: &[u32], words: &[u64]) -> Numbers {
     let length = reads::dynamic_len(bytes, keys, order, words);
     let marks = reads::snapshot(bytes, keys, order, words);
     Numbers::none()
-        .and(held(words))
-        .and(length.length as u64)
-        .and(marks.heap as u64)
-        .and(marks.aux as u64)
+        .push(held(words))
+        .push(length.length as u64)
+        .push(marks.heap as u64)
+        .push(marks.aux as u64)
 }
 
 fn on_memory(bytes: &[u8], keys: &[u64], order: &[u32], words: &[u64], call: Call) -> Numbers {
@@ -158,7 +154,7 @@ fn on_memory(bytes: &[u8], keys: &[u64], order: &[u32], words: &[u64], call: Cal
     }
 }
 
-// ---- calls on one of the two memories, on both, and on none
+// ---- calls on one of the two memories, or on both
 
 // Whether two memories are equal.
 fn equal(
@@ -181,7 +177,8 @@ fn equal(
     ))
 }
 
-fn on_memories(
+// The answer to a call that reads a memory; none for any other.
+pub fn answer(
     bytes: &[u8; ALL_BYTES],
     keys: &[u64; ALL_KEYS],
     order: &[u32; ALL_ORDER],
@@ -190,14 +187,7 @@ fn on_memories(
 ) -> Numbers {
     let memory = call.memory();
     if call.letter == calls::COMPARE {
-        return equal(
-            bytes,
-            keys,
-            order,
-            words,
-            memory,
-            call.memory_at(OTHER_MEMORY),
-        );
+        return equal(bytes, keys, order, words, memory, call.other_memory());
     }
     on_memory(
         memories::bytes_of(bytes, memory),
@@ -206,20 +196,4 @@ fn on_memories(
         memories::words_of(words, memory),
         call,
     )
-}
-
-// The answer to a call that changes no memory; none for any other.
-pub fn answer(
-    bytes: &[u8; ALL_BYTES],
-    keys: &[u64; ALL_KEYS],
-    order: &[u32; ALL_ORDER],
-    words: &[u64; ALL_WORDS],
-    call: Call,
-    layout: Layout,
-) -> Numbers {
-    let arithmetic = arithmetic::answer(call, layout);
-    if arithmetic.count != 0 {
-        return arithmetic;
-    }
-    on_memories(bytes, keys, order, words, call)
 }

@@ -1,8 +1,7 @@
 // Counts the calls of each group and of all groups, and how many answers differ.
-ghost use Prim.Native.Nat.{_≤_};
+use crate::input::LINE;
 use crate::numbers;
 use crate::numbers::Numbers;
-use crate::parse::LINE;
 use libc::STDOUT_FILENO;
 
 // The title is on its line after a letter and a space. At most 128 bytes of it are printed.
@@ -27,14 +26,14 @@ impl Counts {
     }
 
     // One call more, with the right answer.
-    fn and_right(self) -> Self {
+    fn with_right(self) -> Self {
         let mut more = self;
         more.calls = std::num::wrapping_add_u64(self.calls, 1);
         more
     }
 
     // One call more, with an answer that differs.
-    fn and_wrong(self) -> Self {
+    fn with_wrong(self) -> Self {
         let mut more = self;
         more.calls = std::num::wrapping_add_u64(self.calls, 1);
         more.differ = std::num::wrapping_add_u64(self.differ, 1);
@@ -126,7 +125,7 @@ pub fn end(report: Report) {
 // ---- answers
 
 // Whether an answer is the one that is expected. A call without an answer could not be read.
-fn right(expected: Numbers, answer: Numbers) -> bool {
+fn is_right(expected: Numbers, answer: Numbers) -> bool {
     if answer.count == 0 {
         return false;
     }
@@ -159,11 +158,11 @@ fn with_counts(report: Report, group: Counts, all: Counts) -> Report {
 pub fn count(report: Report, expected: Numbers, answer: Numbers, line: u64) -> Report {
     let group = report.group;
     let all = report.all;
-    if right(expected, answer) {
-        return with_counts(report, group.and_right(), all.and_right());
+    if is_right(expected, answer) {
+        return with_counts(report, group.with_right(), all.with_right());
     }
     if all.differ < PRINTED {
         print_difference(expected, answer, line);
     }
-    with_counts(report, group.and_wrong(), all.and_wrong())
+    with_counts(report, group.with_wrong(), all.with_wrong())
 }

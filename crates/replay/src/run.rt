@@ -1,20 +1,26 @@
 // Takes the lines of the input one by one, and puts the call of each to the library.
 ghost use Prim.Native.Nat.{_≤_, _<_};
+use crate::arithmetic;
 use crate::calls;
 use crate::calls::Call;
 use crate::changes;
 use crate::input;
+use crate::input::LINE;
 use crate::memories::ALL_BYTES;
 use crate::memories::ALL_KEYS;
 use crate::memories::ALL_ORDER;
 use crate::memories::ALL_WORDS;
 use crate::numbers::Numbers;
 use crate::parse;
-use crate::parse::LINE;
 use crate::queries;
 use crate::report;
 use crate::report::Report;
 use page_ids::Layout;
+
+// The first byte of a line that is no call.
+const COMMENT: u8 = b'#';
+
+const TITLE: u8 = b't';
 
 // No input has so many lines.
 const LAST_LINE: u64 = 18446744073709551615;
@@ -25,6 +31,7 @@ pub struct Run {
     pub report: Report,
 }
 
+// Before any line. The layout is all zeros.
 fn new_run() -> Run {
     Run {
         layout: Call::unreadable().layout(),
@@ -32,6 +39,7 @@ fn new_run() -> Run {
     }
 }
 
+// The answer to a call, which is of one of three kinds; none to one that cannot be read.
 fn answer(
     bytes: &mut [u8; ALL_BYTES],
     keys: &mut [u64; ALL_KEYS],
@@ -40,10 +48,15 @@ fn answer(
     call: Call,
     layout: Layout,
 ) -> Numbers {
-    if changes::is_change(call) {
-        return changes::answer(bytes, keys, order, words, call);
+    let computed = arithmetic::answer(call, layout);
+    if computed.count != 0 {
+        return computed;
     }
-    queries::answer(bytes, keys, order, words, call, layout)
+    let changed = changes::answer(bytes, keys, order, words, call);
+    if changed.count != 0 {
+        return changed;
+    }
+    queries::answer(bytes, keys, order, words, call)
 }
 
 // The layout of an opening; any other call keeps the one before.
@@ -100,8 +113,8 @@ fn take_line(
     let layout = run.layout;
     let report = run.report;
     match letter {
-        b'#' => run,
-        b't' => Run {
+        COMMENT => run,
+        TITLE => Run {
             layout: layout,
             report: report::begin_group(report, line, length),
         },

@@ -1,8 +1,8 @@
 use borrow.Author.Needs.{needs}
 use Prim.Native.Nat.{_-_, _≤_}
 use lib.ListN.{length}
-use Rattle.replay.proofs.forms.of_form.Statement.{statement}
-use Rattle.replay.proofs.forms.of_form.Tie as tie
+use Rattle.replay.proofs.forms.has_form.Statement.{statement}
+use Rattle.replay.proofs.forms.has_form.Tie as tie
 
 abbrev Inv-loop : tie.InvT-loop
 Inv-loop numbers form values i₀ i = i ≤ length form
@@ -10,8 +10,8 @@ Inv-loop numbers form values i₀ i = i ≤ length form
 abbrev μ-loop : tie.MeasureT-loop
 μ-loop numbers form values i₀ i = length form - i
 
-pub of-form-spec : {M : Type 1} → statement M
-of-form-spec =
+pub has-form-spec : {M : Type 1} → statement M
+has-form-spec =
     tie.close
     (tie.spec
     Inv-loop

@@ -12,7 +12,7 @@ use word::Word;
 // ---- letters
 
 // A line that cannot be read.
-pub const UNREADABLE: u8 = 0;
+const UNREADABLE: u8 = 0;
 
 pub const OPEN: u8 = b'o';
 

@@ -64,7 +64,7 @@ fn of_length(c: Cursor, length: usize) -> Cursor
     cursor
 }
 
-// Reads a line. One of more than 512 bytes counts as several, of which the first is too long to be a call.
+// Reads a line. One of more than 512 bytes counts as several.
 pub fn read_line(block: &mut [u8; BLOCK], line: &mut [u8; LINE], from: Cursor) -> Cursor
     ensures { λ r. ⌜ r .length ≤ 512 ⌝ }
 {

@@ -65,7 +65,7 @@ fn hook_of(call: Call) -> Hook {
 
 // ---- answers
 
-// A status and what is left of a frame's gas and bounds.
+// A status, and the gas and the bounds of a frame.
 fn with_frame(status: u64, frame: Frame) -> Numbers {
     Numbers::none()
         .push(status)

@@ -59,12 +59,30 @@ fn answer(
     queries::answer(bytes, keys, order, words, call)
 }
 
-// The layout of an opening; any other call keeps the one before.
-fn layout_after(call: Call, before: Layout) -> Layout {
+// The run with the layout of a call that is an opening.
+fn with_layout(run: Run, call: Call) -> Run {
+    let mut next = run;
     if call.letter == calls::OPEN {
-        return call.layout();
+        let layout = call.layout();
+        next.layout = layout;
     }
-    before
+    next
+}
+
+// The run with one answer more.
+fn with_answer(run: Run, expected: Numbers, answer: Numbers, number: u64) -> Run {
+    let report = report::count(run.report, expected, answer, number);
+    let mut next = run;
+    next.report = report;
+    next
+}
+
+// The run with the group that a title begins.
+fn with_group(run: Run, line: &[u8; LINE], length: usize) -> Run {
+    let report = report::begin_group(run.report, line, length);
+    let mut next = run;
+    next.report = report;
+    next
 }
 
 // Takes a line that is no comment and no title.
@@ -81,16 +99,9 @@ fn take_call(
     requires { ⌜ length ≤ 512 ⌝ }
 {
     let stored = parse::read_call(line, length);
-    let call = stored.call;
-    let expected = stored.expected;
-    let before = run.layout;
-    let layout = layout_after(call, before);
-    let answer = answer(bytes, keys, order, words, call, layout);
-    let report = run.report;
-    Run {
-        layout: layout,
-        report: report::count(report, expected, answer, number),
-    }
+    let next = with_layout(run, stored.call);
+    let answer = answer(bytes, keys, order, words, stored.call, next.layout);
+    with_answer(next, stored.expected, answer, number)
 }
 
 // Takes a line: nothing, a comment, a title, or a call.
@@ -109,15 +120,9 @@ fn take_line(
     if length == 0 {
         return run;
     }
-    let letter = line[0];
-    let layout = run.layout;
-    let report = run.report;
-    match letter {
+    match line[0] {
         COMMENT => run,
-        TITLE => Run {
-            layout: layout,
-            report: report::begin_group(report, line, length),
-        },
+        TITLE => with_group(run, line, length),
         _ => take_call(bytes, keys, order, words, line, length, number, run),
     }
 }

@@ -174,6 +174,7 @@ fn stored_call(letter: u8, numbers: Numbers, expected: Numbers) -> StoredCall {
     }
 }
 
+// The call of a line; an unreadable one where the line has none.
 pub fn read_call(line: &[u8; LINE], length: usize) -> StoredCall
     requires { ⌜ length ≤ 512 ⌝ }
 {

@@ -39,7 +39,7 @@ fn new_run() -> Run {
     }
 }
 
-// The answer to a call, which is of one of three kinds; none to one that cannot be read.
+// The answer to a call, which is of one of three kinds; none where the line is no call.
 fn answer(
     bytes: &mut [u8; ALL_BYTES],
     keys: &mut [u64; ALL_KEYS],
@@ -85,45 +85,22 @@ fn with_group(run: Run, line: &[u8; LINE], length: usize) -> Run {
     next
 }
 
-// Takes a line that is no comment and no title.
-fn take_call(
-    bytes: &mut [u8; ALL_BYTES],
-    keys: &mut [u64; ALL_KEYS],
-    order: &mut [u32; ALL_ORDER],
-    words: &mut [u64; ALL_WORDS],
+// The run after a line: nothing, a comment, a title, or a call.
+fn after_line(
+    run: Run,
     line: &[u8; LINE],
     length: usize,
     number: u64,
-    run: Run,
-) -> Run
-    requires { ⌜ length ≤ 512 ⌝ }
-{
-    let stored = parse::read_call(line, length);
-    let next = with_layout(run, stored.call);
-    let answer = answer(bytes, keys, order, words, stored.call, next.layout);
-    with_answer(next, stored.expected, answer, number)
-}
-
-// Takes a line: nothing, a comment, a title, or a call.
-fn take_line(
-    bytes: &mut [u8; ALL_BYTES],
-    keys: &mut [u64; ALL_KEYS],
-    order: &mut [u32; ALL_ORDER],
-    words: &mut [u64; ALL_WORDS],
-    line: &[u8; LINE],
-    length: usize,
-    number: u64,
-    run: Run,
-) -> Run
-    requires { ⌜ length ≤ 512 ⌝ }
-{
+    expected: Numbers,
+    answer: Numbers,
+) -> Run {
     if length == 0 {
         return run;
     }
     match line[0] {
         COMMENT => run,
         TITLE => with_group(run, line, length),
-        _ => take_call(bytes, keys, order, words, line, length, number, run),
+        _ => with_answer(run, expected, answer, number),
     }
 }
 
@@ -152,7 +129,10 @@ pub fn replay(
     let mut number: u64 = 1;
     while number < LAST_LINE {
         cursor = input::read_line(&mut block, &mut line, cursor);
-        run = take_line(bytes, keys, order, words, &line, cursor.length, number, run);
+        let stored = parse::read_call(&line, cursor.length);
+        run = with_layout(run, stored.call);
+        let answer = answer(bytes, keys, order, words, stored.call, run.layout);
+        run = after_line(run, &line, cursor.length, number, stored.expected, answer);
         number = next_number(number, cursor.ended);
     }
     report::end(run.report);

@@ -1,5 +1,50 @@
-// One element of the four buffers of a memory, by the buffer's number (bytes 0, keys 1, order 2, words 3), and a checksum of them all.
+// The four buffers of a memory: their lengths, one element by the buffer's number, and a checksum of them all.
 use crate::step;
+use crate::step::Got;
+
+// The numbers of the buffers.
+pub const BYTES: u64 = 0;
+
+pub const KEYS: u64 = 1;
+
+pub const ORDER: u64 = 2;
+
+pub const WORDS: u64 = 3;
+
+// The highest count of chunks, of dynamic pages and of journal words that the buffers have space for.
+pub const MOST: usize = 16;
+
+// The bytes of a chunk.
+pub const CHUNK: usize = 256;
+
+// The old bytes of a word in each journal, and its notes there.
+pub const OLD_BYTES: usize = 64;
+
+pub const NOTES: usize = 6;
+
+pub const FIXED_PAGES: usize = 4;
+
+// The places of `order` for a chunk: one in the index, and two for hints.
+pub const ORDER_PLACES: usize = 3;
+
+pub const HEAD: usize = 16;
+
+// The lengths of the buffers with the highest counts.
+pub const BYTES_LENGTH: usize = CHUNK * MOST + OLD_BYTES * MOST;
+
+pub const KEYS_LENGTH: usize = MOST + MOST + FIXED_PAGES;
+
+pub const ORDER_LENGTH: usize = ORDER_PLACES * MOST + MOST + FIXED_PAGES;
+
+pub const WORDS_LENGTH: usize = HEAD + NOTES * MOST;
+
+// A place past the end of every buffer.
+pub const NOWHERE: usize = 18446744073709551615;
+
+// A prime below 2^32.
+const PRIME: u64 = 4294967291;
+
+const FACTOR: u64 = 65599;
 
 pub fn peek_byte(bytes: &[u8], i: usize) -> u64 {
     if bytes.len() <= i {
@@ -31,13 +76,13 @@ pub fn peek(
     buffer: u64,
     i: usize,
 ) -> u64 {
-    if buffer == 0 {
+    if buffer == BYTES {
         return peek_byte(bytes, i);
     }
-    if buffer == 1 {
+    if buffer == KEYS {
         return peek_wide(keys, i);
     }
-    if buffer == 2 {
+    if buffer == ORDER {
         return peek_narrow(order, i);
     }
     peek_wide(words, i)
@@ -66,7 +111,7 @@ fn place(buffer: u64, here: u64, i: usize) -> usize {
     if buffer == here {
         return i;
     }
-    18446744073709551615
+    NOWHERE
 }
 
 // Sets element i of one of the buffers.
@@ -79,20 +124,38 @@ pub fn poke(
     i: usize,
     x: u64,
 ) {
-    poke_byte(bytes, place(buffer, 0, i), x);
-    poke_wide(keys, place(buffer, 1, i), x);
-    poke_narrow(order, place(buffer, 2, i), x);
-    poke_wide(words, place(buffer, 3, i), x);
+    poke_byte(bytes, place(buffer, BYTES, i), x);
+    poke_wide(keys, place(buffer, KEYS, i), x);
+    poke_narrow(order, place(buffer, ORDER, i), x);
+    poke_wide(words, place(buffer, WORDS, i), x);
 }
 
-// A step of a polynomial modulo a prime below 2^32, so that no product leaves 64 bits.
+// Sets element i of one of the buffers. The value is what it was.
+pub fn set(
+    bytes: &mut [u8],
+    keys: &mut [u64],
+    order: &mut [u32],
+    words: &mut [u64],
+    buffer: u64,
+    i: usize,
+    x: u64,
+) -> Got {
+    let old = peek(bytes, keys, order, words, buffer, i);
+    poke(bytes, keys, order, words, buffer, i, x);
+    Got {
+        refusal: 0,
+        value: old,
+    }
+}
+
+// A step of a polynomial modulo the prime, so that no product leaves 64 bits.
 fn mixed(sum: u64, x: u64) -> u64 {
-    (sum % 4294967291 * 65599 + x % 4294967291) % 4294967291
+    (sum % PRIME * FACTOR + x % PRIME) % PRIME
 }
 
 // A checksum with one number more. Its two halves go in one after the other, since a step takes less than 64 bits of it.
 fn with_number(sum: u64, x: u64) -> u64 {
-    mixed(mixed(sum, x % 4294967296), x / 4294967296)
+    mixed(mixed(sum, x % step::NARROW), x / step::NARROW)
 }
 
 // A checksum with the first n elements of one of the buffers.
@@ -116,8 +179,8 @@ fn with_buffer(
 
 // A checksum of all four buffers, to see that a refused call changes none.
 pub fn checksum(bytes: &[u8], keys: &[u64], order: &[u32], words: &[u64]) -> u64 {
-    let b = with_buffer(bytes, keys, order, words, 0, bytes.len(), 1);
-    let k = with_buffer(bytes, keys, order, words, 1, keys.len(), b);
-    let o = with_buffer(bytes, keys, order, words, 2, order.len(), k);
-    with_buffer(bytes, keys, order, words, 3, words.len(), o)
+    let b = with_buffer(bytes, keys, order, words, BYTES, bytes.len(), 1);
+    let k = with_buffer(bytes, keys, order, words, KEYS, keys.len(), b);
+    let o = with_buffer(bytes, keys, order, words, ORDER, order.len(), k);
+    with_buffer(bytes, keys, order, words, WORDS, words.len(), o)
 }

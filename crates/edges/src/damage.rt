@@ -11,8 +11,22 @@ const REFUSED: u64 = 1;
 
 const WRONG: u64 = 2;
 
-// The refusal that no call gives, for a line with a wrong answer.
+// A damaged memory was read or refused wrongly. No call is refused so.
 const NO_ANSWER: u32 = 98;
+
+// The refusal of a memory that is not well formed.
+const NOT_WELL_FORMED: u32 = 3;
+
+// The page that the calls are made on.
+const PAGE: u64 = 66;
+
+// An element becomes 0, or the highest number of its buffer; with any other mode one more.
+const ZERO: u64 = 1;
+
+const HIGHEST: u64 = 2;
+
+// The most elements whose answers are bits of one number.
+const BITS: usize = 64;
 
 // Which elements are refused: as bits, the newest the lowest; how many, the first and the last. The last one with a wrong answer is counted from 1.
 pub struct Tally {
@@ -25,10 +39,10 @@ pub struct Tally {
 
 // One more than x, 0, or the highest number.
 fn changed(x: u64, mode: u64, top: u64) -> u64 {
-    if mode == 1 {
+    if mode == ZERO {
         return 0;
     }
-    if mode == 2 {
+    if mode == HIGHEST {
         return top;
     }
     if top <= x {
@@ -39,10 +53,10 @@ fn changed(x: u64, mode: u64, top: u64) -> u64 {
 
 // The highest number of a buffer's elements.
 fn top(buffer: u64) -> u64 {
-    if buffer == 0 {
+    if buffer == buffers::BYTES {
         return 255;
     }
-    if buffer == 2 {
+    if buffer == buffers::ORDER {
         return 4294967295;
     }
     18446744073709551615
@@ -50,10 +64,10 @@ fn top(buffer: u64) -> u64 {
 
 // What a memory got of which a read and another call are refused so, the buffers having these checksums before and after.
 fn judged(read: u32, call: u32, before: u64, after: u64) -> u64 {
-    if read != 3 {
+    if read != NOT_WELL_FORMED {
         return WRONG;
     }
-    if call != 3 {
+    if call != NOT_WELL_FORMED {
         return WRONG;
     }
     if before != after {
@@ -78,12 +92,12 @@ fn verdict(
     words: &mut [u64],
     call: u8,
 ) -> u64 {
-    let read = step::look(bytes, keys, order, words, b'r', 66, 0, 0);
+    let read = step::look(bytes, keys, order, words, b'r', PAGE, 0, 0);
     if read.refusal == 0 {
         return accepted(naive::wrong(bytes, keys, order, words));
     }
     let before = buffers::checksum(bytes, keys, order, words);
-    let got = step::step(bytes, keys, order, words, call, 66, 0, 0);
+    let got = step::step(bytes, keys, order, words, call, PAGE, 0, 0);
     let after = buffers::checksum(bytes, keys, order, words);
     judged(read.refusal, got.refusal, before, after)
 }
@@ -135,15 +149,16 @@ fn answer(t: Tally, n: usize) -> Got {
             value: t.wrong,
         };
     }
-    if n <= 64 {
+    if n <= BITS {
         return Got {
             refusal: 0,
             value: t.bits,
         };
     }
+    let k = step::THREE_DIGITS;
     Got {
         refusal: 0,
-        value: t.count % 1000 * 1000000 + t.first % 1000 * 1000 + t.last % 1000,
+        value: (t.count % k * k + t.first % k) * k + t.last % k,
     }
 }
 

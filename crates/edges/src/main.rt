@@ -6,10 +6,10 @@ mod step;
 mod walk;
 
 fn main() {
-    let mut bytes = [0u8; 5120];
-    let mut keys = [0u64; 36];
-    let mut order = [0u32; 68];
-    let mut words = [0u64; 112];
+    let mut bytes = [0u8; buffers::BYTES_LENGTH];
+    let mut keys = [0u64; buffers::KEYS_LENGTH];
+    let mut order = [0u32; buffers::ORDER_LENGTH];
+    let mut words = [0u64; buffers::WORDS_LENGTH];
     let mut input = io::large_buffer();
     let n = io::read_full(0, &mut input);
     walk::walk(&mut bytes, &mut keys, &mut order, &mut words, &input, n);

@@ -4,6 +4,30 @@ use crate::step;
 use page_ids::Address;
 use page_ids::PageId;
 
+// The key of chunk k of entry e is e times this number plus k plus 1.
+const CHUNK_NUMBERS: u64 = 33554432;
+
+// The most chunks, which bounds the products.
+const MOST_CHUNKS: usize = 65536;
+
+// The last chunk whose bytes have addresses of 32 bits.
+const LAST_CHUNK: u32 = 16777215;
+
+// The byte of a chunk that is read.
+const BYTE: u32 = 31;
+
+// Where the head has its numbers.
+const CHUNKS: usize = 6;
+
+const DYNAMIC_LENGTH: usize = 11;
+
+const HEAP_JOURNAL: usize = 12;
+
+const AUX_JOURNAL: usize = 13;
+
+// How many places are looked at.
+const PLACES: usize = 8;
+
 // The first place of x among the numbers from `from` to `to`, or `to`.
 fn find(numbers: &[u64], from: usize, to: usize, x: u64) -> usize {
     let mut i = from;
@@ -20,14 +44,14 @@ fn find(numbers: &[u64], from: usize, to: usize, x: u64) -> usize {
 fn start(keys: &[u64], chunks: usize, page: u32, k: u32) -> usize {
     let entry = find(keys, chunks, keys.len(), page as u64 + 1);
     if keys.len() <= entry {
-        return 18446744073709551615;
+        return buffers::NOWHERE;
     }
-    let e = std::num::wrapping_sub_usize(entry, chunks) % 65536;
-    let slot = find(keys, 0, chunks, e as u64 * 33554432 + k as u64 + 1);
+    let e = std::num::wrapping_sub_usize(entry, chunks) % MOST_CHUNKS;
+    let slot = find(keys, 0, chunks, e as u64 * CHUNK_NUMBERS + k as u64 + 1);
     if chunks <= slot {
-        return 18446744073709551615;
+        return buffers::NOWHERE;
     }
-    slot % 65536 * 256
+    slot % MOST_CHUNKS * buffers::CHUNK
 }
 
 // Byte i of those that begin at a place, and 0 for a place past all bytes.
@@ -46,18 +70,18 @@ fn worse(before: u64, a: u64, b: u64) -> u64 {
     1
 }
 
-// 0 for a part of 256 bytes that are those from a place on.
+// 0 for a part of a chunk's length whose bytes are those from a place on.
 fn wrong_part(part: &[u8], bytes: &[u8], at: usize) -> u64 {
-    let mut wrong = worse(0, part.len() as u64, 256);
+    let mut wrong = worse(0, part.len() as u64, buffers::CHUNK as u64);
     let mut i: usize = 0;
-    while i < 256 {
+    while i < buffers::CHUNK {
         wrong = worse(wrong, buffers::peek_byte(part, i), byte_from(bytes, at, i));
         i += 1;
     }
     wrong
 }
 
-// 0 for a byte that is read as it must be. Chunk 16,777,216 has no byte with an address of 32 bits.
+// 0 for a byte that is read as it must be.
 fn wrong_byte(
     bytes: &[u8],
     keys: &[u64],
@@ -67,7 +91,7 @@ fn wrong_byte(
     k: u32,
     must: u64,
 ) -> u64 {
-    if 16777215 < k {
+    if LAST_CHUNK < k {
         return 0;
     }
     let r = reads::read_byte(
@@ -76,32 +100,40 @@ fn wrong_byte(
         order,
         words,
         PageId(page),
-        Address(k * 256 + 31),
+        Address(k * buffers::CHUNK as u32 + BYTE),
     );
     let byte = step::wide(r.byte);
     worse(step::widened(r.refusal), byte, must)
 }
 
-// 0 for a chunk whose 256 bytes the lookup shows, and whose byte 31 is read, as the scan finds them.
+// 0 for a chunk whose bytes the lookup shows, and one of which is read, as the scan finds them.
 fn wrong_chunk(bytes: &[u8], keys: &[u64], order: &[u32], words: &[u64], page: u32, k: u32) -> u64 {
-    let block = [0u8; 256];
-    let chunks = (buffers::peek_wide(words, 6) % 65537) as usize;
+    let block = [0u8; buffers::CHUNK];
+    let chunks = buffers::peek_wide(words, CHUNKS) as usize % (MOST_CHUNKS + 1);
     let at = start(keys, chunks, page, k);
     let part = reads::chunk(bytes, keys, order, words, PageId(page), k, &block);
     let shown = wrong_part(part, bytes, at);
-    let read = wrong_byte(bytes, keys, order, words, page, k, byte_from(bytes, at, 31));
+    let read = wrong_byte(
+        bytes,
+        keys,
+        order,
+        words,
+        page,
+        k,
+        byte_from(bytes, at, BYTE as usize),
+    );
     worse(shown, read, 0)
 }
 
 // The places that are looked at: chunks 0 and 1 of pages 66, 67 and 5, and the last two chunks of page 66.
 fn page_of(q: usize) -> u32 {
     let pages = [66u32, 66, 67, 67, 5, 5, 66, 66];
-    pages[q % 8]
+    pages[q % PLACES]
 }
 
 fn chunk_of(q: usize) -> u32 {
-    let chunks = [0u32, 1, 0, 1, 0, 1, 16777215, 16777216];
-    chunks[q % 8]
+    let chunks = [0u32, 1, 0, 1, 0, 1, LAST_CHUNK, LAST_CHUNK + 1];
+    chunks[q % PLACES]
 }
 
 // 0 where the numbers that are read from the head are the head's.
@@ -111,17 +143,25 @@ fn wrong_head(bytes: &[u8], keys: &[u64], order: &[u32], words: &[u64]) -> u64 {
     let l = worse(
         0,
         step::widened(length.length),
-        buffers::peek_wide(words, 11),
+        buffers::peek_wide(words, DYNAMIC_LENGTH),
     );
-    let h = worse(l, step::widened(marks.heap), buffers::peek_wide(words, 12));
-    worse(h, step::widened(marks.aux), buffers::peek_wide(words, 13))
+    let h = worse(
+        l,
+        step::widened(marks.heap),
+        buffers::peek_wide(words, HEAP_JOURNAL),
+    );
+    worse(
+        h,
+        step::widened(marks.aux),
+        buffers::peek_wide(words, AUX_JOURNAL),
+    )
 }
 
 // 0 for a memory that answers reads as its buffers say, else 1.
 pub fn wrong(bytes: &[u8], keys: &[u64], order: &[u32], words: &[u64]) -> u64 {
     let mut wrong = wrong_head(bytes, keys, order, words);
     let mut q: usize = 0;
-    while q < 8 {
+    while q < PLACES {
         wrong = worse(
             wrong,
             wrong_chunk(bytes, keys, order, words, page_of(q), chunk_of(q)),

@@ -1,4 +1,4 @@
-// One call of the library, named by a letter, with numbers for its arguments.
+// One call of the library, or the change of one element, named by a letter, with numbers for its arguments.
 ghost use Prim.Native.Nat.{_≤_};
 use crate::buffers;
 use outcome::Answer;
@@ -7,14 +7,36 @@ use page_ids::Layout;
 use page_ids::PageId;
 use word::Word;
 
-// What a call gave: the number of its refusal or 0, and a value or 0.
+// The numbers of 32 bits.
+pub const NARROW: u64 = 4294967296;
+
+// A factor that keeps numbers of three digits apart.
+pub const THREE_DIGITS: u64 = 1000;
+
+// The most bytes that a line hands over. A contract has no constants, so the one of `at_most_600` repeats it.
+const SOURCE: usize = 600;
+
+// What each byte of a write, of an allocation's contents and of calldata is.
+const WRITTEN: u8 = 171;
+
+const ALLOCATED: u8 = 205;
+
+const CALLDATA: u8 = 239;
+
+// The bytes of a range that is read.
+const RANGE: usize = 8;
+
+// A looked-up part has a wrong length. No call is refused so.
+const WRONG_LENGTH: u32 = 97;
+
+// What a call returned: the number of its refusal or 0, and a value or 0.
 pub struct Got {
     pub refusal: u32,
     pub value: u64,
 }
 
 pub fn narrow(x: u64) -> u32 {
-    (x % 4294967296) as u32
+    (x % NARROW) as u32
 }
 
 pub fn wide(x: u8) -> u64 {
@@ -54,13 +76,13 @@ fn counting() -> Word {
 fn at_most_600(x: u64) -> usize
     ensures { λ r. ⌜ r ≤ 600 ⌝ }
 {
-    if 600 < x {
-        return 600;
+    if (SOURCE as u64) < x {
+        return SOURCE;
     }
     x as usize
 }
 
-// Writes n bytes, each 171, n being at most 600.
+// Writes n bytes, at most SOURCE.
 fn write_bytes(
     bytes: &mut [u8],
     keys: &mut [u64],
@@ -70,7 +92,7 @@ fn write_bytes(
     start: u32,
     n: u64,
 ) -> u32 {
-    let source = [171u8; 600];
+    let source = [WRITTEN; SOURCE];
     let end = at_most_600(n);
     number(writes::write_bytes(
         bytes,
@@ -83,7 +105,7 @@ fn write_bytes(
     ))
 }
 
-// Allocates a page with n bytes of contents, each 205, n being at most 600.
+// Allocates a page with n bytes of contents, at most SOURCE.
 fn allocate_with(
     bytes: &mut [u8],
     keys: &mut [u64],
@@ -92,7 +114,7 @@ fn allocate_with(
     page: u32,
     n: u64,
 ) -> u32 {
-    let source = [205u8; 600];
+    let source = [ALLOCATED; SOURCE];
     let end = at_most_600(n);
     number(writes::allocate_with_content_at(
         bytes,
@@ -137,17 +159,6 @@ fn write(
     ))
 }
 
-// Whether a call writes.
-fn is_write(call: u8) -> bool {
-    if call == b'w' {
-        return true;
-    }
-    if call == b'c' {
-        return true;
-    }
-    call == b'b'
-}
-
 // A call that changes a memory.
 fn change(
     bytes: &mut [u8],
@@ -159,19 +170,14 @@ fn change(
     b: u64,
     x: u64,
 ) -> u32 {
-    if is_write(call) {
-        return write(bytes, keys, order, words, call, narrow(a), narrow(b), x);
+    let page = narrow(a);
+    match call {
+        b'w' | b'c' | b'b' => write(bytes, keys, order, words, call, page, narrow(b), x),
+        b'a' => number(writes::allocate_at(bytes, keys, order, words, PageId(page))),
+        b'f' => allocate_with(bytes, keys, order, words, page, x),
+        b'u' => number(history::rollback(bytes, keys, order, words, a, b)),
+        _ => number(history::delete_history(bytes, keys, order, words)),
     }
-    if call == b'a' {
-        return number(writes::allocate_at(bytes, keys, order, words, PageId(narrow(a))));
-    }
-    if call == b'f' {
-        return allocate_with(bytes, keys, order, words, narrow(a), x);
-    }
-    if call == b'u' {
-        return number(history::rollback(bytes, keys, order, words, a, b));
-    }
-    number(history::delete_history(bytes, keys, order, words))
 }
 
 // Limb k of a word, the lowest being 0.
@@ -189,7 +195,7 @@ fn limb(w: Word, k: u64) -> u64 {
     limbs[3]
 }
 
-// The last byte of a range that must have 8 bytes.
+// The last byte of a range that must have RANGE bytes.
 fn range(
     bytes: &[u8],
     keys: &[u64],
@@ -199,7 +205,7 @@ fn range(
     start: u32,
     end: u32,
 ) -> Got {
-    let mut out = [0u8; 8];
+    let mut out = [0u8; RANGE];
     let n = number(reads::read_range_big_endian(
         bytes,
         keys,
@@ -212,22 +218,22 @@ fn range(
     ));
     Got {
         refusal: n,
-        value: wide(out[7]),
+        value: wide(out[RANGE - 1]),
     }
 }
 
-// 0 or the number of a lookup's refusal, where the part is empty if it is refused and else has 256 bytes; no call gives 97.
+// 0 or the number of a lookup's refusal, where the part is empty if it is refused and else a whole chunk.
 fn told(refusal: u32, length: usize) -> u32 {
     if refusal == 0 {
-        if length == 256 {
+        if length == buffers::CHUNK {
             return 0;
         }
-        return 97;
+        return WRONG_LENGTH;
     }
     if length == 0 {
         return refusal;
     }
-    97
+    WRONG_LENGTH
 }
 
 // Byte i of a chunk, by a lookup with a zero block. The check beside it must say why the part is empty, where it is.
@@ -249,7 +255,14 @@ fn chunk<'a>(
     }
 }
 
-// Byte 0 of a chunk, by a lookup with n zeros, n being at most 600; or with 256 bytes of which byte n is 1.
+// The place of a byte in its chunk.
+fn in_chunk(x: u64) -> usize
+    ensures { λ r. ⌜ r ≤ 255 ⌝ }
+{
+    (x % buffers::CHUNK as u64) as usize
+}
+
+// Byte 0 of a chunk, by a lookup with n zeros, at most SOURCE; or with a block of which byte n is 1.
 fn bad_block(
     bytes: &[u8],
     keys: &[u64],
@@ -260,9 +273,9 @@ fn bad_block(
     k: u32,
     n: u64,
 ) -> Got {
-    let zeros = [0u8; 600];
-    let mut block = [0u8; 256];
-    block[(n % 256) as usize] = 1;
+    let zeros = [0u8; SOURCE];
+    let mut block = [0u8; buffers::CHUNK];
+    block[in_chunk(n)] = 1;
     if call == b'n' {
         return chunk(bytes, keys, order, words, page, k, 0, &block);
     }
@@ -281,31 +294,19 @@ fn look_up(
     k: u32,
     x: u64,
 ) -> Got {
-    let zeros = [0u8; 256];
+    let zeros = [0u8; buffers::CHUNK];
     if call == b'k' {
-        return chunk(
-            bytes,
-            keys,
-            order,
-            words,
-            page,
-            k,
-            (x % 256) as usize,
-            &zeros,
-        );
+        return chunk(bytes, keys, order, words, page, k, in_chunk(x), &zeros);
     }
     bad_block(bytes, keys, order, words, call, page, k, x)
 }
 
 // Whether a call looks a chunk up.
 fn is_lookup(call: u8) -> bool {
-    if call == b'k' {
-        return true;
+    match call {
+        b'k' | b'z' | b'n' => true,
+        _ => false,
     }
-    if call == b'z' {
-        return true;
-    }
-    call == b'n'
 }
 
 // A call that looks at a page.
@@ -376,7 +377,7 @@ pub fn look(
         let aux = r.aux as u64;
         return Got {
             refusal: r.refusal,
-            value: heap * 1000 + aux,
+            value: heap * THREE_DIGITS + aux,
         };
     }
     if is_lookup(call) {
@@ -387,22 +388,13 @@ pub fn look(
 
 // Whether a call changes a memory.
 fn changes(call: u8) -> bool {
-    if is_write(call) {
-        return true;
+    match call {
+        b'w' | b'c' | b'b' | b'a' | b'f' | b'u' | b'd' => true,
+        _ => false,
     }
-    if call == b'a' {
-        return true;
-    }
-    if call == b'f' {
-        return true;
-    }
-    if call == b'u' {
-        return true;
-    }
-    call == b'd'
 }
 
-// The call of a line.
+// The call of a line, or its change of an element.
 pub fn step(
     bytes: &mut [u8],
     keys: &mut [u64],
@@ -413,6 +405,9 @@ pub fn step(
     b: u64,
     x: u64,
 ) -> Got {
+    if call == b'e' {
+        return buffers::set(bytes, keys, order, words, a, b as usize, x);
+    }
     if changes(call) {
         return Got {
             refusal: change(bytes, keys, order, words, call, a, b, x),
@@ -422,7 +417,7 @@ pub fn step(
     look(bytes, keys, order, words, call, a, b, x)
 }
 
-// Opens a memory with n bytes of calldata, each 239, n being at most 600.
+// Opens a memory with n bytes of calldata, at most SOURCE.
 pub fn open(
     bytes: &mut [u8],
     keys: &mut [u64],
@@ -434,7 +429,7 @@ pub fn open(
     room: u64,
     n: u64,
 ) -> Got {
-    let source = [239u8; 600];
+    let source = [CALLDATA; SOURCE];
     let end = at_most_600(n);
     let refusal = number(opening::open(
         bytes,

@@ -8,11 +8,38 @@ use page_ids::BasePage;
 use page_ids::Layout;
 use page_ids::PageId;
 
-// A line: its letter, and numbers at the places 1 to 10, after a '=' at 11 and 12.
+// The places of a line's numbers: from 1 to EQUALS those of the call, and after a '=' the refusal and the value.
+const EQUALS: usize = 10;
+
+const REFUSAL: usize = 11;
+
+const VALUE: usize = 12;
+
+const PLACES: usize = 13;
+
+// The places of an opening's counts, and of the length of its calldata.
+const CHUNKS: usize = 7;
+
+const PAGES: usize = 8;
+
+const ROOM: usize = 9;
+
+const CALLDATA: usize = 10;
+
+// The elements that a line damages are fewer than this.
+const DAMAGED: u64 = 2000;
+
+// A number that takes another decimal digit is at most this.
+const SHORT: u64 = 1844674407370955160;
+
+// A refused call changed a buffer. No call is refused so.
+const CHANGED: u32 = 99;
+
+// A line: its letter, the place of its next number, and its numbers.
 pub struct Line {
     pub call: u8,
     pub place: usize,
-    pub numbers: [u64; 13],
+    pub numbers: [u64; PLACES],
 }
 
 // The counts of the open memory; how many answers were right and wrong since the last title.
@@ -25,7 +52,7 @@ pub struct Run {
 }
 
 fn new_line() -> Line {
-    let numbers = [0u64; 13];
+    let numbers = [0u64; PLACES];
     Line {
         call: 0,
         place: 0,
@@ -41,28 +68,28 @@ fn longer(x: u64, digit: u8) -> u64 {
     if digit == b'x' {
         return std::num::wrapping_add_u64(std::num::wrapping_add_u64(x, x), 1);
     }
-    if digit < 48 {
+    if digit < b'0' {
         return x;
     }
-    if 57 < digit {
+    if b'9' < digit {
         return x;
     }
-    if 1844674407370955160 < x {
+    if SHORT < x {
         return x;
     }
-    x * 10 + (digit - 48) as u64
+    x * 10 + (digit - b'0') as u64
 }
 
 // The place after a space, or after a '='.
 fn next_place(place: usize, byte: u8) -> usize {
     if byte == b'=' {
-        return 10;
+        return EQUALS;
     }
     if byte != b' ' {
         return place;
     }
-    if 12 <= place {
-        return 12;
+    if VALUE <= place {
+        return VALUE;
     }
     place + 1
 }
@@ -83,7 +110,7 @@ fn feed(line: Line, byte: u8) -> Line {
         let text = [byte];
         io::write_all(1, &text);
     }
-    if place < 13 {
+    if place < PLACES {
         numbers[place] = longer(numbers[place], byte);
     }
     Line {
@@ -93,17 +120,17 @@ fn feed(line: Line, byte: u8) -> Line {
     }
 }
 
-// A count of at most 16, which the buffers have space for.
+// A count that the buffers have space for. A contract has no constants, so it repeats buffers::MOST.
 fn small(x: u64) -> usize
     ensures { λ r. ⌜ r ≤ 16 ⌝ }
 {
-    if 16 < x {
-        return 16;
+    if (buffers::MOST as u64) < x {
+        return buffers::MOST;
     }
     x as usize
 }
 
-fn layout_of(numbers: [u64; 13]) -> Layout {
+fn layout_of(numbers: [u64; PLACES]) -> Layout {
     Layout {
         static_memory: PageId(step::narrow(numbers[1])),
         calldata: PageId(step::narrow(numbers[2])),
@@ -112,6 +139,17 @@ fn layout_of(numbers: [u64; 13]) -> Layout {
         base: BasePage(step::narrow(numbers[5])),
         stride: step::narrow(numbers[6]),
     }
+}
+
+// A refusal, where the buffers are as they were.
+fn unchanged(refusal: u32, before: u64, after: u64) -> u32 {
+    if refusal == 0 {
+        return 0;
+    }
+    if before == after {
+        return refusal;
+    }
+    CHANGED
 }
 
 // The lesser of a length and what there is.
@@ -124,19 +162,7 @@ fn least(length: usize, there: usize) -> usize
     length
 }
 
-// A refusal, where the buffers are as they were; no call gives 99.
-fn unchanged(refusal: u32, before: u64, after: u64) -> u32 {
-    if refusal == 0 {
-        return 0;
-    }
-    if before == after {
-        return refusal;
-    }
-    99
-}
-
-// Opens a memory, or calls one, in buffers of just the lengths that the counts of chunks, pages and journal words ask.
-// A refused call must leave all four as they were.
+// Opens a memory, or calls one, in the leading parts of the buffers whose lengths follow from the counts (docs/BUFFERS.md).
 fn lent(
     bytes: &mut [u8],
     keys: &mut [u64],
@@ -148,23 +174,72 @@ fn lent(
     let c = small(run.chunks);
     let p = small(run.pages);
     let j = small(run.room);
-    let b = least(256 * c + 64 * j, bytes.len());
-    let k = least(c + p + 4, keys.len());
-    let o = least(3 * c + p + 4, order.len());
-    let w = least(16 + 6 * j, words.len());
-    let before = buffers::checksum(bytes, keys, order, words);
-    let got = called(
+    let b = least(buffers::CHUNK * c + buffers::OLD_BYTES * j, bytes.len());
+    let k = least(c + p + buffers::FIXED_PAGES, keys.len());
+    let o = least(
+        buffers::ORDER_PLACES * c + p + buffers::FIXED_PAGES,
+        order.len(),
+    );
+    let w = least(buffers::HEAD + buffers::NOTES * j, words.len());
+    called(
         &mut bytes[0..b],
         &mut keys[0..k],
         &mut order[0..o],
         &mut words[0..w],
         line,
-    );
+    )
+}
+
+// What a line returned. A refused call must leave the buffers as they were, those past the memory's own parts too.
+fn kept(
+    bytes: &mut [u8; buffers::BYTES_LENGTH],
+    keys: &mut [u64; buffers::KEYS_LENGTH],
+    order: &mut [u32; buffers::ORDER_LENGTH],
+    words: &mut [u64; buffers::WORDS_LENGTH],
+    run: Run,
+    line: Line,
+) -> Got {
+    let before = buffers::checksum(bytes, keys, order, words);
+    let got = lent(bytes, keys, order, words, run, line);
     let after = buffers::checksum(bytes, keys, order, words);
     Got {
         refusal: unchanged(got.refusal, before, after),
         value: got.value,
     }
+}
+
+// Opens a memory as a line says.
+fn opened(
+    bytes: &mut [u8],
+    keys: &mut [u64],
+    order: &mut [u32],
+    words: &mut [u64],
+    n: [u64; PLACES],
+) -> Got {
+    step::open(
+        bytes,
+        keys,
+        order,
+        words,
+        layout_of(n),
+        n[CHUNKS],
+        n[PAGES],
+        n[ROOM],
+        n[CALLDATA],
+    )
+}
+
+// Damages a memory as a line says.
+fn damaged(
+    bytes: &mut [u8],
+    keys: &mut [u64],
+    order: &mut [u32],
+    words: &mut [u64],
+    n: [u64; PLACES],
+) -> Got {
+    let count = (n[3] % DAMAGED) as usize;
+    let letter = (n[4] % 256) as u8;
+    damage::refused(bytes, keys, order, words, n[1], n[2], letter, count)
 }
 
 // The call of a line.
@@ -177,40 +252,26 @@ fn called(
 ) -> Got {
     let n = line.numbers;
     let call = line.call;
-    if call == b'o' {
-        return step::open(
-            bytes,
-            keys,
-            order,
-            words,
-            layout_of(n),
-            n[7],
-            n[8],
-            n[9],
-            n[10],
-        );
+    match call {
+        b'o' => opened(bytes, keys, order, words, n),
+        b'x' => damaged(bytes, keys, order, words, n),
+        _ => step::step(bytes, keys, order, words, call, n[1], n[2], n[3]),
     }
-    if call == b'x' {
-        let count = (n[3] % 2000) as usize;
-        let letter = (n[4] % 256) as u8;
-        return damage::refused(bytes, keys, order, words, n[1], n[2], letter, count);
-    }
-    step::step(bytes, keys, order, words, call, n[1], n[2], n[3])
 }
 
-// The counts that an opening asks; any other line keeps those of the open memory.
+// The counts of an opening; any other line keeps those of the open memory.
 fn sized(run: Run, line: Line) -> Run {
     let n = line.numbers;
     let mut next = run;
     if line.call == b'o' {
-        next.chunks = n[7];
-        next.pages = n[8];
-        next.room = n[9];
+        next.chunks = n[CHUNKS];
+        next.pages = n[PAGES];
+        next.room = n[ROOM];
     }
     next
 }
 
-// Prints what a line gave that was wrong.
+// Prints what a line returned that was wrong.
 fn print_wrong(call: u8, got: Got) {
     let text = [call];
     let refusal = got.refusal;
@@ -224,13 +285,13 @@ fn print_wrong(call: u8, got: Got) {
     io::write_all(1, b") ");
 }
 
-// Compares what a line gave with what it must give, and counts it.
+// Compares what a line returned with what it must, and counts it.
 fn judged(run: Run, line: Line, got: Got) -> Run {
     let n = line.numbers;
     let refusal = got.refusal;
     let mut next = run;
-    if refusal as u64 == n[11] {
-        if got.value == n[12] {
+    if refusal as u64 == n[REFUSAL] {
+        if got.value == n[VALUE] {
             next.right = std::num::wrapping_add_u32(run.right, 1);
             return next;
         }
@@ -294,7 +355,7 @@ fn quiet(state: State, byte: u8) -> State {
     }
 }
 
-// A run after a line that gave this; a refused opening keeps the counts of the open memory.
+// A run after a line that returned this; a refused opening keeps the counts of the open memory.
 fn after(run: Run, line: Line, got: Got) -> State {
     let mut next = run;
     if got.refusal == 0 {
@@ -308,10 +369,10 @@ fn after(run: Run, line: Line, got: Got) -> State {
 
 // Takes one byte of the input: the last one of a line carries it out.
 fn take(
-    bytes: &mut [u8],
-    keys: &mut [u64],
-    order: &mut [u32],
-    words: &mut [u64],
+    bytes: &mut [u8; buffers::BYTES_LENGTH],
+    keys: &mut [u64; buffers::KEYS_LENGTH],
+    order: &mut [u32; buffers::ORDER_LENGTH],
+    words: &mut [u64; buffers::WORDS_LENGTH],
     state: State,
     byte: u8,
 ) -> State {
@@ -320,7 +381,7 @@ fn take(
     if !ends_call(line.call, byte) {
         return quiet(state, byte);
     }
-    let got = lent(bytes, keys, order, words, sized(run, line), line);
+    let got = kept(bytes, keys, order, words, sized(run, line), line);
     after(run, line, got)
 }
 
@@ -349,10 +410,10 @@ fn byte_at(input: &[u8], i: usize) -> u8 {
 
 // Walks every line of the first n bytes.
 pub fn walk(
-    bytes: &mut [u8],
-    keys: &mut [u64],
-    order: &mut [u32],
-    words: &mut [u64],
+    bytes: &mut [u8; buffers::BYTES_LENGTH],
+    keys: &mut [u64; buffers::KEYS_LENGTH],
+    order: &mut [u32; buffers::ORDER_LENGTH],
+    words: &mut [u64; buffers::WORDS_LENGTH],
     input: &[u8],
     n: usize,
 ) {

@@ -1,7 +1,6 @@
 // One call of the library, or the change of one element, named by a letter, with numbers for its arguments.
 ghost use Prim.Native.Nat.{_≤_};
 use crate::buffers;
-use outcome::Answer;
 use page_ids::Address;
 use page_ids::Layout;
 use page_ids::PageId;
@@ -47,14 +46,6 @@ pub fn widened(x: u32) -> u64 {
     x as u64
 }
 
-// 0 for a call that was carried out, or the number of its refusal.
-pub fn number(answer: Answer) -> u32 {
-    match answer {
-        Answer::Done => 0,
-        Answer::Refused(n) => n,
-    }
-}
-
 // A small number as a word.
 fn small(low: u64) -> Word {
     let limbs = [low, 0, 0, 0];
@@ -94,7 +85,7 @@ fn write_bytes(
 ) -> u32 {
     let source = [WRITTEN; SOURCE];
     let end = at_most_600(n);
-    number(writes::write_bytes(
+    outcome::status(writes::write_bytes(
         bytes,
         keys,
         order,
@@ -116,7 +107,7 @@ fn allocate_with(
 ) -> u32 {
     let source = [ALLOCATED; SOURCE];
     let end = at_most_600(n);
-    number(writes::allocate_with_content_at(
+    outcome::status(writes::allocate_with_content_at(
         bytes,
         keys,
         order,
@@ -148,7 +139,7 @@ fn write(
     if call == b'b' {
         return write_bytes(bytes, keys, order, words, page, at, x);
     }
-    number(writes::write_u256(
+    outcome::status(writes::write_u256(
         bytes,
         keys,
         order,
@@ -173,10 +164,10 @@ fn change(
     let page = narrow(a);
     match call {
         b'w' | b'c' | b'b' => write(bytes, keys, order, words, call, page, narrow(b), x),
-        b'a' => number(writes::allocate_at(bytes, keys, order, words, PageId(page))),
+        b'a' => outcome::status(writes::allocate_at(bytes, keys, order, words, PageId(page))),
         b'f' => allocate_with(bytes, keys, order, words, page, x),
-        b'u' => number(history::rollback(bytes, keys, order, words, a, b)),
-        _ => number(history::delete_history(bytes, keys, order, words)),
+        b'u' => outcome::status(history::rollback(bytes, keys, order, words, a, b)),
+        _ => outcome::status(history::delete_history(bytes, keys, order, words)),
     }
 }
 
@@ -206,7 +197,7 @@ fn range(
     end: u32,
 ) -> Got {
     let mut out = [0u8; RANGE];
-    let n = number(reads::read_range_big_endian(
+    let n = outcome::status(reads::read_range_big_endian(
         bytes,
         keys,
         order,
@@ -247,7 +238,7 @@ fn chunk<'a>(
     i: usize,
     block: &'a [u8],
 ) -> Got {
-    let n = number(reads::chunk_check(bytes, keys, order, words, PageId(page), k, block));
+    let n = outcome::status(reads::chunk_check(bytes, keys, order, words, PageId(page), k, block));
     let part = reads::chunk(bytes, keys, order, words, PageId(page), k, block);
     Got {
         refusal: told(n, part.len()),
@@ -431,7 +422,7 @@ pub fn open(
 ) -> Got {
     let source = [CALLDATA; SOURCE];
     let end = at_most_600(n);
-    let refusal = number(opening::open(
+    let refusal = outcome::status(opening::open(
         bytes,
         keys,
         order,

@@ -7,12 +7,13 @@ use lib.Dec.{leb, ltb}
 use Rattle.page_ids.specs.Decode.{decoded, isDynamic, isFixed}
 use Rattle.page_ids.specs.declared.Layout.{Layout}
 
--- the fixed page ids in 01's order: 0 static, 1 calldata, 2 bootloader heap, 3 bootloader aux
+-- the fixed page ids in 01's order: 0 static, 1 calldata, 2 bootloader heap, 3 bootloader aux; past these a number that is no page id
 abbrev pub fixedId : Layout → ℕ → ℕ
 fixedId l zero = l .«static_memory» .0
 fixedId l (suc zero) = l .calldata .0
 fixedId l (suc (suc zero)) = l .«bootloader_heap» .0
-fixedId l (suc (suc (suc i))) = l .«bootloader_aux» .0
+fixedId l (suc (suc (suc zero))) = l .«bootloader_aux» .0
+fixedId l (suc (suc (suc (suc i)))) = 4294967296
 
 -- 01's rule of refusal 1, as it holds of a memory: the four fixed page ids are distinct, and the stride is not below 4
 pub record LayoutRule (l : Layout) : Type 0 where

@@ -51,14 +51,15 @@ fixed-named l p false false true d w x y z e = rw (w, x, y)
 fixed-named l p false false false true w x y z e = rw (w, x, y, z)
 fixed-named l p false false false false w x y z e = absurd (false≢true e)
 
-pub fixed-id : (l : Layout) (i : ℕ) → fixed l (fixedId l i) ≡ true
-fixed-id l i = fixed-named l (fixedId l i) _ _ _ _ refl refl refl refl (one i)
+pub fixed-id : (l : Layout) (i : ℕ) → i < 4 → fixed l (fixedId l i) ≡ true
+fixed-id l i h = fixed-named l (fixedId l i) _ _ _ _ refl refl refl refl (one i h)
   where
-    one : (i : ℕ) → (eqb (fixedId l i) (fixedId l 0) || eqb (fixedId l i) (fixedId l 1) || eqb (fixedId l i) (fixedId l 2) || eqb (fixedId l i) (fixedId l 3)) ≡ true
-    one zero = rw (eq-eqb (fixedId l 0) (fixedId l 0) refl)
-    one (suc zero) = simp (eq-eqb (fixedId l 1) (fixedId l 1) refl, or-true)
-    one (suc (suc zero)) = simp (eq-eqb (fixedId l 2) (fixedId l 2) refl, or-true)
-    one (suc (suc (suc i))) = simp (eq-eqb (fixedId l 3) (fixedId l 3) refl, or-true)
+    one : (i : ℕ) → i < 4 → (eqb (fixedId l i) (fixedId l 0) || eqb (fixedId l i) (fixedId l 1) || eqb (fixedId l i) (fixedId l 2) || eqb (fixedId l i) (fixedId l 3)) ≡ true
+    one zero h = rw (eq-eqb (fixedId l 0) (fixedId l 0) refl)
+    one (suc zero) h = simp (eq-eqb (fixedId l 1) (fixedId l 1) refl, or-true)
+    one (suc (suc zero)) h = simp (eq-eqb (fixedId l 2) (fixedId l 2) refl, or-true)
+    one (suc (suc (suc zero))) h = simp (eq-eqb (fixedId l 3) (fixedId l 3) refl, or-true)
+    one (suc (suc (suc (suc i)))) h = absurd (omega arith)
 
 -- and so decodable
 not-none : (d : Page) → isFixed d ≡ true → isNone d ≡ false
@@ -264,12 +265,12 @@ seen-empty s =
 module _ (s : Setting) (calldata : List ℕ) where
   pub seen-fresh : seen s (freshPlain s calldata) ≡ opened s calldata
   seen-fresh =
-      seen-put s (fixedId (s .layout) 1) 0 calldata [] empty (fixed-known s (fixedId (s .layout) 1) (fixed-id (s .layout) 1))
+      seen-put s (fixedId (s .layout) 1) 0 calldata [] empty (fixed-known s (fixedId (s .layout) 1) (fixed-id (s .layout) 1 (omega arith)))
       ∙ ap (written (s .layout) (fixedId (s .layout) 1) 0 calldata []) (seen-empty s)
 
   pub fits-fresh : touchedCount 0 (length calldata) ≤ s .chunks → Fits s (freshPlain s calldata)
   fits-fresh r =
-      let y = fixed-id (s .layout) 1 in
+      let y = fixed-id (s .layout) 1 (omega arith) in
       record {
         chunks =
             let h = length-hold (s .layout .calldata .0) 0 (touchedCount 0 (length calldata)) [] in

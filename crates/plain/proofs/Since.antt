@@ -25,6 +25,7 @@ use Rattle.view.specs.Calls.{Call, Value, Open, Allocate, ReadWord, ReadPartial
 use Rattle.plain.specs.Plain.{Plain, put, putWord, dropping, follow, seen}
 use Rattle.plain.specs.Claim.{Keeps}
 use Rattle.plain.proofs.Undone.{over-page, undone-at, undone-append, undone-write, word-covered, aligned-covered, rolled-own, drop-cut}
+use Rattle.formed.proofs.Pages.{place-lt}
 use Rattle.plain.proofs.Seen.{fixed-id, allocate-dynamic, free-loose, window-loose, truncate-loose}
 
 -- were a rollback to the numbers `to` the next call, it would be carried out, and the journals' pages would have the bytes f
@@ -67,7 +68,7 @@ module _ (l : Layout) (r : LayoutRule l) (to : ℕ → ℕ) where
 
     -- ---- a write whose notes undo it on a journal's page
     module _ (q a : ℕ) (bs : List ℕ) (notes : List Note) (p : Plain) (h : Since l to f p)
-        (undo : (j : ℕ) → q ≡ journalPage l j → (b : ℕ) → undone q notes (over q a bs (p .bytes)) q b ≡ p .bytes q b) where
+        (undo : (j : ℕ) → j < journalCount → q ≡ journalPage l j → (b : ℕ) → undone q notes (over q a bs (p .bytes)) q b ≡ p .bytes q b) where
       journal-own : (j : ℕ) → j < journalCount → q ≡ journalPage l j → (put l q a bs notes p) .journal j ≡ p .journal j ++ notes
       journal-own j k e = rw (lt-ltb j journalCount k, eq-eqb q (journalPage l j) e)
 
@@ -97,7 +98,7 @@ module _ (l : Layout) (r : LayoutRule l) (to : ℕ → ℕ) where
               ∙ ap (λ (n : List Note). undone page n after page b) (drop-append-le (to j) (p .journal j) notes (h .long j k))
               ∙ ap (λ (g : ℕ → ℕ → ℕ). g page b) (undone-append page (drop (to j) (p .journal j)) notes after)
               ∙ undone-at page (drop (to j) (p .journal j)) (undone page notes after) (p .bytes) page b
-              (subst (λ (n : ℕ). undone n notes after n b ≡ p .bytes n b) e (undo j e b))
+              (subst (λ (n : ℕ). undone n notes after n b ≡ p .bytes n b) e (undo j k e b))
 
           other : (q ≡ journalPage l j → ⊥) → rewound l to (put l q a bs notes p) j b ≡ rewound l to p j b
           other ne =
@@ -114,7 +115,7 @@ module _ (l : Layout) (r : LayoutRule l) (to : ℕ → ℕ) where
         since-own p (dropping d u n p) (h .long)
         (λ j b k.
         undone-at (journalPage l j) (drop (to j) (p .journal j)) ((dropping d u n p) .bytes) (p .bytes) (journalPage l j) b
-        (ap (λ (t : Bool). cond t 0 (p .bytes (journalPage l j) b)) (loose (journalPage l j) (b / 256) (fixed-id l (journalPlace j)))))
+        (ap (λ (t : Bool). cond t 0 (p .bytes (journalPage l j) b)) (loose (journalPage l j) (b / 256) (fixed-id l (journalPlace j) (place-lt j k)))))
         h
 
     -- ---- a rollback to numbers that are no smaller
@@ -149,7 +150,7 @@ module _ (s : Setting) (r : LayoutRule (s .layout)) (heap aux : ℕ) (f : ℕ �
   since-word : (q a n : ℕ) → Since (s .layout) (marks heap aux) f p → Since (s .layout) (marks heap aux) f (putWord (s .layout) q a n p)
   since-word q a n h =
       since-put (s .layout) r (marks heap aux) f q a (wordBytes n) _ p h
-      (λ j w. unfold tab in undone-write q (p .bytes) a (wordBytes n) 1 (λ i. a) (word-covered a (length (wordBytes n)) (digits-long 32 n)))
+      (λ j x w. unfold tab in undone-write q (p .bytes) a (wordBytes n) 1 (λ i. a) (word-covered a (length (wordBytes n)) (digits-long 32 n)))
 
   pub since-follow : (c : Call) → carriedOut (outcomeOf s c (seen s p)) ≡ true → Keeps heap aux c o → Since (s .layout) (marks heap aux) f p
       → Since (s .layout) (marks heap aux) f (follow (s .layout) c p)
@@ -157,7 +158,7 @@ module _ (s : Setting) (r : LayoutRule (s .layout)) (heap aux : ℕ) (f : ℕ �
   -- a fixed page is not allocated, and the journals' are fixed
   since-follow (Allocate q bs) e k h =
       since-put (s .layout) r (marks heap aux) f q 0 bs [] p h
-      (λ j w. absurd (true≢false (sym (fixed-id (s .layout) (journalPlace j)) ∙ ap (fixed (s .layout)) (sym w) ∙ allocate-dynamic s (seen s p) q bs e)))
+      (λ j x w. absurd (true≢false (sym (fixed-id (s .layout) (journalPlace j) (place-lt j x)) ∙ ap (fixed (s .layout)) (sym w) ∙ allocate-dynamic s (seen s p) q bs e)))
   since-follow (ReadWord q a) e k h = h
   since-follow (ReadPartial q x y) e k h = h
   since-follow (ReadRange q x y n) e k h = h
@@ -166,7 +167,7 @@ module _ (s : Setting) (r : LayoutRule (s .layout)) (heap aux : ℕ) (f : ℕ �
   since-follow (WriteWord q a n) e k h = since-word q a n h
   since-follow (WriteBytes q a bs) e k h =
       since-put (s .layout) r (marks heap aux) f q a bs _ p h
-      (λ j w. undone-write q (p .bytes) a bs (alignedCount a (length bs)) (λ i. 32 * (a / 32 + i)) (aligned-covered a (length bs)))
+      (λ j x w. undone-write q (p .bytes) a bs (alignedCount a (length bs)) (λ i. 32 * (a / 32 + i)) (aligned-covered a (length bs)))
   since-follow (Lookup q n z) e k h = h
   since-follow (LookupCheck q n z) e k h = h
   since-follow (Free q) e k h = since-drop (s .layout) r (marks heap aux) f _ _ (p .dynamicLength) p (λ j i y. free-loose s (seen s p) q e j y) h

@@ -1,15 +1,6 @@
 // The numbers of an answer: a status, and then the values.
 use crate::numbers::Numbers;
-use outcome::Answer;
 use word::Word;
-
-// The status of an answer, which is 0 or a refusal's number.
-pub fn status(answer: Answer) -> u32 {
-    match answer {
-        Answer::Done => 0,
-        Answer::Refused(n) => n,
-    }
-}
 
 // A status and nothing more.
 pub fn alone(status: u32) -> Numbers {

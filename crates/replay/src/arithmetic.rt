@@ -6,9 +6,7 @@ use crate::numbers::Numbers;
 use fat_pointer::FatPointer;
 use page_ids::BaseAnswer;
 use page_ids::BasePage;
-use page_ids::DecodedPage;
 use page_ids::Decoding;
-use page_ids::DynamicPageKind;
 use page_ids::Layout;
 use page_ids::PageAnswer;
 use page_ids::PageId;
@@ -18,39 +16,11 @@ use word::Word;
 
 // ---- page ids
 
-fn dynamic_kind_number(kind: DynamicPageKind) -> u32 {
-    match kind {
-        DynamicPageKind::Code => 0,
-        DynamicPageKind::Heap => 1,
-        DynamicPageKind::Aux => 2,
-    }
-}
-
-// The number of a page's kind, as in page_ids/specs/Decode.antt; 7 where it has none.
-fn kind_number(page: DecodedPage) -> u32 {
-    match page {
-        DecodedPage::Dynamic(kind, _) => dynamic_kind_number(kind),
-        DecodedPage::Static => 3,
-        DecodedPage::BootloaderCalldata => 4,
-        DecodedPage::BootloaderHeap => 5,
-        DecodedPage::BootloaderAuxHeap => 6,
-        DecodedPage::Undecodable => 7,
-    }
-}
-
-// The group of a dynamic page; 0 of any other.
-fn group(page: DecodedPage) -> u32 {
-    match page {
-        DecodedPage::Dynamic(_, group) => group,
-        _ => 0,
-    }
-}
-
 // D page
 fn decode(layout: Layout, page: PageId) -> Numbers {
     match page_ids::decode(layout, page) {
         Decoding::Refused(status) => answers::alone(status),
-        Decoding::Decoded(page) => answers::two(kind_number(page), group(page)),
+        Decoding::Decoded(page) => answers::two(page_ids::kind_number(page), page_ids::group_number(page)),
     }
 }
 

@@ -172,7 +172,7 @@ fn with_content(
 }
 
 fn answered(answer: Answer) -> Numbers {
-    answers::alone(answers::status(answer))
+    answers::alone(outcome::status(answer))
 }
 
 fn on_memory(

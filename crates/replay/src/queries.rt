@@ -84,7 +84,7 @@ fn digest(
         call.end(),
         out,
     );
-    answers::one_or_refusal(answers::status(answer), content::digest(out))
+    answers::one_or_refusal(outcome::status(answer), content::digest(out))
 }
 
 // No answer where the range is too long.
@@ -106,7 +106,7 @@ fn chunk(bytes: &[u8], keys: &[u64], order: &[u32], words: &[u64], call: Call) -
     let number = call.small(CHUNK_NUMBER);
     let answer = reads::chunk_check(bytes, keys, order, words, page, number, &block);
     let found = reads::chunk(bytes, keys, order, words, page, number, &block);
-    answers::one_or_refusal(answers::status(answer), content::digest(found))
+    answers::one_or_refusal(outcome::status(answer), content::digest(found))
 }
 
 // The number of held chunks.

@@ -18,52 +18,45 @@ use Rattle.view.specs.Checks.{Check, ifFormed, wordWriteChecks, byteWrit
 use Rattle.view.specs.Instructions.{Operand, Hook, InstructionResult, heapOf, staticOf, accessChecks, loaded, storeChecks, stored, pointerChecks, pointed, staticChecks, staticLoaded, staticStoreChecks, staticStored}
 
 pub data Call : Type 0 where
-  -- an opening with this setting and calldata
-  Open : Setting → List ℕ → Call
-  -- of a page, with these contents; `allocate_at` has none
-  Allocate : ℕ → List ℕ → Call
-  -- of a page, at an address
-  ReadWord : ℕ → ℕ → Call
-  -- of a page, from a start to an end
-  ReadPartial : ℕ → ℕ → ℕ → Call
-  -- the same, into an output of this length
-  ReadRange : ℕ → ℕ → ℕ → ℕ → Call
-  ReadByte : ℕ → ℕ → Call
+  Open : (setting : Setting) (calldata : List ℕ) → Call
+  -- with these contents; `allocate_at` has none
+  Allocate : (page : ℕ) (contents : List ℕ) → Call
+  ReadWord : (page address : ℕ) → Call
+  ReadPartial : (page start end : ℕ) → Call
+  -- into an output of this length
+  ReadRange : (page start end outputLength : ℕ) → Call
+  ReadByte : (page address : ℕ) → Call
   DynamicLength : Call
-  -- to a page, at an address: a word's number, or bytes
-  WriteWord : ℕ → ℕ → ℕ → Call
-  WriteBytes : ℕ → ℕ → List ℕ → Call
-  -- of a page, a chunk number, with this zero block
-  Lookup : ℕ → ℕ → List ℕ → Call
-  LookupCheck : ℕ → ℕ → List ℕ → Call
-  -- of a page
-  Free : ℕ → Call
-  -- of a page: a start and a length
-  Window : ℕ → ℕ → ℕ → Call
-  -- to a dynamic length
-  Truncate : ℕ → Call
+  WriteWord : (page address word : ℕ) → Call
+  WriteBytes : (page start : ℕ) (source : List ℕ) → Call
+  -- with this zero block
+  Lookup : (page chunk : ℕ) (block : List ℕ) → Call
+  LookupCheck : (page chunk : ℕ) (block : List ℕ) → Call
+  Free : (page : ℕ) → Call
+  Window : (page start length : ℕ) → Call
+  Truncate : (length : ℕ) → Call
   -- with another memory, of which nothing is known: this one on the left, on the right, on both sides
-  CompareLeft : Mem → Call
-  CompareRight : Mem → Call
+  CompareLeft : (other : Mem) → Call
+  CompareRight : (other : Mem) → Call
   CompareBoth : Call
   Snapshot : Call
-  Rollback : ℕ → ℕ → Call
+  Rollback : (heap aux : ℕ) → Call
   DeleteHistory : Call
-  -- the instructions: of an area, a frame and an operand; a store also of a word's number, and of the hook
-  Load : Area → Frame → Operand → Call
-  Store : Area → Frame → Operand → ℕ → Hook → Call
-  LoadPointer : Frame → Operand → Call
-  LoadStatic : Frame → Operand → Call
-  StoreStatic : Frame → Operand → ℕ → Call
+  -- the instructions
+  Load : (area : Area) (frame : Frame) (operand : Operand) → Call
+  Store : (area : Area) (frame : Frame) (operand : Operand) (word : ℕ) (hook : Hook) → Call
+  LoadPointer : (frame : Frame) (operand : Operand) → Call
+  LoadStatic : (frame : Frame) (operand : Operand) → Call
+  StoreStatic : (frame : Frame) (operand : Operand) (word : ℕ) → Call
 
 pub data Value : Type 0 where
   nothing : Value
-  -- by an instruction
-  instructionResult : InstructionResult → Value
-  number : ℕ → Value
-  lengths : ℕ → ℕ → Value
-  bytes : List ℕ → Value
-  verdict : Bool → Value
+  instructionResult : (result : InstructionResult) → Value
+  number : (n : ℕ) → Value
+  -- of the journals of the bootloader heap and of the bootloader aux heap
+  lengths : (heap aux : ℕ) → Value
+  bytes : (bs : List ℕ) → Value
+  verdict : (equal : Bool) → Value
 
 -- two settings ask for buffers of the same lengths
 abbrev pub sameLengths : Setting → Setting → Bool

@@ -10,6 +10,7 @@ use native.Mathlib.Omega.{arith}
 use lib.Dec.{ltb}
 use lib.ListN.{length, getD, take}
 use lib.Seq.{getD-take}
+use Rattle.formed.proofs.Sizes.{lengths-kept}
 use Rattle.store.specs.Keys.{keyChunk}
 use Rattle.index.proofs.Logic.{lt-or-ge}
 use Rattle.store.specs.Mem.{Mem, mem, slotCount, journalLength, chunks}
@@ -71,17 +72,7 @@ module _ (m : Mem) (f : WellFormed m) (bytes' : List ℕ) (kept : Bodies m bytes
       let g = facts-of m f in
       let l = g .lengths in
       formed-by (withBytes m bytes') record {
-        lengths = record {
-          slots-lo = l .slots-lo;
-          slots-hi = l .slots-hi;
-          pages-lo = l .pages-lo;
-          pages-hi = l .pages-hi;
-          journal-hi = l .journal-hi;
-          in-bytes = kept .long ∙ l .in-bytes;
-          in-keys = l .in-keys;
-          in-order = l .in-order;
-          in-words = l .in-words;
-        };
+        lengths = lengths-kept m (withBytes m bytes') (record { slots = refl; pages = refl; journals = refl; bytes-long = kept .long; keys-long = refl; order-long = refl; words-long = refl }) l;
         layout = g .layout;
         layout-width = g .layout-width;
         length-width = g .length-width;

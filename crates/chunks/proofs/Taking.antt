@@ -23,7 +23,7 @@ use Rattle.store.proofs.Holds.{cut-keys}
 use Rattle.formed.specs.Pages.{LayoutRule, dynamic, group, journalCount, journalPlace}
 use Rattle.formed.specs.Parts.{tab, Note, entryOf, allocated, slotOfChunk, holds, byteAt, journal, noteAt, noteAddress, noteFirst, noteLast, oldAt}
 use Rattle.formed.specs.WellFormed.{WellFormed, Lengths, NotedRight, holder, slotByte}
-use Rattle.formed.proofs.Sizes.{holders-long, chunks-long}
+use Rattle.formed.proofs.Sizes.{holders-long, chunks-long, lengths-kept}
 use Rattle.formed.proofs.Same.{layout-same, tab-same}
 use Rattle.formed.proofs.Keys.{le-or-gt, in-table}
 use Rattle.formed.proofs.Facts.{Facts, PageRight, SlotRight}
@@ -128,24 +128,7 @@ module _ (bytes keys order words keys' order' words' : List ℕ) (f : WellFormed
   -- ---- it is well formed
   lengths' : Lengths m'
   lengths' =
-      let c = slots-same in
-      let p = pages-same in
-      let r = room-same in
-      let k = t .keys-long in
-      let o = t .order-long in
-      let w = t .words-long in
-      let l = f .lengths in
-      record {
-        slots-lo = let h = l .slots-lo in omega arith;
-        slots-hi = let h = l .slots-hi in omega arith;
-        pages-lo = let h = l .pages-lo in omega arith;
-        pages-hi = let h = l .pages-hi in omega arith;
-        journal-hi = let h = l .journal-hi in omega arith;
-        in-bytes = let h = l .in-bytes in omega arith;
-        in-keys = let h = l .in-keys in omega arith;
-        in-order = let h = l .in-order in omega arith;
-        in-words = let h = l .in-words in omega arith;
-      }
+      lengths-kept m m' (record { slots = slots-same; pages = pages-same; journals = room-same; bytes-long = refl; keys-long = t .keys-long; order-long = t .order-long; words-long = t .words-long }) (f .lengths)
 
   listed' : (e : ℕ) → 4 ≤ e → 0 < getD (entries m') e 0 → PageRight words' (getD (entries m') e 0)
   listed' e ge p =

@@ -17,7 +17,7 @@ use Rattle.store.specs.Mem.{Mem, layoutOf, slotCount, journalWords, journalLeng
 use Rattle.formed.specs.Pages.{LayoutRule, dynamic, group, journalCount, journalPlace}
 use Rattle.formed.specs.Parts.{Note, tab, entryOf, allocated, slotOfChunk, holds, byteAt, journal, noteAt, noteAddress, noteFirst, noteLast, oldAt}
 use Rattle.formed.specs.WellFormed.{WellFormed, Lengths, NotedRight, HeldAt, holder, slotByte}
-use Rattle.formed.proofs.Sizes.{holders-long}
+use Rattle.formed.proofs.Sizes.{holders-long, lengths-kept}
 use Rattle.formed.proofs.Same.{layout-same, tab-same}
 use Rattle.formed.proofs.Keys.{in-table, key-entry}
 use Rattle.formed.proofs.Pages.{place-lt}
@@ -88,25 +88,7 @@ module _ (P U : ℕ → Bool) (m m' : Mem) (f : WellFormed m) (t : Thinned P U m
   -- ---- it is well formed
   lengths' : Lengths m'
   lengths' =
-      let c = slots-same in
-      let p = words-same 7 (omega arith) in
-      let r = room-same in
-      let b = t .bytes-long in
-      let k = t .keys-long in
-      let o = t .order-long in
-      let w = t .words-long in
-      let l = f .lengths in
-      record {
-        slots-lo = let h = l .slots-lo in omega arith;
-        slots-hi = let h = l .slots-hi in omega arith;
-        pages-lo = let h = l .pages-lo in omega arith;
-        pages-hi = let h = l .pages-hi in omega arith;
-        journal-hi = let h = l .journal-hi in omega arith;
-        in-bytes = let h = l .in-bytes in omega arith;
-        in-keys = let h = l .in-keys in omega arith;
-        in-order = let h = l .in-order in omega arith;
-        in-words = let h = l .in-words in omega arith;
-      }
+      lengths-kept m m' (record { slots = slots-same; pages = words-same 7 (omega arith); journals = room-same; bytes-long = t .bytes-long; keys-long = t .keys-long; order-long = t .order-long; words-long = t .words-long }) (f .lengths)
 
   entry-kept : (e : ℕ) → U (getD (entries m) e 0) ≡ false → getD (entries m') e 0 ≡ getD (entries m) e 0
   entry-kept e n = kept (U (getD (entries m) e 0)) _ _ (t .pages e) n

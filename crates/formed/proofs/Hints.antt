@@ -1,6 +1,6 @@
 -- Hints: what a search by hint asks, and that a memory means the same with other hints.
 -- Assumes nothing.
-use mathlib.Core.Path.{_≡_, sym, _∙_}
+use mathlib.Core.Path.{_≡_, refl, sym, _∙_}
 use mathlib.Core.List.{List}
 use Prim.Native.Nat.{ℕ, _+_, _≤_}
 use native.Mathlib.Omega.{arith}
@@ -15,7 +15,7 @@ use Rattle.store.specs.Find.{slotFor, Findable, Learnt}
 use Rattle.formed.specs.Parts.{slotOfChunk}
 use Rattle.formed.specs.WellFormed.{WellFormed}
 use Rattle.formed.proofs.Facts.{Facts}
-use Rattle.formed.proofs.Sizes.{holders-long, entries-long}
+use Rattle.formed.proofs.Sizes.{holders-long, entries-long, lengths-kept}
 use Rattle.formed.proofs.Asks.{slots-asked, pages-asked}
 use Rattle.formed.proofs.Meaning.{facts-of, formed-by}
 
@@ -48,7 +48,7 @@ module _ (m : Mem) (f : WellFormed m) where
 
     pub learnt-formed : WellFormed m'
     learnt-formed = formed-by m' record {
-      lengths = let l = g .lengths in record { slots-lo = l .slots-lo; slots-hi = l .slots-hi; pages-lo = l .pages-lo; pages-hi = l .pages-hi; journal-hi = l .journal-hi; in-bytes = l .in-bytes; in-keys = l .in-keys; in-order = h .long ∙ l .in-order; in-words = l .in-words };
+      lengths = lengths-kept m m' (record { slots = refl; pages = refl; journals = refl; bytes-long = refl; keys-long = refl; order-long = h .long; words-long = refl }) (g .lengths);
       layout = g .layout;
       layout-width = g .layout-width;
       length-width = g .length-width;

@@ -202,3 +202,30 @@ module _ (w : List ℕ) where
 
   pub narrow-test : ((i : ℕ) → i < 6 → getD w i 0 ≤ 4294967295) → dynamicLength w ≤ 4294967295 → narrow w ≡ true
   narrow-test h d = narrow-by (h 0 (omega arith)) (h 1 (omega arith)) (h 2 (omega arith)) (h 3 (omega arith)) (h 4 (omega arith)) (h 5 (omega arith)) d
+
+-- ---- buffers of the same lengths and counts: whoever changes a memory cites this
+pub record SameSizes (m m' : Mem) : Type 0 where
+  pub slots : slotCount (m' .words) ≡ slotCount (m .words)
+  pub pages : pageCount (m' .words) ≡ pageCount (m .words)
+  pub journals : journalWords (m' .words) ≡ journalWords (m .words)
+  pub bytes-long : length (m' .bytes) ≡ length (m .bytes)
+  pub keys-long : length (m' .keys) ≡ length (m .keys)
+  pub order-long : length (m' .order) ≡ length (m .order)
+  pub words-long : length (m' .words) ≡ length (m .words)
+
+pub lengths-kept : (m m' : Mem) → SameSizes m m' → Lengths m → Lengths m'
+lengths-kept m m' e l =
+    let c = e .slots in
+    let p = e .pages in
+    let j = e .journals in
+    record {
+      slots-lo = let h = l .slots-lo in omega arith;
+      slots-hi = let h = l .slots-hi in omega arith;
+      pages-lo = let h = l .pages-lo in omega arith;
+      pages-hi = let h = l .pages-hi in omega arith;
+      journal-hi = let h = l .journal-hi in omega arith;
+      in-bytes = let h = l .in-bytes in let k = e .bytes-long in omega arith;
+      in-keys = let h = l .in-keys in let k = e .keys-long in omega arith;
+      in-order = let h = l .in-order in let k = e .order-long in omega arith;
+      in-words = let h = l .in-words in let k = e .words-long in omega arith;
+    }

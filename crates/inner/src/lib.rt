@@ -9,7 +9,7 @@ ghost use Rattle.view.specs.View.{settingOf, viewOf};
 ghost use Rattle.view.specs.Checks.{wordWriteChecks, byteWriteChecks};
 ghost use Rattle.journal.specs.Steps.{RollBackAsks};
 ghost use Rattle.drops.specs.Drops.{PageAsks};
-use outcome::Answer;
+use page_ids::Address;
 use page_ids::BasePage;
 use page_ids::Layout;
 use page_ids::PageId;
@@ -64,8 +64,8 @@ pub extern "C" fn in_read_words(
     let mut i: usize = 0;
     while i < places.len() {
         let place = places[i];
-        let page = (place / 4294967296) as u32;
-        let address = (place % 4294967296) as u32;
+        let page = PageId((place / 4294967296) as u32);
+        let address = Address((place % 4294967296) as u32);
         let read = reads::steps::read_word(bytes, keys, order, words, page, address);
         put(out, 4 * i, word::from_big_endian(read));
         i += 1;
@@ -85,7 +85,7 @@ pub extern "C" fn in_read_range(
     requires { ⌜ WellFormed (mem (now bytes) (now keys) (now order) (now words)) ⌝ }
     requires { ⌜ length (now out) ≤ 4294967296 ⌝ }
 {
-    reads::steps::read_into(bytes, keys, order, words, page, start, out);
+    reads::steps::read_into(bytes, keys, order, words, PageId(page), Address(start), out);
 }
 
 #[no_mangle]
@@ -105,7 +105,15 @@ pub extern "C" fn in_write_word(
 {
     let limbs = [limb0, limb1, limb2, limb3];
     let value = word::to_big_endian(Word { limbs: limbs });
-    writes::steps::write_word(bytes, keys, order, words, page, address, value);
+    writes::steps::write_word(
+        bytes,
+        keys,
+        order,
+        words,
+        PageId(page),
+        Address(address),
+        value,
+    );
 }
 
 #[no_mangle]
@@ -120,7 +128,7 @@ pub extern "C" fn in_write_range(
 )
     requires { ⌜ (WellFormed (mem (now bytes) (now keys) (now order) (now words))) × (firstRefusal (byteWriteChecks (settingOf (mem (now bytes) (now keys) (now order) (now words))) (viewOf (mem (now bytes) (now keys) (now order) (now words))) page start (length (now src))) ≡ 0) ⌝ }
 {
-    writes::steps::write_range(bytes, keys, order, words, page, start, src);
+    writes::steps::write_range(bytes, keys, order, words, PageId(page), Address(start), src);
 }
 
 #[no_mangle]
@@ -133,7 +141,7 @@ pub extern "C" fn in_free_page(
 )
     requires { ⌜ PageAsks (mem (now bytes) (now keys) (now order) (now words)) page ⌝ }
 {
-    drops::free_page(bytes, keys, order, words, page);
+    drops::free_page(bytes, keys, order, words, PageId(page));
 }
 
 #[no_mangle]

@@ -1,6 +1,6 @@
 -- A memory whose keys and order are as they were, as are the first 12 numbers of its head and the bytes of its chunks: all that changes is its journals.
 -- Assumes nothing.
-use mathlib.Core.Path.{_≡_, sym, ap, _∙_, subst}
+use mathlib.Core.Path.{_≡_, sym, ap, _∙_, subst, refl}
 use mathlib.Core.Bool.{cond}
 use mathlib.Core.List.{List}
 use Prim.Native.Nat.{ℕ, _+_, _*_, _-_, _/_, _%_, _≤_, _<_}
@@ -8,6 +8,7 @@ use native.Mathlib.Omega.{arith}
 use lib.Dec.{ltb, leb}
 use lib.ListN.{length, getD, take, drop}
 use lib.Seq.{getD-take, length-take-le, ext-getD}
+use Rattle.formed.proofs.Sizes.{lengths-kept}
 use Rattle.store.specs.Keys.{keyOf, keyEntry}
 use Rattle.page_ids.specs.declared.Layout.{Layout}
 use Rattle.index.specs.Index.{indexed, seek, freeCount}
@@ -129,21 +130,7 @@ module _ (bytes keys order words bytes' words' : List ℕ) (f : Facts (mem bytes
 
   same-lengths : Lengths m'
   same-lengths =
-      let l = f .lengths in
-      let p = head 7 (omega arith) in
-      let cc = c in
-      let rr = r in
-      record {
-        slots-lo = let h = l .slots-lo in omega arith;
-        slots-hi = let h = l .slots-hi in omega arith;
-        pages-lo = let h = l .pages-lo in omega arith;
-        pages-hi = let h = l .pages-hi in omega arith;
-        journal-hi = let h = l .journal-hi in omega arith;
-        in-bytes = let h = l .in-bytes in omega arith;
-        in-keys = let h = l .in-keys in omega arith;
-        in-order = let h = l .in-order in omega arith;
-        in-words = let h = l .in-words in omega arith;
-      }
+      lengths-kept m m' (record { slots = c; pages = head 7 (omega arith); journals = r; bytes-long = lb; keys-long = refl; order-long = refl; words-long = lw }) (f .lengths)
 
   same-slot : (s k : ℕ) → SlotRight m s k → SlotRight m' s k
   same-slot s k h = record {

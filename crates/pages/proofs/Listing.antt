@@ -25,7 +25,7 @@ use Rattle.formed.specs.WellFormed.{WellFormed, Lengths, ListedPage, NotedRight
 use Rattle.formed.proofs.Bools.{refute, or-off}
 use Rattle.formed.proofs.Keys.{le-or-gt, seek-is, key-entry}
 use Rattle.formed.proofs.Asks.{pages-asked}
-use Rattle.formed.proofs.Sizes.{entries-long}
+use Rattle.formed.proofs.Sizes.{entries-long, lengths-kept}
 use Rattle.formed.proofs.Same.{layout-same}
 use Rattle.formed.proofs.Above.{dynamic-above}
 use Rattle.formed.proofs.Facts.{PageRight, SlotRight, Facts}
@@ -252,14 +252,9 @@ module _ (m : Mem) (p : ℕ) (a : ListAsks m p) where
       journal-long : (j : ℕ) → journalLength words' j ≡ journalLength (m .words) j
       journal-long j = past (12 + j) (omega arith)
 
-      lengths-kept : Lengths m'
-      lengths-kept =
-          let s = a .formed .lengths in
-          let h₆ = six in
-          let h₇ = low 7 (omega arith) in
-          let h₈ = eight in
-          let w = words-long in
-          record { slots-lo = omega arith; slots-hi = omega arith; pages-lo = omega arith; pages-hi = omega arith; journal-hi = omega arith; in-bytes = omega arith; in-keys = omega arith; in-order = omega arith; in-words = omega arith }
+      lengths' : Lengths m'
+      lengths' =
+          lengths-kept m m' (record { slots = six; pages = low 7 (omega arith); journals = eight; bytes-long = refl; keys-long = lk; order-long = lo; words-long = words-long }) (a .formed .lengths)
 
       high-width : high ≤ 4294967295
       high-width =
@@ -272,7 +267,7 @@ module _ (m : Mem) (p : ℕ) (a : ListAsks m p) where
 
       new-facts : Facts m'
       new-facts = record {
-        lengths = lengths-kept;
+        lengths = lengths';
         layout = subst LayoutRule (sym layout-kept) (f .layout);
         layout-width = λ i x. let h = low i (omega arith) in let w = f .layout-width i x in omega arith;
         length-width = let e = eleven in let w = high-width in omega arith;

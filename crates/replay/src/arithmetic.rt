@@ -20,7 +20,10 @@ use word::Word;
 fn decode(layout: Layout, page: PageId) -> Numbers {
     match page_ids::decode(layout, page) {
         Decoding::Refused(status) => answers::alone(status),
-        Decoding::Decoded(page) => answers::two(page_ids::kind_number(page), page_ids::group_number(page)),
+        Decoding::Decoded(page) => answers::two(
+            page_ids::kind_number(page),
+            page_ids::group_number(page),
+        ),
     }
 }
 

@@ -6,6 +6,7 @@ use Prim.Native.Nat.{ℕ, _+_, _-_, _/_, _≤_, _<_}
 use lib.Dec.{leb, eqb}
 use lib.ListN.{getD}
 use Rattle.page_ids.specs.declared.Layout.{Layout}
+use Rattle.store.specs.Keys.{lastChunk}
 use Rattle.store.specs.Mem.{Mem, layoutOf, pageCount, dynamicLength, entries}
 use Rattle.formed.specs.Pages.{group}
 use Rattle.formed.specs.WellFormed.{WellFormed}
@@ -16,7 +17,7 @@ use Rattle.drops.specs.Drops.{EntriesBut}
 
 -- the first chunk past a window, or past the page
 abbrev pub windowEnd : ℕ → ℕ → ℕ
-windowEnd start n = cond (leb 16777217 (start / 256 + touchedCount start n)) 16777217 (start / 256 + touchedCount start n)
+windowEnd start n = cond (leb (lastChunk + 1) (start / 256 + touchedCount start n)) (lastChunk + 1) (start / 256 + touchedCount start n)
 
 -- the pages of groups from n up are freed; the dynamic length is as it was
 abbrev pub emptied : Setting → ℕ → View → View

@@ -5,7 +5,6 @@ use Rattle.view.specs.Checks.{freeChecks}
 use Rattle.view.specs.View.{settingOf, viewOf}
 use Rattle.store.specs.Mem.{mem}
 use mathlib.Core.Path.{sym, _∙_}
-use Prim.Native.Nat.{_-_}
 use borrow.Author.Needs.{needs}
 use Rattle.freeing.proofs.deallocate.Statement.{statement}
 use Rattle.freeing.proofs.deallocate.Tie as tie
@@ -15,14 +14,16 @@ returns c =
     let at-if1 = c in
     let at-free-refusal = at-if1 .before in
     let start = at-free-refusal .before .before .before .before .before .before .before .before .before in
-    refused-does (mem (start .args .bytes .now) (start .args .keys .now) (start .args .order .now) (start .args .words .now)) (freeChecks (settingOf (mem (start .args .bytes .now) (start .args .keys .now) (start .args .order .now) (start .args .words .now))) (viewOf (mem (start .args .bytes .now) (start .args .keys .now) (start .args .order .now) (start .args .words .now))) (start .args .page .0)) (settingOf (mem (start .args .bytes .now) (start .args .keys .now) (start .args .order .now) (start .args .words .now))) (nextOf (settingOf (mem (start .args .bytes .now) (start .args .keys .now) (start .args .order .now) (start .args .words .now))) (Call.Free (start .args .page .0)) (viewOf (mem (start .args .bytes .now) (start .args .keys .now) (start .args .order .now) (start .args .words .now)))) _ (at-free-refusal .free-refusal .ensures) (at-if1 .if1 .taken)
+    let m = mem (start .args .bytes .now) (start .args .keys .now) (start .args .order .now) (start .args .words .now) in
+    refused-does m (freeChecks (settingOf m) (viewOf m) (start .args .page .0)) (settingOf m) (nextOf (settingOf m) (Call.Free (start .args .page .0)) (viewOf m)) _ (at-free-refusal .free-refusal .ensures) (at-if1 .if1 .taken)
 
 free-page-requires : tie.Need-free-page-requires
 free-page-requires c κs =
     let at-if1 = c .before .before .before .before in
     let at-free-refusal = at-if1 .before in
     let start = at-free-refusal .before .before .before .before .before .before .before .before .before in
-    let h = passed-formed (mem (start .args .bytes .now) (start .args .keys .now) (start .args .order .now) (start .args .words .now)) (freeChecks (settingOf (mem (start .args .bytes .now) (start .args .keys .now) (start .args .order .now) (start .args .words .now))) (viewOf (mem (start .args .bytes .now) (start .args .keys .now) (start .args .order .now) (start .args .words .now))) (start .args .page .0)) (settingOf (mem (start .args .bytes .now) (start .args .keys .now) (start .args .order .now) (start .args .words .now))) (nextOf (settingOf (mem (start .args .bytes .now) (start .args .keys .now) (start .args .order .now) (start .args .words .now))) (Call.Free (start .args .page .0)) (viewOf (mem (start .args .bytes .now) (start .args .keys .now) (start .args .order .now) (start .args .words .now)))) (sym (at-free-refusal .free-refusal .ensures) ∙ at-if1 .if1 .left) in free-passed (mem (start .args .bytes .now) (start .args .keys .now) (start .args .order .now) (start .args .words .now)) (start .args .page .0) (h .0) (h .1)
+    let m = mem (start .args .bytes .now) (start .args .keys .now) (start .args .order .now) (start .args .words .now) in
+    let h = passed-formed m (freeChecks (settingOf m) (viewOf m) (start .args .page .0)) (settingOf m) (nextOf (settingOf m) (Call.Free (start .args .page .0)) (viewOf m)) (sym (at-free-refusal .free-refusal .ensures) ∙ at-if1 .if1 .left) in free-passed m (start .args .page .0) (h .0) (h .1)
 
 returns-2 : tie.Need-returns-2
 returns-2 c =
@@ -30,7 +31,8 @@ returns-2 c =
     let at-if1 = at-free-page .before .before .before .before .before in
     let at-free-refusal = at-if1 .before in
     let start = at-free-refusal .before .before .before .before .before .before .before .before .before in
-    done-does (mem (start .args .bytes .now) (start .args .keys .now) (start .args .order .now) (start .args .words .now)) (freeChecks (settingOf (mem (start .args .bytes .now) (start .args .keys .now) (start .args .order .now) (start .args .words .now))) (viewOf (mem (start .args .bytes .now) (start .args .keys .now) (start .args .order .now) (start .args .words .now))) (start .args .page .0)) (settingOf (mem (start .args .bytes .now) (start .args .keys .now) (start .args .order .now) (start .args .words .now))) (nextOf (settingOf (mem (start .args .bytes .now) (start .args .keys .now) (start .args .order .now) (start .args .words .now))) (Call.Free (start .args .page .0)) (viewOf (mem (start .args .bytes .now) (start .args .keys .now) (start .args .order .now) (start .args .words .now)))) (free-refusals (settingOf (mem (start .args .bytes .now) (start .args .keys .now) (start .args .order .now) (start .args .words .now))) (viewOf (mem (start .args .bytes .now) (start .args .keys .now) (start .args .order .now) (start .args .words .now))) (start .args .page .0)) (sym (at-free-refusal .free-refusal .ensures) ∙ at-if1 .if1 .left) (at-free-page .free-page .ensures .0)
+    let m = mem (start .args .bytes .now) (start .args .keys .now) (start .args .order .now) (start .args .words .now) in
+    done-does m (freeChecks (settingOf m) (viewOf m) (start .args .page .0)) (settingOf m) (nextOf (settingOf m) (Call.Free (start .args .page .0)) (viewOf m)) (free-refusals (settingOf m) (viewOf m) (start .args .page .0)) (sym (at-free-refusal .free-refusal .ensures) ∙ at-if1 .if1 .left) (at-free-page .free-page .ensures .0)
 
 pub deallocate-spec : {M : Type 1} → statement M
 deallocate-spec =

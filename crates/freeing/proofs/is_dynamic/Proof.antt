@@ -1,7 +1,6 @@
 use Rattle.freeing.proofs.Calls.{is-none, is-fixed, is-dynamic}
 use Rattle.store.specs.Mem.{mem}
 use mathlib.Core.Path.{sym, _∙_}
-use Prim.Native.Nat.{_-_}
 use borrow.Author.Needs.{needs}
 use Rattle.freeing.proofs.is_dynamic.Statement.{statement}
 use Rattle.freeing.proofs.is_dynamic.Tie as tie
@@ -12,7 +11,8 @@ returns c =
     let at-is-undecodable = at-if1 .before in
     let at-decode = at-is-undecodable .before in
     let start = at-decode .before .before .before .before .before in
-    is-none (mem (start .args .bytes .now) (start .args .keys .now) (start .args .order .now) (start .args .words .now)) (start .args .page .0) _ (at-decode .decode .ensures) (sym (at-is-undecodable .is-undecodable .ensures) ∙ at-if1 .if1 .taken)
+    let m = mem (start .args .bytes .now) (start .args .keys .now) (start .args .order .now) (start .args .words .now) in
+    is-none m (start .args .page .0) _ (at-decode .decode .ensures) (sym (at-is-undecodable .is-undecodable .ensures) ∙ at-if1 .if1 .taken)
 
 returns-2 : tie.Need-returns-2
 returns-2 c =
@@ -20,7 +20,8 @@ returns-2 c =
     let at-is-fixed = at-if2 .before in
     let at-decode = at-is-fixed .before .before .before in
     let start = at-decode .before .before .before .before .before in
-    is-fixed (mem (start .args .bytes .now) (start .args .keys .now) (start .args .order .now) (start .args .words .now)) (start .args .page .0) _ (at-decode .decode .ensures) (sym (at-is-fixed .is-fixed .ensures) ∙ at-if2 .if2 .taken)
+    let m = mem (start .args .bytes .now) (start .args .keys .now) (start .args .order .now) (start .args .words .now) in
+    is-fixed m (start .args .page .0) _ (at-decode .decode .ensures) (sym (at-is-fixed .is-fixed .ensures) ∙ at-if2 .if2 .taken)
 
 returns-3 : tie.Need-returns-3
 returns-3 c =
@@ -31,7 +32,8 @@ returns-3 c =
     let at-is-undecodable = at-if1 .before in
     let at-decode = at-is-undecodable .before in
     let start = at-decode .before .before .before .before .before in
-    is-dynamic (mem (start .args .bytes .now) (start .args .keys .now) (start .args .order .now) (start .args .words .now)) (start .args .page .0) _ (at-decode .decode .ensures) (sym (at-is-undecodable .is-undecodable .ensures) ∙ at-if1 .if1 .left) (sym (at-is-fixed .is-fixed .ensures) ∙ at-if2 .if2 .left) _ (at-is-allocated .is-allocated .ensures)
+    let m = mem (start .args .bytes .now) (start .args .keys .now) (start .args .order .now) (start .args .words .now) in
+    is-dynamic m (start .args .page .0) _ (at-decode .decode .ensures) (sym (at-is-undecodable .is-undecodable .ensures) ∙ at-if1 .if1 .left) (sym (at-is-fixed .is-fixed .ensures) ∙ at-if2 .if2 .left) _ (at-is-allocated .is-allocated .ensures)
 
 pub is-dynamic-spec : {M : Type 1} → statement M
 is-dynamic-spec =

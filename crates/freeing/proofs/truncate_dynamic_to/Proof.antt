@@ -5,7 +5,6 @@ use Rattle.view.specs.Checks.{truncateChecks}
 use Rattle.view.specs.View.{settingOf, viewOf}
 use Rattle.store.specs.Mem.{mem}
 use mathlib.Core.Path.{sym, _∙_}
-use Prim.Native.Nat.{_-_}
 use borrow.Author.Needs.{needs}
 use Rattle.freeing.proofs.truncate_dynamic_to.Statement.{statement}
 use Rattle.freeing.proofs.truncate_dynamic_to.Tie as tie
@@ -15,14 +14,16 @@ returns c =
     let at-if1 = c in
     let at-truncate-refusal = at-if1 .before in
     let start = at-truncate-refusal .before .before .before .before .before .before .before .before .before in
-    refused-does (mem (start .args .bytes .now) (start .args .keys .now) (start .args .order .now) (start .args .words .now)) (truncateChecks (viewOf (mem (start .args .bytes .now) (start .args .keys .now) (start .args .order .now) (start .args .words .now))) (start .args .len)) (settingOf (mem (start .args .bytes .now) (start .args .keys .now) (start .args .order .now) (start .args .words .now))) (nextOf (settingOf (mem (start .args .bytes .now) (start .args .keys .now) (start .args .order .now) (start .args .words .now))) (Call.Truncate (start .args .len)) (viewOf (mem (start .args .bytes .now) (start .args .keys .now) (start .args .order .now) (start .args .words .now)))) _ (at-truncate-refusal .truncate-refusal .ensures) (at-if1 .if1 .taken)
+    let m = mem (start .args .bytes .now) (start .args .keys .now) (start .args .order .now) (start .args .words .now) in
+    refused-does m (truncateChecks (viewOf m) (start .args .len)) (settingOf m) (nextOf (settingOf m) (Call.Truncate (start .args .len)) (viewOf m)) _ (at-truncate-refusal .truncate-refusal .ensures) (at-if1 .if1 .taken)
 
 free-groups-requires : tie.Need-free-groups-requires
 free-groups-requires c κs =
     let at-if1 = c .before .before .before .before in
     let at-truncate-refusal = at-if1 .before in
     let start = at-truncate-refusal .before .before .before .before .before .before .before .before .before in
-    passed-formed (mem (start .args .bytes .now) (start .args .keys .now) (start .args .order .now) (start .args .words .now)) (truncateChecks (viewOf (mem (start .args .bytes .now) (start .args .keys .now) (start .args .order .now) (start .args .words .now))) (start .args .len)) (settingOf (mem (start .args .bytes .now) (start .args .keys .now) (start .args .order .now) (start .args .words .now))) (nextOf (settingOf (mem (start .args .bytes .now) (start .args .keys .now) (start .args .order .now) (start .args .words .now))) (Call.Truncate (start .args .len)) (viewOf (mem (start .args .bytes .now) (start .args .keys .now) (start .args .order .now) (start .args .words .now)))) (sym (at-truncate-refusal .truncate-refusal .ensures) ∙ at-if1 .if1 .left) .0
+    let m = mem (start .args .bytes .now) (start .args .keys .now) (start .args .order .now) (start .args .words .now) in
+    passed-formed m (truncateChecks (viewOf m) (start .args .len)) (settingOf m) (nextOf (settingOf m) (Call.Truncate (start .args .len)) (viewOf m)) (sym (at-truncate-refusal .truncate-refusal .ensures) ∙ at-if1 .if1 .left) .0
 
 shorten-requires : tie.Need-shorten-requires
 shorten-requires c κs =
@@ -30,7 +31,8 @@ shorten-requires c κs =
     let at-if1 = at-free-groups .before .before .before .before .before in
     let at-truncate-refusal = at-if1 .before in
     let start = at-truncate-refusal .before .before .before .before .before .before .before .before .before in
-    let h = passed-formed (mem (start .args .bytes .now) (start .args .keys .now) (start .args .order .now) (start .args .words .now)) (truncateChecks (viewOf (mem (start .args .bytes .now) (start .args .keys .now) (start .args .order .now) (start .args .words .now))) (start .args .len)) (settingOf (mem (start .args .bytes .now) (start .args .keys .now) (start .args .order .now) (start .args .words .now))) (nextOf (settingOf (mem (start .args .bytes .now) (start .args .keys .now) (start .args .order .now) (start .args .words .now))) (Call.Truncate (start .args .len)) (viewOf (mem (start .args .bytes .now) (start .args .keys .now) (start .args .order .now) (start .args .words .now)))) (sym (at-truncate-refusal .truncate-refusal .ensures) ∙ at-if1 .if1 .left) in shorten-asked (mem (start .args .bytes .now) (start .args .keys .now) (start .args .order .now) (start .args .words .now)) (start .args .len) (truncate-passed (viewOf (mem (start .args .bytes .now) (start .args .keys .now) (start .args .order .now) (start .args .words .now))) (start .args .len) (h .1)) _ (at-free-groups .free-groups .ensures)
+    let m = mem (start .args .bytes .now) (start .args .keys .now) (start .args .order .now) (start .args .words .now) in
+    let h = passed-formed m (truncateChecks (viewOf m) (start .args .len)) (settingOf m) (nextOf (settingOf m) (Call.Truncate (start .args .len)) (viewOf m)) (sym (at-truncate-refusal .truncate-refusal .ensures) ∙ at-if1 .if1 .left) in shorten-asked m (start .args .len) (truncate-passed (viewOf m) (start .args .len) (h .1)) _ (at-free-groups .free-groups .ensures)
 
 returns-2 : tie.Need-returns-2
 returns-2 c =
@@ -39,7 +41,8 @@ returns-2 c =
     let at-if1 = at-free-groups .before .before .before .before .before in
     let at-truncate-refusal = at-if1 .before in
     let start = at-truncate-refusal .before .before .before .before .before .before .before .before .before in
-    let h = passed-formed (mem (start .args .bytes .now) (start .args .keys .now) (start .args .order .now) (start .args .words .now)) (truncateChecks (viewOf (mem (start .args .bytes .now) (start .args .keys .now) (start .args .order .now) (start .args .words .now))) (start .args .len)) (settingOf (mem (start .args .bytes .now) (start .args .keys .now) (start .args .order .now) (start .args .words .now))) (nextOf (settingOf (mem (start .args .bytes .now) (start .args .keys .now) (start .args .order .now) (start .args .words .now))) (Call.Truncate (start .args .len)) (viewOf (mem (start .args .bytes .now) (start .args .keys .now) (start .args .order .now) (start .args .words .now)))) (sym (at-truncate-refusal .truncate-refusal .ensures) ∙ at-if1 .if1 .left) in done-does (mem (start .args .bytes .now) (start .args .keys .now) (start .args .order .now) (start .args .words .now)) (truncateChecks (viewOf (mem (start .args .bytes .now) (start .args .keys .now) (start .args .order .now) (start .args .words .now))) (start .args .len)) (settingOf (mem (start .args .bytes .now) (start .args .keys .now) (start .args .order .now) (start .args .words .now))) (nextOf (settingOf (mem (start .args .bytes .now) (start .args .keys .now) (start .args .order .now) (start .args .words .now))) (Call.Truncate (start .args .len)) (viewOf (mem (start .args .bytes .now) (start .args .keys .now) (start .args .order .now) (start .args .words .now)))) (truncate-refusals (viewOf (mem (start .args .bytes .now) (start .args .keys .now) (start .args .order .now) (start .args .words .now))) (start .args .len)) (sym (at-truncate-refusal .truncate-refusal .ensures) ∙ at-if1 .if1 .left) (truncated-shows (mem (start .args .bytes .now) (start .args .keys .now) (start .args .order .now) (start .args .words .now)) (start .args .len) (truncate-passed (viewOf (mem (start .args .bytes .now) (start .args .keys .now) (start .args .order .now) (start .args .words .now))) (start .args .len) (h .1)) _ (at-free-groups .free-groups .ensures) _ (at-shorten .shorten .ensures))
+    let m = mem (start .args .bytes .now) (start .args .keys .now) (start .args .order .now) (start .args .words .now) in
+    let h = passed-formed m (truncateChecks (viewOf m) (start .args .len)) (settingOf m) (nextOf (settingOf m) (Call.Truncate (start .args .len)) (viewOf m)) (sym (at-truncate-refusal .truncate-refusal .ensures) ∙ at-if1 .if1 .left) in done-does m (truncateChecks (viewOf m) (start .args .len)) (settingOf m) (nextOf (settingOf m) (Call.Truncate (start .args .len)) (viewOf m)) (truncate-refusals (viewOf m) (start .args .len)) (sym (at-truncate-refusal .truncate-refusal .ensures) ∙ at-if1 .if1 .left) (truncated-shows m (start .args .len) (truncate-passed (viewOf m) (start .args .len) (h .1)) _ (at-free-groups .free-groups .ensures) _ (at-shorten .shorten .ensures))
 
 pub truncate-dynamic-to-spec : {M : Type 1} → statement M
 truncate-dynamic-to-spec =

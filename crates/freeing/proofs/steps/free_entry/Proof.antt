@@ -1,6 +1,5 @@
 use Rattle.freeing.proofs.Groups.{entry-in, entry-at, from-asked, at-told, used, few, asked-by, freed-visit, kept-visit}
 use Rattle.store.specs.Mem.{mem}
-use Prim.Native.Nat.{_-_}
 use native.Mathlib.Omega.{arith}
 use borrow.Author.Needs.{needs}
 use Rattle.freeing.proofs.steps.free_entry.Statement.{statement}
@@ -29,28 +28,39 @@ slice-read-x-2 c =
 is-from-requires : tie.Need-is-from-requires
 is-from-requires c κs =
     let start = c .before .before .before .before .before .before .before in
-    from-asked (mem (start .args .bytes .now) (start .args .keys .now) (start .args .order .now) (start .args .words .now)) (start .args .e) (start .pre)
+    let m = mem (start .args .bytes .now) (start .args .keys .now) (start .args .order .now) (start .args .words .now) in
+    from-asked m (start .args .e) (start .pre)
 
-sub-free-page : tie.Need-sub-free-page
-sub-free-page c =
+sub-t27 : tie.Need-sub-t27
+sub-t27 c =
     let at-if1 = c .before .before .before .before in
     let at-is-from = at-if1 .before in
     let start = at-is-from .before .before .before .before .before .before .before .before in
-    let u = used (mem (start .args .bytes .now) (start .args .keys .now) (start .args .order .now) (start .args .words .now)) (start .args .e) (start .pre) (start .args .len) (at-told (mem (start .args .bytes .now) (start .args .keys .now) (start .args .order .now) (start .args .words .now)) (start .args .e) (start .pre) (start .args .len) _ (at-is-from .is-from .ensures) (at-if1 .if1 .taken)) in let q = entry-at (mem (start .args .bytes .now) (start .args .keys .now) (start .args .order .now) (start .args .words .now)) (start .args .e) (start .pre) in omega arith
+    let m = mem (start .args .bytes .now) (start .args .keys .now) (start .args .order .now) (start .args .words .now) in
+    let told = at-told m (start .args .e) (start .pre) (start .args .len) _ (at-is-from .is-from .ensures) (at-if1 .if1 .taken) in
+    let u = used m (start .args .e) (start .pre) (start .args .len) told in
+    let q = entry-at m (start .args .e) (start .pre) in
+    omega arith
 
-cast-free-page : tie.Need-cast-free-page
-cast-free-page c =
+cast-t28 : tie.Need-cast-t28
+cast-t28 c =
     let at-if1 = c .before .before .before .before in
     let at-is-from = at-if1 .before in
     let start = at-is-from .before .before .before .before .before .before .before .before in
-    let u = few (mem (start .args .bytes .now) (start .args .keys .now) (start .args .order .now) (start .args .words .now)) (start .args .e) (start .pre) (start .args .len) (at-told (mem (start .args .bytes .now) (start .args .keys .now) (start .args .order .now) (start .args .words .now)) (start .args .e) (start .pre) (start .args .len) _ (at-is-from .is-from .ensures) (at-if1 .if1 .taken)) in let q = entry-at (mem (start .args .bytes .now) (start .args .keys .now) (start .args .order .now) (start .args .words .now)) (start .args .e) (start .pre) in omega arith
+    let m = mem (start .args .bytes .now) (start .args .keys .now) (start .args .order .now) (start .args .words .now) in
+    let told = at-told m (start .args .e) (start .pre) (start .args .len) _ (at-is-from .is-from .ensures) (at-if1 .if1 .taken) in
+    let u = few m (start .args .e) (start .pre) (start .args .len) told in
+    let q = entry-at m (start .args .e) (start .pre) in
+    omega arith
 
 free-page-requires : tie.Need-free-page-requires
 free-page-requires c κs =
     let at-if1 = c .before .before .before .before in
     let at-is-from = at-if1 .before in
     let start = at-is-from .before .before .before .before .before .before .before .before in
-    asked-by (mem (start .args .bytes .now) (start .args .keys .now) (start .args .order .now) (start .args .words .now)) (start .args .e) (start .pre) (start .args .len) (at-told (mem (start .args .bytes .now) (start .args .keys .now) (start .args .order .now) (start .args .words .now)) (start .args .e) (start .pre) (start .args .len) _ (at-is-from .is-from .ensures) (at-if1 .if1 .taken))
+    let m = mem (start .args .bytes .now) (start .args .keys .now) (start .args .order .now) (start .args .words .now) in
+    let told = at-told m (start .args .e) (start .pre) (start .args .len) _ (at-is-from .is-from .ensures) (at-if1 .if1 .taken) in
+    asked-by m (start .args .e) (start .pre) (start .args .len) told
 
 returns : tie.Need-returns
 returns c =
@@ -58,14 +68,17 @@ returns c =
     let at-if1 = at-free-page .before .before .before .before .before in
     let at-is-from = at-if1 .before in
     let start = at-is-from .before .before .before .before .before .before .before .before in
-    freed-visit (mem (start .args .bytes .now) (start .args .keys .now) (start .args .order .now) (start .args .words .now)) (start .args .e) (start .pre) (start .args .len) (at-told (mem (start .args .bytes .now) (start .args .keys .now) (start .args .order .now) (start .args .words .now)) (start .args .e) (start .pre) (start .args .len) _ (at-is-from .is-from .ensures) (at-if1 .if1 .taken)) _ (at-free-page .free-page .ensures)
+    let m = mem (start .args .bytes .now) (start .args .keys .now) (start .args .order .now) (start .args .words .now) in
+    let told = at-told m (start .args .e) (start .pre) (start .args .len) _ (at-is-from .is-from .ensures) (at-if1 .if1 .taken) in
+    freed-visit m (start .args .e) (start .pre) (start .args .len) told _ (at-free-page .free-page .ensures)
 
 returns-2 : tie.Need-returns-2
 returns-2 c =
     let at-if1 = c in
     let at-is-from = at-if1 .before in
     let start = at-is-from .before .before .before .before .before .before .before .before in
-    kept-visit (mem (start .args .bytes .now) (start .args .keys .now) (start .args .order .now) (start .args .words .now)) (start .args .e) (start .pre) (start .args .len) _ (at-is-from .is-from .ensures) (at-if1 .if1 .left)
+    let m = mem (start .args .bytes .now) (start .args .keys .now) (start .args .order .now) (start .args .words .now) in
+    kept-visit m (start .args .e) (start .pre) (start .args .len) _ (at-is-from .is-from .ensures) (at-if1 .if1 .left)
 
 pub free-entry-spec : {M : Type 1} → statement M
 free-entry-spec =
@@ -76,8 +89,8 @@ free-entry-spec =
     mul-x
     slice-read-x-2
     is-from-requires
-    sub-free-page
-    cast-free-page
+    sub-t27
+    cast-t28
     free-page-requires
     (λ c. search needs)
     (λ c. search needs)

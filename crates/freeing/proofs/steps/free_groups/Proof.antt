@@ -27,7 +27,8 @@ add-end c =
 loop-holds : tie.Need-loop-holds Inv-loop μ-loop
 loop-holds c =
     let start = c .before .before .before .before .before in
-    (omega arith, omega arith, refl, freeing-none (mem (start .args .bytes .now) (start .args .keys .now) (start .args .order .now) (start .args .words .now)) (start .args .len) (start .pre))
+    let m = mem (start .args .bytes .now) (start .args .keys .now) (start .args .order .now) (start .args .words .now) in
+    (omega arith, omega arith, refl, freeing-none m (start .args .len) (start .pre))
 
 free-entry-requires : tie.Need-free-entry-requires Inv-loop μ-loop
 free-entry-requires c κs =

@@ -1,6 +1,5 @@
 use Rattle.store.specs.Mem.{layoutOf}
 use Rattle.freeing.proofs.Groups.{not-told, told-by}
-use Prim.Native.Nat.{_-_}
 use native.Mathlib.Omega.{arith}
 use borrow.Author.Needs.{needs}
 use Rattle.freeing.proofs.steps.is_from.Statement.{statement}

@@ -1,44 +1,29 @@
-use Rattle.freeing.proofs.Windows.{end-top}
-use Rattle.drops.proofs.Drops.{page-still}
-use Rattle.freeing.proofs.Windows.{window-done}
-use Prim.Native.Nat.{_-_}
 use native.Mathlib.Omega.{arith}
 use borrow.Author.Needs.{needs}
+use Rattle.drops.proofs.Drops.{page-still}
+use Rattle.freeing.proofs.Windows.{end-top, window-done}
 use Rattle.freeing.proofs.steps.retain_window.Statement.{statement}
 use Rattle.freeing.proofs.steps.retain_window.Tie as tie
 
-window-end-requires : tie.Need-window-end-requires
-window-end-requires c κs = search needs
-
 drop-chunks-requires : tie.Need-drop-chunks-requires
 drop-chunks-requires c κs =
-    let start = c .before .before .before .before .before .before .before .before .before in
+    let start = c .before .before .before .before .before .before .before .before .before .before in
     record { page = start .pre; order = omega arith; top = omega (arith, start .good .1 .1 .1 .1 .1 .0) }
 
 drop-chunks-requires-2 : tie.Need-drop-chunks-requires-2
 drop-chunks-requires-2 c κs =
     let at-drop-chunks = c .before .before .before .before .before .before .before .before .before .before .before .before in
-    let at-window-end = at-drop-chunks .before .before .before .before .before in
+    let at-window-end = at-drop-chunks .before .before .before .before .before .before in
     let start = at-window-end .before .before .before .before .before in
-    let t = end-top (start .args .start .0) (start .args .length) in let e = at-window-end .window-end .ensures in record { page = page-still _ _ (start .pre) _ _ _ (at-drop-chunks .drop-chunks .ensures .0); order = omega arith; top = omega arith }
-
-same-length : tie.Need-same-length
-same-length c = search needs
-
-same-length-2 : tie.Need-same-length-2
-same-length-2 c = search needs
-
-same-length-3 : tie.Need-same-length-3
-same-length-3 c = search needs
-
-same-length-4 : tie.Need-same-length-4
-same-length-4 c = search needs
+    let t = end-top (start .args .start .0) (start .args .length) in
+    let e = at-window-end .window-end .ensures in
+    record { page = page-still _ _ (start .pre) _ _ _ (at-drop-chunks .drop-chunks .ensures .0); order = omega arith; top = omega arith }
 
 returns : tie.Need-returns
 returns c =
     let at-drop-chunks2 = c .before .before .before .before .before .before .before .before in
     let at-drop-chunks = at-drop-chunks2 .before .before .before .before .before .before .before .before .before .before .before .before .before in
-    let at-window-end = at-drop-chunks .before .before .before .before .before in
+    let at-window-end = at-drop-chunks .before .before .before .before .before .before in
     let start = at-window-end .before .before .before .before .before in
     window-done (start .args .start .0) (start .args .length) _ _ (start .pre) _ (at-drop-chunks .drop-chunks .ensures .0) _ (at-window-end .window-end .ensures) _ (at-drop-chunks2 .drop-chunks2 .ensures .0)
 
@@ -46,11 +31,12 @@ pub retain-window-spec : {M : Type 1} → statement M
 retain-window-spec =
     tie.close
     (tie.spec
-    window-end-requires
+    (λ c κs. search needs)
     drop-chunks-requires
+    (λ c. search needs)
     drop-chunks-requires-2
-    same-length
-    same-length-2
-    same-length-3
-    same-length-4
+    (λ c. search needs)
+    (λ c. search needs)
+    (λ c. search needs)
+    (λ c. search needs)
     returns)

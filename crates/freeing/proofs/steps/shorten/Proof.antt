@@ -1,5 +1,4 @@
 use Rattle.freeing.proofs.Groups.{shortened-shows}
-use Prim.Native.Nat.{_-_}
 use borrow.Author.Needs.{needs}
 use Rattle.freeing.proofs.steps.shorten.Statement.{statement}
 use Rattle.freeing.proofs.steps.shorten.Tie as tie

@@ -20,7 +20,7 @@ use Rattle.formed.specs.Pages.{LayoutRule, dynamic, group, journalCount}
 use Rattle.formed.specs.Parts.{Note, tab, entryOf, allocated, slotOfChunk, holds, byteAt, journal, noteAddress, oldAt}
 use Rattle.formed.specs.WellFormed.{WellFormed, Lengths, NotedRight}
 use Rattle.formed.proofs.Same.{layout-same, tab-same}
-use Rattle.formed.proofs.Sizes.{entries-long}
+use Rattle.formed.proofs.Sizes.{entries-long, lengths-kept}
 use Rattle.formed.proofs.Pages.{is-fixed}
 use Rattle.formed.proofs.Facts.{Facts, PageRight, SlotRight}
 use Rattle.formed.proofs.Meaning.{facts-of, formed-by}
@@ -134,8 +134,8 @@ module _ (m : Mem) (f : WellFormed m) (n e : ℕ) (m' : Mem) (i : Freeing m n e 
   layouts = ap (λ (s : Setting). s .layout) (i .shows .setting)
 
   -- the buffers are as long as they were
-  pub lengths-kept : (length (m' .bytes) ≡ length (m .bytes)) × (length (m' .keys) ≡ length (m .keys)) × (length (m' .order) ≡ length (m .order)) × (length (m' .words) ≡ length (m .words))
-  lengths-kept =
+  pub long-kept : (length (m' .bytes) ≡ length (m .bytes)) × (length (m' .keys) ≡ length (m .keys)) × (length (m' .order) ≡ length (m .order)) × (length (m' .words) ≡ length (m .words))
+  long-kept =
       let c : slotCount (m' .words) ≡ slotCount (m .words) = ap (λ (s : Setting). s .chunks) (i .shows .setting) in
       let p : pageCount (m' .words) ≡ pageCount (m .words) = ap (λ (s : Setting). s .pages) (i .shows .setting) in
       let r : journalWords (m' .words) ≡ journalWords (m .words) = ap (λ (s : Setting). s .journalWords) (i .shows .setting) in
@@ -285,22 +285,7 @@ module _ (bytes keys order words : List ℕ) (n : ℕ) (a : ShortenAsks (mem byt
   -- a memory of the same parts is seen by them alone
   lengths-o : Lengths o'
   lengths-o =
-      let l = a .formed .lengths in
-      let c = slots-o in
-      let p = head 7 (λ e. omega arith) in
-      let r = room-o in
-      let x = length-set words 11 n in
-      record {
-        slots-lo = let h = l .slots-lo in omega arith;
-        slots-hi = let h = l .slots-hi in omega arith;
-        pages-lo = let h = l .pages-lo in omega arith;
-        pages-hi = let h = l .pages-hi in omega arith;
-        journal-hi = let h = l .journal-hi in omega arith;
-        in-bytes = let h = l .in-bytes in omega arith;
-        in-keys = let h = l .in-keys in omega arith;
-        in-order = let h = l .in-order in omega arith;
-        in-words = let h = l .in-words in omega arith;
-      }
+      lengths-kept (mem bytes keys order words) o' (record { slots = slots-o; pages = head 7 (λ e. omega arith); journals = room-o; bytes-long = refl; keys-long = refl; order-long = refl; words-long = length-set words 11 n }) (a .formed .lengths)
 
   listed-o : (e : ℕ) → 4 ≤ e → 0 < getD (entries o') e 0 → PageRight w (getD (entries o') e 0)
   listed-o e ge p =

@@ -1,4 +1,4 @@
-use Rattle.freeing.proofs.Groups.{lengths-kept, Freeing, freeing-none, visit-asked, visited, emptied-shows}
+use Rattle.freeing.proofs.Groups.{long-kept, Freeing, freeing-none, visit-asked, visited, emptied-shows}
 use Rattle.store.specs.Mem.{pageCount}
 use Prim.Native.Nat.{_+_, _-_, _≤_}
 use mathlib.Core.Path.{_≡_, refl}
@@ -49,25 +49,25 @@ same-length : tie.Need-same-length Inv-loop μ-loop
 same-length c =
     let at-loop = c .before in
     let start = at-loop .before .before .before .before .before .before in
-    lengths-kept _ (start .pre) _ _ _ (at-loop .loop .inv .3) (at-loop .loop .inv .0) .0
+    long-kept _ (start .pre) _ _ _ (at-loop .loop .inv .3) (at-loop .loop .inv .0) .0
 
 same-length-2 : tie.Need-same-length-2 Inv-loop μ-loop
 same-length-2 c =
     let at-loop = c .before in
     let start = at-loop .before .before .before .before .before .before in
-    lengths-kept _ (start .pre) _ _ _ (at-loop .loop .inv .3) (at-loop .loop .inv .0) .1
+    long-kept _ (start .pre) _ _ _ (at-loop .loop .inv .3) (at-loop .loop .inv .0) .1
 
 same-length-3 : tie.Need-same-length-3 Inv-loop μ-loop
 same-length-3 c =
     let at-loop = c .before in
     let start = at-loop .before .before .before .before .before .before in
-    lengths-kept _ (start .pre) _ _ _ (at-loop .loop .inv .3) (at-loop .loop .inv .0) .2
+    long-kept _ (start .pre) _ _ _ (at-loop .loop .inv .3) (at-loop .loop .inv .0) .2
 
 same-length-4 : tie.Need-same-length-4 Inv-loop μ-loop
 same-length-4 c =
     let at-loop = c .before in
     let start = at-loop .before .before .before .before .before .before in
-    lengths-kept _ (start .pre) _ _ _ (at-loop .loop .inv .3) (at-loop .loop .inv .0) .3
+    long-kept _ (start .pre) _ _ _ (at-loop .loop .inv .3) (at-loop .loop .inv .0) .3
 
 returns : tie.Need-returns Inv-loop μ-loop
 returns c =

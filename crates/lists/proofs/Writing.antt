@@ -3,7 +3,7 @@
 use mathlib.Core.Path.{_≡_, refl, ap, subst}
 use mathlib.Core.Logic.{⊎-elim}
 use mathlib.Core.List.{List, []}
-use Prim.Native.Nat.{ℕ, _/_, _≤_, _<_}
+use Prim.Native.Nat.{ℕ, zero, suc, _/_, _≤_, _<_}
 use native.Mathlib.Omega.{arith}
 use lib.ListN.{length}
 use Rattle.view.specs.Calls.{firstRefusal}
@@ -41,10 +41,15 @@ module _ (m : Mem) (p a n w : ℕ) (asks : JournalAsks m p a n w) (f : ℕ → L
       ⊎-elim (λ (e : p ≡ journalPage (layoutOf (m .words)) 0). own 0 (omega arith) e)
       (λ (x : p ≡ journalPage (layoutOf (m .words)) 0 → ⊥).
       ⊎-elim (λ (e : p ≡ journalPage (layoutOf (m .words)) 1). own 1 (omega arith) e)
-      (λ (y : p ≡ journalPage (layoutOf (m .words)) 1 → ⊥). record { memory = m; shows = journal-none m p a n w asks f x y })
+      (λ (y : p ≡ journalPage (layoutOf (m .words)) 1 → ⊥). record { memory = m; shows = journal-none m p a n w asks f (neither x y) })
       (same-or-not p (journalPage (layoutOf (m .words)) 1)))
       (same-or-not p (journalPage (layoutOf (m .words)) 0))
     where
+      neither : (p ≡ journalPage (layoutOf (m .words)) 0 → ⊥) → (p ≡ journalPage (layoutOf (m .words)) 1 → ⊥) → (j : ℕ) → j < journalCount → p ≡ journalPage (layoutOf (m .words)) j → ⊥
+      neither x y zero l = x
+      neither x y (suc zero) l = y
+      neither x y (suc (suc j)) l = absurd (omega arith)
+
       own : (j : ℕ) → j < journalCount → p ≡ journalPage (layoutOf (m .words)) j → Reached (settingOf m) (journalling (layoutOf (m .words)) p (f p) (viewOf m))
       own j l e = let t = note j l e in record { memory = t .memory; shows = journal-own m p a n w asks f j l e (t .memory) (t .shows) }
 

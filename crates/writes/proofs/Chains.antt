@@ -12,6 +12,7 @@ use Rattle.view.proofs.Missing.{missing-same}
 use Rattle.view.specs.Calls.{firstRefusal}
 use Rattle.word.specs.Value.{wordBytes}
 use Rattle.page_ids.specs.declared.Layout.{Layout}
+use Rattle.store.specs.Keys.{lastChunk}
 use Rattle.store.specs.Mem.{Mem, layoutOf, journalWords, holders}
 use Rattle.formed.specs.Pages.{journalCount, journalPlace, journalPage}
 use Rattle.formed.proofs.Sense.{unlisted-holds}
@@ -41,7 +42,7 @@ touched-in a (suc n) x l =
     rw (le-leb (a / 256) ((a + x) / 256) (omega arith), lt-ltb ((a + x) / 256) (a / 256 + ((a + n) / 256 - a / 256 + 1)) (omega arith)) refl
 
 -- and none lies past the last
-pub touched-top : (a n : ℕ) → a + n ≤ 4294967327 → a / 256 + touchedCount a n ≤ 16777217
+pub touched-top : (a n : ℕ) → a + n ≤ 4294967327 → a / 256 + touchedCount a n ≤ lastChunk + 1
 touched-top a zero l = omega arith
 touched-top a (suc n) l = omega arith
 
@@ -163,12 +164,6 @@ module _ (m : Mem) (p a n w k : ℕ) (c : Cleared m p a n w k) where
     }
 
 -- ---- the words are journalled
--- a page is neither journal's
-pub no-journal : (l : Layout) (p : ℕ) → (p ≡ journalPage l 0 → ⊥) → (p ≡ journalPage l 1 → ⊥) → (j : ℕ) → j < journalCount → p ≡ journalPage l j → ⊥
-no-journal l p no-heap no-aux zero k = no-heap
-no-journal l p no-heap no-aux (suc zero) k = no-aux
-no-journal l p no-heap no-aux (suc (suc j)) k = absurd (omega arith)
-
 module _ (m : Mem) (p a n w : ℕ) (asks : JournalAsks m p a n w) (f : ℕ → List Note) where
   abbrev l : Layout
   l = layoutOf (m .words)
@@ -177,8 +172,8 @@ module _ (m : Mem) (p a n w : ℕ) (asks : JournalAsks m p a n w) (f : ℕ → L
   journal-own j k own m' shown =
       shows-view shown (ap (λ (q : ℕ). noting j (f q) (viewOf m)) (sym own) ∙ own-journal l p (f p) (viewOf m) (asks .formed .layout) j k own)
 
-  pub journal-none : (p ≡ journalPage l 0 → ⊥) → (p ≡ journalPage l 1 → ⊥) → Shows (settingOf m) (journalling l p (f p) (viewOf m)) m
-  journal-none no-heap no-aux = record { formed = asks .formed; setting = refl; view = sym (unjournalled l p (f p) (viewOf m) (no-journal l p no-heap no-aux)) }
+  pub journal-none : ((j : ℕ) → j < journalCount → p ≡ journalPage l j → ⊥) → Shows (settingOf m) (journalling l p (f p) (viewOf m)) m
+  journal-none none = record { formed = asks .formed; setting = refl; view = sym (unjournalled l p (f p) (viewOf m) none) }
 
 pub note-asks : (m : Mem) (p a : ℕ) → a ≤ 4294967295 → JournalAsks m p a 32 1 → (j : ℕ) → j < journalCount → p ≡ journalPage (layoutOf (m .words)) j → NoteAsks m j a
 note-asks m p a small asks j k own = record {

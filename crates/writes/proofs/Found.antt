@@ -9,7 +9,7 @@ use native.Mathlib.Omega.{arith}
 use lib.Dec.{leb, ltb, eqb}
 use lib.ListN.{length}
 use borrow.Author.Tests.{le-leb, lt-leb, lt-ltb, le-ltb, eq-eqb, ne-eqb}
-use Rattle.store.specs.Keys.{keyEntry}
+use Rattle.store.specs.Keys.{lastChunk, keyEntry}
 use Rattle.view.specs.Calls.{firstRefusal}
 use Rattle.index.proofs.Logic.{same-or-not, lt-or-ge}
 use Rattle.index.proofs.Places.{seek-upto}
@@ -77,7 +77,7 @@ module _ (m : Mem) (p a : ℕ) (page : p ≤ 4294967295) (small : a ≤ 42949672
   f : WellFormed m
   f = asks .0
 
-  found : (x k : ℕ) → x < slotCount (m .words) → k ≤ 16777216 → x ≡ slotFor (m .keys) (m .words) p k → HeldAt m x p k
+  found : (x k : ℕ) → x < slotCount (m .words) → k ≤ lastChunk → x ≡ slotFor (m .keys) (m .words) p k → HeldAt m x p k
   found x k l top e = held-here m f x p k (sym (e ∙ slot-found m f p k top)) l
 
   at-first : HeldAt m s p (a / 256)

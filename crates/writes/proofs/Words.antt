@@ -9,7 +9,7 @@ use native.Mathlib.Omega.{arith}
 use lib.Dec.{leb}
 use lib.ListN.{length, getD, take, drop}
 use borrow.Author.Tests.{lt-ltb, ltb-true}
-use Rattle.store.specs.Keys.{keyOf}
+use Rattle.store.specs.Keys.{lastChunk, keyOf}
 use Rattle.index.specs.Index.{seek}
 use Rattle.index.proofs.Logic.{same-or-not}
 use Rattle.store.specs.Mem.{Mem, mem, layoutOf, slotCount}
@@ -34,7 +34,7 @@ use Rattle.writes.specs.Asks.{JournalAsks, WordAsks, wordPut}
 slots-stay : (b b' keys order w w' : List ℕ) → slotCount w' ≡ slotCount w → (p k : ℕ) → slotOfChunk (mem b' keys order w') p k ≡ slotOfChunk (mem b keys order w) p k
 unfolding slotOfChunk
 slots-stay b b' keys order w w' e p k =
-    ap (λ (c : ℕ). cond (leb k 16777216) (seek (take c keys) (keyOf (seek (drop c keys) (p + 1)) k)) c) e
+    ap (λ (c : ℕ). cond (leb k lastChunk) (seek (take c keys) (keyOf (seek (drop c keys) (p + 1)) k)) c) e
 
 module _ (m : Mem) (p a s t : ℕ) (asks : WordAsks m p a s t) (small : a ≤ 4294967295) where
   holds-there : (x k : ℕ) → slotOfChunk m p k ≡ x → x < slotCount (m .words) → holds m p k ≡ true

@@ -17,14 +17,16 @@ returns c =
     let at-if1 = c in
     let at-allocate-refusal = at-if1 .before in
     let start = at-allocate-refusal .before .before .before .before .before .before .before .before .before in
-    refused-does (mem (start .args .bytes .now) (start .args .keys .now) (start .args .order .now) (start .args .words .now)) (allocateChecks (settingOf (mem (start .args .bytes .now) (start .args .keys .now) (start .args .order .now) (start .args .words .now))) (viewOf (mem (start .args .bytes .now) (start .args .keys .now) (start .args .order .now) (start .args .words .now))) (start .args .page .0) 0) (settingOf (mem (start .args .bytes .now) (start .args .keys .now) (start .args .order .now) (start .args .words .now))) (nextOf (settingOf (mem (start .args .bytes .now) (start .args .keys .now) (start .args .order .now) (start .args .words .now))) (Call.Allocate (start .args .page .0) []) (viewOf (mem (start .args .bytes .now) (start .args .keys .now) (start .args .order .now) (start .args .words .now)))) (at-allocate-refusal .allocate-refusal .result) (at-allocate-refusal .allocate-refusal .ensures) (at-if1 .if1 .taken)
+    let m = mem (start .args .bytes .now) (start .args .keys .now) (start .args .order .now) (start .args .words .now) in
+    refused-does m (allocateChecks (settingOf m) (viewOf m) (start .args .page .0) 0) (settingOf m) (nextOf (settingOf m) (Call.Allocate (start .args .page .0) []) (viewOf m)) (at-allocate-refusal .allocate-refusal .result) (at-allocate-refusal .allocate-refusal .ensures) (at-if1 .if1 .taken)
 
 list-page-requires : tie.Need-list-page-requires
 list-page-requires c κs =
     let at-if1 = c .before .before .before .before in
     let at-allocate-refusal = at-if1 .before in
     let start = at-allocate-refusal .before .before .before .before .before .before .before .before .before in
-    allocate-asks (mem (start .args .bytes .now) (start .args .keys .now) (start .args .order .now) (start .args .words .now)) (start .args .page .0) (omega (arith, start .good .1 .1 .1 .1 .0)) (passed-formed (mem (start .args .bytes .now) (start .args .keys .now) (start .args .order .now) (start .args .words .now)) (allocateChecks (settingOf (mem (start .args .bytes .now) (start .args .keys .now) (start .args .order .now) (start .args .words .now))) (viewOf (mem (start .args .bytes .now) (start .args .keys .now) (start .args .order .now) (start .args .words .now))) (start .args .page .0) 0) (settingOf (mem (start .args .bytes .now) (start .args .keys .now) (start .args .order .now) (start .args .words .now))) (nextOf (settingOf (mem (start .args .bytes .now) (start .args .keys .now) (start .args .order .now) (start .args .words .now))) (Call.Allocate (start .args .page .0) []) (viewOf (mem (start .args .bytes .now) (start .args .keys .now) (start .args .order .now) (start .args .words .now)))) (sym (at-allocate-refusal .allocate-refusal .ensures) ∙ at-if1 .if1 .left))
+    let m = mem (start .args .bytes .now) (start .args .keys .now) (start .args .order .now) (start .args .words .now) in
+    allocate-asks m (start .args .page .0) (omega (arith, start .good .1 .1 .1 .1 .0)) (passed-formed m (allocateChecks (settingOf m) (viewOf m) (start .args .page .0) 0) (settingOf m) (nextOf (settingOf m) (Call.Allocate (start .args .page .0) []) (viewOf m)) (sym (at-allocate-refusal .allocate-refusal .ensures) ∙ at-if1 .if1 .left))
 
 returns-2 : tie.Need-returns-2
 returns-2 c =
@@ -32,7 +34,8 @@ returns-2 c =
     let at-if1 = at-list-page .before .before .before .before .before in
     let at-allocate-refusal = at-if1 .before in
     let start = at-allocate-refusal .before .before .before .before .before .before .before .before .before in
-    done-does (mem (start .args .bytes .now) (start .args .keys .now) (start .args .order .now) (start .args .words .now)) (allocateChecks (settingOf (mem (start .args .bytes .now) (start .args .keys .now) (start .args .order .now) (start .args .words .now))) (viewOf (mem (start .args .bytes .now) (start .args .keys .now) (start .args .order .now) (start .args .words .now))) (start .args .page .0) 0) (settingOf (mem (start .args .bytes .now) (start .args .keys .now) (start .args .order .now) (start .args .words .now))) (nextOf (settingOf (mem (start .args .bytes .now) (start .args .keys .now) (start .args .order .now) (start .args .words .now))) (Call.Allocate (start .args .page .0) []) (viewOf (mem (start .args .bytes .now) (start .args .keys .now) (start .args .order .now) (start .args .words .now)))) (next (next (next (room-refusals (settingOf (mem (start .args .bytes .now) (start .args .keys .now) (start .args .order .now) (start .args .words .now))) (viewOf (mem (start .args .bytes .now) (start .args .keys .now) (start .args .order .now) (start .args .words .now))) (start .args .page .0) 0 0 0)))) (sym (at-allocate-refusal .allocate-refusal .ensures) ∙ at-if1 .if1 .left) (at-list-page .list-page .ensures)
+    let m = mem (start .args .bytes .now) (start .args .keys .now) (start .args .order .now) (start .args .words .now) in
+    done-does m (allocateChecks (settingOf m) (viewOf m) (start .args .page .0) 0) (settingOf m) (nextOf (settingOf m) (Call.Allocate (start .args .page .0) []) (viewOf m)) (next (next (next (room-refusals (settingOf m) (viewOf m) (start .args .page .0) 0 0 0)))) (sym (at-allocate-refusal .allocate-refusal .ensures) ∙ at-if1 .if1 .left) (at-list-page .list-page .ensures)
 
 pub allocate-at-spec : {M : Type 1} → statement M
 allocate-at-spec = tie.close (tie.spec (λ c κs. search needs) (λ c. search needs) (λ c. search needs) (λ c. search needs) (λ c. search needs) returns list-page-requires (λ c. search needs) (λ c. search needs) (λ c. search needs) (λ c. search needs) returns-2)

@@ -15,14 +15,16 @@ returns c =
     let at-if1 = c in
     let at-allocate-refusal = at-if1 .before in
     let start = at-allocate-refusal .before .before .before .before .before .before .before .before .before .before in
-    refused-does (mem (start .args .bytes .now) (start .args .keys .now) (start .args .order .now) (start .args .words .now)) (allocateChecks (settingOf (mem (start .args .bytes .now) (start .args .keys .now) (start .args .order .now) (start .args .words .now))) (viewOf (mem (start .args .bytes .now) (start .args .keys .now) (start .args .order .now) (start .args .words .now))) (start .args .page .0) (length (start .args .contents .now))) (settingOf (mem (start .args .bytes .now) (start .args .keys .now) (start .args .order .now) (start .args .words .now))) (nextOf (settingOf (mem (start .args .bytes .now) (start .args .keys .now) (start .args .order .now) (start .args .words .now))) (Call.Allocate (start .args .page .0) (start .args .contents .now)) (viewOf (mem (start .args .bytes .now) (start .args .keys .now) (start .args .order .now) (start .args .words .now)))) (at-allocate-refusal .allocate-refusal .result) (at-allocate-refusal .allocate-refusal .ensures) (at-if1 .if1 .taken)
+    let m = mem (start .args .bytes .now) (start .args .keys .now) (start .args .order .now) (start .args .words .now) in
+    refused-does m (allocateChecks (settingOf m) (viewOf m) (start .args .page .0) (length (start .args .contents .now))) (settingOf m) (nextOf (settingOf m) (Call.Allocate (start .args .page .0) (start .args .contents .now)) (viewOf m)) (at-allocate-refusal .allocate-refusal .result) (at-allocate-refusal .allocate-refusal .ensures) (at-if1 .if1 .taken)
 
 fill-requires : tie.Need-fill-requires
 fill-requires c κs =
     let at-if1 = c .before .before .before .before in
     let at-allocate-refusal = at-if1 .before in
     let start = at-allocate-refusal .before .before .before .before .before .before .before .before .before .before in
-    passed-formed (mem (start .args .bytes .now) (start .args .keys .now) (start .args .order .now) (start .args .words .now)) (allocateChecks (settingOf (mem (start .args .bytes .now) (start .args .keys .now) (start .args .order .now) (start .args .words .now))) (viewOf (mem (start .args .bytes .now) (start .args .keys .now) (start .args .order .now) (start .args .words .now))) (start .args .page .0) (length (start .args .contents .now))) (settingOf (mem (start .args .bytes .now) (start .args .keys .now) (start .args .order .now) (start .args .words .now))) (nextOf (settingOf (mem (start .args .bytes .now) (start .args .keys .now) (start .args .order .now) (start .args .words .now))) (Call.Allocate (start .args .page .0) (start .args .contents .now)) (viewOf (mem (start .args .bytes .now) (start .args .keys .now) (start .args .order .now) (start .args .words .now)))) (sym (at-allocate-refusal .allocate-refusal .ensures) ∙ at-if1 .if1 .left)
+    let m = mem (start .args .bytes .now) (start .args .keys .now) (start .args .order .now) (start .args .words .now) in
+    passed-formed m (allocateChecks (settingOf m) (viewOf m) (start .args .page .0) (length (start .args .contents .now))) (settingOf m) (nextOf (settingOf m) (Call.Allocate (start .args .page .0) (start .args .contents .now)) (viewOf m)) (sym (at-allocate-refusal .allocate-refusal .ensures) ∙ at-if1 .if1 .left)
 
 returns-2 : tie.Need-returns-2
 returns-2 c =
@@ -30,7 +32,8 @@ returns-2 c =
     let at-if1 = at-fill .before .before .before .before .before in
     let at-allocate-refusal = at-if1 .before in
     let start = at-allocate-refusal .before .before .before .before .before .before .before .before .before .before in
-    done-does (mem (start .args .bytes .now) (start .args .keys .now) (start .args .order .now) (start .args .words .now)) (allocateChecks (settingOf (mem (start .args .bytes .now) (start .args .keys .now) (start .args .order .now) (start .args .words .now))) (viewOf (mem (start .args .bytes .now) (start .args .keys .now) (start .args .order .now) (start .args .words .now))) (start .args .page .0) (length (start .args .contents .now))) (settingOf (mem (start .args .bytes .now) (start .args .keys .now) (start .args .order .now) (start .args .words .now))) (nextOf (settingOf (mem (start .args .bytes .now) (start .args .keys .now) (start .args .order .now) (start .args .words .now))) (Call.Allocate (start .args .page .0) (start .args .contents .now)) (viewOf (mem (start .args .bytes .now) (start .args .keys .now) (start .args .order .now) (start .args .words .now)))) (next (next (next (room-refusals (settingOf (mem (start .args .bytes .now) (start .args .keys .now) (start .args .order .now) (start .args .words .now))) (viewOf (mem (start .args .bytes .now) (start .args .keys .now) (start .args .order .now) (start .args .words .now))) (start .args .page .0) 0 (length (start .args .contents .now)) 0)))) (sym (at-allocate-refusal .allocate-refusal .ensures) ∙ at-if1 .if1 .left) (at-fill .fill .ensures)
+    let m = mem (start .args .bytes .now) (start .args .keys .now) (start .args .order .now) (start .args .words .now) in
+    done-does m (allocateChecks (settingOf m) (viewOf m) (start .args .page .0) (length (start .args .contents .now))) (settingOf m) (nextOf (settingOf m) (Call.Allocate (start .args .page .0) (start .args .contents .now)) (viewOf m)) (next (next (next (room-refusals (settingOf m) (viewOf m) (start .args .page .0) 0 (length (start .args .contents .now)) 0)))) (sym (at-allocate-refusal .allocate-refusal .ensures) ∙ at-if1 .if1 .left) (at-fill .fill .ensures)
 
 pub allocate-with-content-at-spec : {M : Type 1} → statement M
 allocate-with-content-at-spec = tie.close (tie.spec (λ c κs. search needs) (λ c. search needs) (λ c. search needs) (λ c. search needs) (λ c. search needs) returns fill-requires (λ c. search needs) (λ c. search needs) (λ c. search needs) (λ c. search needs) returns-2)

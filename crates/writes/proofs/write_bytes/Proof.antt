@@ -16,14 +16,16 @@ returns c =
     let at-if1 = c in
     let at-bytes-refusal = at-if1 .before in
     let start = at-bytes-refusal .before .before .before .before .before .before .before .before .before .before in
-    refused-does (mem (start .args .bytes .now) (start .args .keys .now) (start .args .order .now) (start .args .words .now)) (byteWriteChecks (settingOf (mem (start .args .bytes .now) (start .args .keys .now) (start .args .order .now) (start .args .words .now))) (viewOf (mem (start .args .bytes .now) (start .args .keys .now) (start .args .order .now) (start .args .words .now))) (start .args .page .0) (start .args .start .0) (length (start .args .src .now))) (settingOf (mem (start .args .bytes .now) (start .args .keys .now) (start .args .order .now) (start .args .words .now))) (nextOf (settingOf (mem (start .args .bytes .now) (start .args .keys .now) (start .args .order .now) (start .args .words .now))) (Call.WriteBytes (start .args .page .0) (start .args .start .0) (start .args .src .now)) (viewOf (mem (start .args .bytes .now) (start .args .keys .now) (start .args .order .now) (start .args .words .now)))) (at-bytes-refusal .bytes-refusal .result) (at-bytes-refusal .bytes-refusal .ensures) (at-if1 .if1 .taken)
+    let m = mem (start .args .bytes .now) (start .args .keys .now) (start .args .order .now) (start .args .words .now) in
+    refused-does m (byteWriteChecks (settingOf m) (viewOf m) (start .args .page .0) (start .args .start .0) (length (start .args .src .now))) (settingOf m) (nextOf (settingOf m) (Call.WriteBytes (start .args .page .0) (start .args .start .0) (start .args .src .now)) (viewOf m)) (at-bytes-refusal .bytes-refusal .result) (at-bytes-refusal .bytes-refusal .ensures) (at-if1 .if1 .taken)
 
 write-range-requires : tie.Need-write-range-requires
 write-range-requires c κs =
     let at-if1 = c .before .before .before .before in
     let at-bytes-refusal = at-if1 .before in
     let start = at-bytes-refusal .before .before .before .before .before .before .before .before .before .before in
-    passed-formed (mem (start .args .bytes .now) (start .args .keys .now) (start .args .order .now) (start .args .words .now)) (byteWriteChecks (settingOf (mem (start .args .bytes .now) (start .args .keys .now) (start .args .order .now) (start .args .words .now))) (viewOf (mem (start .args .bytes .now) (start .args .keys .now) (start .args .order .now) (start .args .words .now))) (start .args .page .0) (start .args .start .0) (length (start .args .src .now))) (settingOf (mem (start .args .bytes .now) (start .args .keys .now) (start .args .order .now) (start .args .words .now))) (nextOf (settingOf (mem (start .args .bytes .now) (start .args .keys .now) (start .args .order .now) (start .args .words .now))) (Call.WriteBytes (start .args .page .0) (start .args .start .0) (start .args .src .now)) (viewOf (mem (start .args .bytes .now) (start .args .keys .now) (start .args .order .now) (start .args .words .now)))) (sym (at-bytes-refusal .bytes-refusal .ensures) ∙ at-if1 .if1 .left)
+    let m = mem (start .args .bytes .now) (start .args .keys .now) (start .args .order .now) (start .args .words .now) in
+    passed-formed m (byteWriteChecks (settingOf m) (viewOf m) (start .args .page .0) (start .args .start .0) (length (start .args .src .now))) (settingOf m) (nextOf (settingOf m) (Call.WriteBytes (start .args .page .0) (start .args .start .0) (start .args .src .now)) (viewOf m)) (sym (at-bytes-refusal .bytes-refusal .ensures) ∙ at-if1 .if1 .left)
 
 returns-2 : tie.Need-returns-2
 returns-2 c =
@@ -31,7 +33,8 @@ returns-2 c =
     let at-if1 = at-write-range .before .before .before .before .before in
     let at-bytes-refusal = at-if1 .before in
     let start = at-bytes-refusal .before .before .before .before .before .before .before .before .before .before in
-    done-does (mem (start .args .bytes .now) (start .args .keys .now) (start .args .order .now) (start .args .words .now)) (byteWriteChecks (settingOf (mem (start .args .bytes .now) (start .args .keys .now) (start .args .order .now) (start .args .words .now))) (viewOf (mem (start .args .bytes .now) (start .args .keys .now) (start .args .order .now) (start .args .words .now))) (start .args .page .0) (start .args .start .0) (length (start .args .src .now))) (settingOf (mem (start .args .bytes .now) (start .args .keys .now) (start .args .order .now) (start .args .words .now))) (nextOf (settingOf (mem (start .args .bytes .now) (start .args .keys .now) (start .args .order .now) (start .args .words .now))) (Call.WriteBytes (start .args .page .0) (start .args .start .0) (start .args .src .now)) (viewOf (mem (start .args .bytes .now) (start .args .keys .now) (start .args .order .now) (start .args .words .now)))) (next (next (room-refusals (settingOf (mem (start .args .bytes .now) (start .args .keys .now) (start .args .order .now) (start .args .words .now))) (viewOf (mem (start .args .bytes .now) (start .args .keys .now) (start .args .order .now) (start .args .words .now))) (start .args .page .0) (start .args .start .0) (length (start .args .src .now)) (alignedCount (start .args .start .0) (length (start .args .src .now)))))) (sym (at-bytes-refusal .bytes-refusal .ensures) ∙ at-if1 .if1 .left) (at-write-range .write-range .ensures)
+    let m = mem (start .args .bytes .now) (start .args .keys .now) (start .args .order .now) (start .args .words .now) in
+    done-does m (byteWriteChecks (settingOf m) (viewOf m) (start .args .page .0) (start .args .start .0) (length (start .args .src .now))) (settingOf m) (nextOf (settingOf m) (Call.WriteBytes (start .args .page .0) (start .args .start .0) (start .args .src .now)) (viewOf m)) (next (next (room-refusals (settingOf m) (viewOf m) (start .args .page .0) (start .args .start .0) (length (start .args .src .now)) (alignedCount (start .args .start .0) (length (start .args .src .now)))))) (sym (at-bytes-refusal .bytes-refusal .ensures) ∙ at-if1 .if1 .left) (at-write-range .write-range .ensures)
 
 pub write-bytes-spec : {M : Type 1} → statement M
 write-bytes-spec = tie.close (tie.spec (λ c κs. search needs) (λ c. search needs) (λ c. search needs) (λ c. search needs) (λ c. search needs) returns write-range-requires (λ c. search needs) (λ c. search needs) (λ c. search needs) (λ c. search needs) returns-2)

@@ -1,13 +1,13 @@
 -- The contracts of the instructions, from what their parts tell.
 -- Assumes nothing.
-use mathlib.Core.Path.{_≡_, refl, sym, ap, _∙_, subst}
+use mathlib.Core.Path.{_≡_, refl, sym, ap, _∙_, subst, subst₂}
 use mathlib.Core.Bool.{Bool, true, false, cond, not, _&&_, false≢true}
 use mathlib.Core.List.{List, [], _∷_, _++_}
 use Prim.Native.Nat.{ℕ, _+_, _*_, _%_, _^_, _<_, _≤_}
 use native.Mathlib.Omega.{arith}
 use native.Mathlib.Nat.{mod-eq-of-lt}
 use lib.Dec.{ltb}
-use borrow.Author.Tests.{lt-ltb, le-ltb, ltb-false, not-false}
+use borrow.Author.Tests.{lt-ltb, le-ltb, ltb-false, not-true, not-false}
 use Rattle.outcome.specs.Outcome.{Outcome, refused, panicked, done, carriedOut, firstOf}
 use Rattle.word.specs.Value.{bigEndian, wordBytes, lastAddress}
 use Rattle.fat_pointer.specs.declared.FatPointer.{FatPointer}
@@ -21,26 +21,27 @@ use Rattle.store.specs.Mem.{Mem, layoutOf}
 use Rattle.formed.specs.Formed.{wellFormed}
 use Rattle.formed.specs.WellFormed.{WellFormed}
 use Rattle.formed.proofs.Meaning.{well-formed-means}
+use Rattle.view.proofs.Refused.{Refusals}
 use Rattle.view.specs.View.{View, settingOf, viewOf}
 use Rattle.view.specs.Steps.{run, padded, wordWritten}
 use Rattle.view.specs.Checks.{Check, wordWriteChecks}
 use Rattle.view.specs.Does.{Shows}
-use Rattle.view.specs.Instructions.{Operand, Hook, InstructionResult, running, onHook, heapOf, staticOf, frameAlone, panic, incremented, hooked, accessChecks, loaded, stored, staticLoaded, staticStored, readFrom, readCount, pointed}
+use Rattle.view.specs.Instructions.{Operand, Hook, InstructionResult, running, onHook, heapOf, staticOf, frameAlone, panic, incremented, hooked, staticChecks, staticLoaded, staticStored, readFrom, readCount, pointed}
 use Rattle.view.specs.Calls.{Call, Value, Load, Store, LoadPointer, LoadStatic, StoreStatic, instructionResult, outcomeOf, nextOf, answerOf, firstRefusal}
-use Rattle.instructions.specs.Executions.{stopOf, resultOf, statusOutcome, executionOutcome, Runs, carried}
+use Rattle.instructions.specs.Executions.{stopOf, resultOf, statusOutcome, executionOutcome, Ends, Runs, carried, unpaid, staticStep, loadedFrom, Loads, storedTo, Stores}
 use Rattle.instructions.specs.declared.Execution.{Execution}
 use Rattle.instructions.specs.declared.ExecutionStatus.{ExecutionStatus}
 use Rattle.instructions.specs.declared.ExecutionStatus.the-variants.{Running, SuspendedOnHook, Panicked, Refused}
-use Rattle.instructions.proofs.Lists.{by-number, by-none, fifteen, write-refusals, store-refusals, store-passed}
+use Rattle.instructions.proofs.Lists.{by-number, by-none, never-last, fifteen, store-refusals, store-passed}
 
 -- ---- numbers
 -- the address of an operand within the limit is its number
-pub address-is : (x : ℕ) → ltb lastAddress x ≡ false → x % 2 ^ 32 ≡ x
-address-is x e = let l : x ≤ lastAddress = ltb-false lastAddress x e in mod-eq-of-lt (omega arith)
+pub address-is : (x : ℕ) → x ≤ lastAddress → x % 2 ^ 32 ≡ x
+address-is x l = mod-eq-of-lt (omega arith)
 
 -- and so the new bound, a wrapping sum, is the address plus 32: it never wraps
-pub bound-is : (x : ℕ) → ltb lastAddress x ≡ false → newBound (x % 2 ^ 32) ≡ x + 32
-bound-is x e = ap newBound (address-is x e) ∙ no-wrap x (ltb-false lastAddress x e)
+pub bound-is : (x : ℕ) → x ≤ lastAddress → newBound (x % 2 ^ 32) ≡ x + 32
+bound-is x l = ap newBound (address-is x l) ∙ no-wrap x l
 
 -- the incremented operand never leaves 256 bits: neither that of a word within the limit nor that of a pointer whose offset is
 pub no-carry : (x : ℕ) → x < 2 ^ 256 → x % 2 ^ 32 ≤ lastAddress → incremented x ≡ x + 32
@@ -50,86 +51,51 @@ no-carry x l h = mod-eq-of-lt (below (2 ^ 224) l)
     below k l = omega arith
 
 -- ---- the contract
-module _ (m : Mem) (c : Call) where
-  pub ill : wellFormed m ≡ false → answerOf m c ≡ refused 3
-  ill e = ap (λ (b : Bool). cond (not b) (refused 3) (outcomeOf (settingOf m) c (viewOf m))) e
+module _ (m : Mem) {o : Outcome Value} {v : View} (f : Frame) (r : Execution) where
+  refused-ends : (n : ℕ) → r .status ≡ Refused n → resultOf r ≡ frameAlone f → o ≡ refused n → Ends m o v f r m
+  refused-ends n s g a = record {
+    does = record {
+      answer = ap (λ (x : ExecutionStatus). statusOutcome x (resultOf r)) s ∙ sym a;
+      kept = λ _. refl;
+      changed = λ q. absurd (false≢true (sym (ap carriedOut a) ∙ q));
+    };
+    refusal = λ k e. g;
+  }
 
-  pub well : wellFormed m ≡ true → answerOf m c ≡ outcomeOf (settingOf m) c (viewOf m)
+  panicked-ends : (g : InstructionResult) → r .status ≡ Panicked → resultOf r ≡ g → o ≡ panicked (instructionResult g) → Ends m o v f r m
+  panicked-ends g s e a =
+      let t : executionOutcome r ≡ panicked (instructionResult g) = ap (λ (x : ExecutionStatus). statusOutcome x (resultOf r)) s ∙ ap (λ (x : InstructionResult). panicked (instructionResult x)) e in
+      record {
+        does = record { answer = t ∙ sym a; kept = λ _. refl; changed = λ q. absurd (false≢true (sym (ap carriedOut a) ∙ q)) };
+        refusal = λ k q. absurd (let z : _≡_ {A = ℕ} 0 1 = cc in omega arith);
+      }
+
+  done-ends : (g : InstructionResult) → executionOutcome r ≡ done (instructionResult g) → o ≡ done (instructionResult g) → {m' : Mem} → Shows (settingOf m) v m' → Ends m o v f r m'
+  done-ends g t a h = record {
+    does = record { answer = t ∙ sym a; kept = λ q. absurd (false≢true (sym q ∙ ap carriedOut a)); changed = λ _. h };
+    refusal = λ k q. absurd (let z : _≡_ {A = ℕ} 0 1 = cc in omega arith);
+  }
+
+module _ (m : Mem) (c : Call) where
+  pub ill-runs : (f : Frame) (r : Execution) → wellFormed m ≡ false → r .status ≡ Refused 3 → resultOf r ≡ frameAlone f → Runs m c f r m
+  ill-runs f r e s g = refused-ends m f r 3 s g (ap (λ (b : Bool). cond (not b) (refused 3) (outcomeOf (settingOf m) c (viewOf m))) e)
+
+  well : wellFormed m ≡ true → answerOf m c ≡ outcomeOf (settingOf m) c (viewOf m)
   well e = ap (λ (b : Bool). cond (not b) (refused 3) (outcomeOf (settingOf m) c (viewOf m))) e
 
-  module _ (f : Frame) (r : Execution) where
-    pub refused-runs : (n : ℕ) → r .status ≡ Refused n → resultOf r ≡ frameAlone f → answerOf m c ≡ refused n → Runs m c f r m
-    refused-runs n s g a = record {
-      does = record {
-        answer = ap (λ (x : ExecutionStatus). statusOutcome x (resultOf r)) s ∙ sym a;
-        kept = λ _. refl;
-        changed = λ q. absurd (false≢true (sym (ap carriedOut a) ∙ q));
-      };
-      refusal = λ k e. g;
-    }
-
-    pub panicked-runs : (g : InstructionResult) → r .status ≡ Panicked → resultOf r ≡ g → answerOf m c ≡ panicked (instructionResult g) → Runs m c f r m
-    panicked-runs g s e a =
-        let t : executionOutcome r ≡ panicked (instructionResult g) = ap (λ (x : ExecutionStatus). statusOutcome x (resultOf r)) s ∙ ap (λ (x : InstructionResult). panicked (instructionResult x)) e in
-        record {
-          does = record { answer = t ∙ sym a; kept = λ _. refl; changed = λ q. absurd (false≢true (sym (ap carriedOut a) ∙ q)) };
-          refusal = λ k q. absurd (let z : _≡_ {A = ℕ} 0 1 = cc in omega arith);
-        }
-
-    pub done-runs : (g : InstructionResult) → executionOutcome r ≡ done (instructionResult g) → answerOf m c ≡ done (instructionResult g) → {m' : Mem} → Shows (settingOf m) (nextOf (settingOf m) c (viewOf m)) m' → Runs m c f r m'
-    done-runs g t a h = record {
-      does = record { answer = t ∙ sym a; kept = λ q. absurd (false≢true (sym q ∙ ap carriedOut a)); changed = λ _. h };
-      refusal = λ k q. absurd (let z : _≡_ {A = ℕ} 0 1 = cc in omega arith);
-    }
+  well-runs : wellFormed m ≡ true → {f : Frame} {r : Execution} {m' : Mem} (o : Outcome Value) → o ≡ outcomeOf (settingOf m) c (viewOf m) → Ends m o (nextOf (settingOf m) c (viewOf m)) f r m' → Runs m c f r m'
+  well-runs e {f} {r} {m'} o is d = subst (λ (p : Outcome Value). Ends m p (nextOf (settingOf m) c (viewOf m)) f r m') (is ∙ sym (well e)) d
 
 -- a memory that is only read shows what it showed
-pub shows-itself : (m : Mem) → wellFormed m ≡ true → Shows (settingOf m) (viewOf m) m
-shows-itself m e = record { formed = well-formed-means m e; setting = refl; view = refl }
+shows-itself : (m : Mem) → WellFormed m → Shows (settingOf m) (viewOf m) m
+shows-itself m f = record { formed = f; setting = refl; view = refl }
 
 told-running : (r : Execution) (g : InstructionResult) → r .status ≡ Running → resultOf r ≡ g → executionOutcome r ≡ done (instructionResult g)
 told-running r g s e = ap (λ (x : ExecutionStatus). statusOutcome x (resultOf r)) s ∙ ap (λ (x : InstructionResult). done (instructionResult x)) e
 
--- ---- load and store: the access
-module _ (f : Frame) (area : Area) (x : ℕ) (s : Step) (is : s ≡ frameAccessed f area x) where
-  same-paid : not (s .paid) ≡ not (frameAccessed f area x .paid)
-  same-paid = ap (λ (u : Step). not (u .paid)) is
+carried-is : {w w' y : ℕ} {t : Bool} {f : Frame} → w ≡ w' → carried Running w y t f ≡ carried Running w' y t f
+carried-is {y = y} {t = t} {f = f} d = λ i. carried Running (d i) y t f
 
-  module _ {A : Type 0} (give : InstructionResult → A) (rest : List (Check A)) (o : Outcome A) where
-    pub access-panics : not (s .paid) ≡ true → firstOf (accessChecks give area f x ++ rest) o ≡ panicked (give (panic (s .frame)))
-    access-panics e = rw (sym same-paid ∙ e) (ap (λ (u : Step). panicked (give (panic (u .frame)))) (sym is))
-
-    pub access-passes : not (s .paid) ≡ false → firstOf (accessChecks give area f x ++ rest) o ≡ firstOf rest o
-    access-passes e = rw (sym same-paid ∙ e) refl
-
-  pub within : not (s .paid) ≡ false → ltb lastAddress x ≡ false
-  within e = le-ltb lastAddress x (frame-within f area x (not-false _ (sym same-paid ∙ e)))
-
-  pub frame-is : s .frame ≡ frameAccessed f area x .frame
-  frame-is = ap (λ (u : Step). u .frame) is
-
--- ---- load
-carried-is : {w w' y : ℕ} {t : Bool} {f f' : Frame} → w ≡ w' → f ≡ f' → carried Running w y t f ≡ carried Running w' y t f'
-carried-is {y = y} {t = t} d e = λ i. carried Running (d i) y t (e i)
-
-module _ (m : Mem) (area : Area) (f : Frame) (x : Operand) (formed : wellFormed m ≡ true) (s : Step) (is : s ≡ frameAccessed f area (x .word)) where
-  pub load-panics : (r : Execution) → not (s .paid) ≡ true → r .status ≡ Panicked → resultOf r ≡ panic (s .frame) → Runs m (Load area f x) f r m
-  load-panics r e q g =
-      panicked-runs m (Load area f x) f r (panic (s .frame)) q g
-      (well m (Load area f x) formed ∙ access-panics f area (x .word) s is instructionResult [] (done (instructionResult (loaded (viewOf m) area f x))) e)
-
-  pub load-done : not (s .paid) ≡ false → (r : Execution) (w : ℕ) → w ≡ bigEndian (run (viewOf m) (heapOf f area) (x .word) 32)
-      → r .status ≡ Running → resultOf r ≡ carried Running w (incremented (x .word)) (x .tag) (s .frame) → Runs m (Load area f x) f r m
-  load-done e r w d q g =
-      done-runs m (Load area f x) f r (loaded (viewOf m) area f x)
-      (told-running r (loaded (viewOf m) area f x) q (g ∙ carried-is d (frame-is f area (x .word) s is)))
-      (well m (Load area f x) formed ∙ access-passes f area (x .word) s is instructionResult [] (done (instructionResult (loaded (viewOf m) area f x))) e)
-      (shows-itself m formed)
-
--- the word that is read at the address a of page p
-pub word-is : (v : View) (w : ℕ) (bs : List ℕ) (p q a x : ℕ) → w ≡ bigEndian bs → bs ≡ run v p a 32 → p ≡ q → a ≡ x → w ≡ bigEndian (run v q x 32)
-word-is v w bs p q a x d e g h = d ∙ ap bigEndian (e ∙ ap (λ (n : ℕ). run v n a 32) g ∙ ap (λ (n : ℕ). run v q n 32) h)
-
--- ---- store
 -- a value that stops has 32 bits
 suspended : (hit : Bool) (n : ℕ) → (hit && ltb 4294967295 n) ≡ false → stopOf (cond hit (SuspendedOnHook (n % 2 ^ 32)) Running) ≡ cond hit (onHook n) running
 suspended true n e = let l : n ≤ 4294967295 = ltb-false 4294967295 n e in ap onHook (mod-eq-of-lt (omega arith))
@@ -139,133 +105,111 @@ told-stop : (hit : Bool) (k : ℕ) (g : InstructionResult) → statusOutcome (co
 told-stop true k g = refl
 told-stop false k g = refl
 
-module _ (m : Mem) (area : Area) (f : Frame) (x : Operand) (n : ℕ) (h : Hook) (formed : wellFormed m ≡ true) (s : Step) (is : s ≡ frameAccessed f area (x .word)) where
-  abbrev call : Call
-  call = Store area f x n h
+-- ---- load and store of page p with the step s
+paid-first : (s : Step) (rest : List (Check Value)) (o : Outcome Value) → not (s .paid) ≡ false → firstOf (unpaid s ++ rest) o ≡ firstOf rest o
+paid-first s rest o e = rw e
 
-  abbrev last : Outcome Value
-  last = done (instructionResult (stored area f x n h))
+module _ (m : Mem) (p : ℕ) (x : Operand) (s : Step) where
+  module _ (r : Execution) (e : not (s .paid) ≡ true) (q : r .status ≡ Panicked) (g : resultOf r ≡ panic (s .frame)) where
+    pub load-panics : Loads m p x s r
+    load-panics f = panicked-ends m f r (panic (s .frame)) q g (rw e)
 
-  abbrev tests : (p a : ℕ) → List (Check Value)
-  tests p a = wordWriteChecks (settingOf m) (viewOf m) p a ++ fifteen (hooked h a) n
+    pub store-panics : (n : ℕ) (h : Hook) (f : Frame) → Stores m p x n h f s r m
+    store-panics n h f = panicked-ends m f r (panic (s .frame)) q g (rw e)
 
-  pub store-panics : (r : Execution) → not (s .paid) ≡ true → r .status ≡ Panicked → resultOf r ≡ panic (s .frame) → Runs m call f r m
-  store-panics r e q g =
-      panicked-runs m call f r (panic (s .frame)) q g
-      (well m call formed ∙ access-panics f area (x .word) s is instructionResult (tests (heapOf f area) (x .word)) last e)
-
-  module _ (e : not (s .paid) ≡ false) (p a : ℕ) (page : p ≡ heapOf f area) (address : a ≡ x .word % 2 ^ 32) where
+  -- the step is paid, and a is the address of the operand x
+  module _ (limit : s .paid ≡ true → x .word ≤ lastAddress) (paid : not (s .paid) ≡ false) (a : ℕ) (address : a ≡ x .word % 2 ^ 32) where
     at-operand : a ≡ x .word
-    at-operand = address ∙ address-is (x .word) (within f area (x .word) s is e)
+    at-operand = address ∙ address-is (x .word) (limit (not-false _ paid))
 
-    tests-same : firstRefusal (tests p a) ≡ firstRefusal (tests (heapOf f area) (x .word))
-    tests-same = ap (λ (q : ℕ). firstRefusal (tests q a)) page ∙ ap (λ (b : ℕ). firstRefusal (tests (heapOf f area) b)) at-operand
+    pub load-done : WellFormed m → (w : ℕ) (bs : List ℕ) → w ≡ bigEndian bs → bs ≡ run (viewOf m) p a 32 → (r : Execution) → r .status ≡ Running
+        → resultOf r ≡ carried Running w (incremented (x .word)) (x .tag) (s .frame) → Loads m p x s r
+    load-done formed w bs e d r q g f =
+        let given = carried Running (bigEndian (run (viewOf m) p (x .word) 32)) (incremented (x .word)) (x .tag) (s .frame) in
+        done-ends m f r given (told-running r given q (g ∙ carried-is (e ∙ ap bigEndian (d ∙ ap (λ (b : ℕ). run (viewOf m) p b 32) at-operand)))) (paid-first s [] (done (instructionResult given)) paid)
+        (shows-itself m formed)
 
-    pub store-refused : (k : ℕ) → k ≡ firstRefusal (tests p a) → (k ≡ 0 → ⊥) → (r : Execution) → r .status ≡ Refused k → resultOf r ≡ frameAlone f → Runs m call f r m
-    store-refused k q z r t g =
-        refused-runs m call f r k t g
-        (well m call formed ∙ access-passes f area (x .word) s is instructionResult (tests (heapOf f area) (x .word)) last e
-        ∙ by-number (store-refusals (settingOf m) (viewOf m) (heapOf f area) (x .word) (hooked h (x .word)) n) k (q ∙ tests-same) z last)
+    module _ (n : ℕ) (h : Hook) (f : Frame) where
+      abbrev tests : ℕ → List (Check Value)
+      tests b = wordWriteChecks (settingOf m) (viewOf m) p b ++ fifteen (hooked h b) n
 
-    pub store-asks : firstRefusal (tests p a) ≡ 0 → (WellFormed m) × (firstRefusal (wordWriteChecks (settingOf m) (viewOf m) p a) ≡ 0)
-    store-asks q = (well-formed-means m formed, store-passed (settingOf m) (viewOf m) p a (hooked h a) n q .0)
+      abbrev given : InstructionResult
+      given = record { word = 0; operand = record { word = incremented (x .word); tag = false }; frame = s .frame; stop = cond (hooked h (x .word)) (onHook n) running }
 
-    pub store-done : firstRefusal (tests p a) ≡ 0 → {m' : Mem} (bs : List ℕ) → bs ≡ wordBytes n → Shows (settingOf m) (wordWritten (layoutOf (m .words)) p a bs (viewOf m)) m'
-        → (r : Execution) (t : ExecutionStatus) (w : ℕ) → t ≡ cond (hooked h a) (SuspendedOnHook (n % 2 ^ 32)) Running → w ≡ 0 → r .status ≡ t
-        → resultOf r ≡ carried t w (incremented (x .word)) false (s .frame) → Runs m call f r m'
-    store-done q {m'} bs d shown r t w u z v g = done-runs m call f r (stored area f x n h) answers by-tests shows
+      tests-same : firstRefusal (tests a) ≡ firstRefusal (tests (x .word))
+      tests-same = ap (λ (b : ℕ). firstRefusal (tests b)) at-operand
+
+      tested : storedTo (settingOf m) (viewOf m) p x n h s ≡ firstOf (tests (x .word)) (done (instructionResult given))
+      tested = paid-first s (tests (x .word)) (done (instructionResult given)) paid
+
+      refusals : Refusals (tests (x .word))
+      refusals = store-refusals (settingOf m) (viewOf m) p (x .word) (hooked h (x .word)) n
+
+      pub store-refused : (k : ℕ) → k ≡ firstRefusal (tests a) → (k ≡ 0 → ⊥) → (r : Execution) → r .status ≡ Refused k → resultOf r ≡ frameAlone f → Stores m p x n h f s r m
+      store-refused k q z r t g = refused-ends m f r k t g (tested ∙ by-number refusals k (q ∙ tests-same) z (done (instructionResult given)))
+
+      pub store-done : firstRefusal (tests a) ≡ 0 → {m' : Mem} (bs : List ℕ) → bs ≡ wordBytes n → Shows (settingOf m) (wordWritten (layoutOf (m .words)) p a bs (viewOf m)) m'
+          → (r : Execution) (t : ExecutionStatus) (w : ℕ) → t ≡ cond (hooked h a) (SuspendedOnHook (n % 2 ^ 32)) Running → w ≡ 0 → r .status ≡ t
+          → resultOf r ≡ carried t w (incremented (x .word)) false (s .frame) → Stores m p x n h f s r m'
+      store-done q {m'} bs d shown r t w u z v g =
+          done-ends m f r given answers (tested ∙ by-none refusals none (done (instructionResult given)))
+          (subst₂ (λ (b : ℕ) (c : List ℕ). Shows (settingOf m) (wordWritten (layoutOf (m .words)) p b c (viewOf m)) m') at-operand d shown)
+        where
+          none : firstRefusal (tests (x .word)) ≡ 0
+          none = sym tests-same ∙ q
+
+          stops : t ≡ cond (hooked h (x .word)) (SuspendedOnHook (n % 2 ^ 32)) Running
+          stops = u ∙ ap (λ (b : ℕ). cond (hooked h b) (SuspendedOnHook (n % 2 ^ 32)) Running) at-operand
+
+          stop-is : stopOf t ≡ cond (hooked h (x .word)) (onHook n) running
+          stop-is = ap stopOf stops ∙ suspended (hooked h (x .word)) n (store-passed (settingOf m) (viewOf m) p (x .word) (hooked h (x .word)) n none .1)
+
+          given-is : resultOf r ≡ given
+          given-is = g ∙ (λ i. record { word = z i; operand = record { word = incremented (x .word); tag = false }; frame = s .frame; stop = stop-is i })
+
+          answers : executionOutcome r ≡ done (instructionResult given)
+          answers =
+              ap (λ (y : ExecutionStatus). statusOutcome y (resultOf r)) (v ∙ stops) ∙ told-stop (hooked h (x .word)) (n % 2 ^ 32) (resultOf r)
+              ∙ ap (λ (y : InstructionResult). done (instructionResult y)) given-is
+
+-- ---- the instructions: the step s and the page p are theirs
+module _ (m : Mem) (f : Frame) (x : Operand) (s : Step) where
+  module _ (area : Area) (is : s ≡ frameAccessed f area (x .word)) where
+    pub within : s .paid ≡ true → x .word ≤ lastAddress
+    within e = frame-within f area (x .word) (sym (ap (λ (u : Step). u .paid) is) ∙ e)
+
+    module _ (formed : wellFormed m ≡ true) (p : ℕ) (page : p ≡ heapOf f area) {r : Execution} where
+      pub load-runs : Loads m p x s r → Runs m (Load area f x) f r m
+      load-runs d = well-runs m (Load area f x) formed (loadedFrom (viewOf m) p x s) (λ i. loadedFrom (viewOf m) (page i) x (is i)) (d f)
+
+      pub store-runs : (n : ℕ) (h : Hook) {m' : Mem} → Stores m p x n h f s r m' → Runs m (Store area f x n h) f r m'
+      store-runs n h {m'} d = well-runs m (Store area f x n h) formed _ refl (subst₂ (λ (q : ℕ) (t : Step). Stores m q x n h f t r m') page is d)
+
+  module _ (is : s ≡ staticStep f (x .word)) where
+    pub static-within : s .paid ≡ true → x .word ≤ lastAddress
+    static-within e = ltb-false lastAddress (x .word) (not-true _ (sym (ap (λ (u : Step). u .paid) is) ∙ e))
+
+    -- the static step pays within the limit
+    static-first : (rest : List (Check Value)) (o : Outcome Value) → firstOf (unpaid (staticStep f (x .word)) ++ rest) o ≡ firstOf (staticChecks instructionResult f (x .word) ++ rest) o
+    static-first rest o = go (ltb lastAddress (x .word))
       where
-        hit : Bool
-        hit = hooked h (x .word)
+        go : (b : Bool) → firstOf ((not (not b), panicked (instructionResult (panic f))) ∷ rest) o ≡ firstOf ((b, panicked (instructionResult (panic f))) ∷ rest) o
+        go true = refl
+        go false = refl
 
-        none : firstRefusal (tests (heapOf f area) (x .word)) ≡ 0
-        none = sym tests-same ∙ q
+    module _ (formed : wellFormed m ≡ true) (p : ℕ) (page : p ≡ staticOf (layoutOf (m .words))) {r : Execution} where
+      pub static-load-runs : Loads m p x s r → Runs m (LoadStatic f x) f r m
+      static-load-runs d =
+          well-runs m (LoadStatic f x) formed (loadedFrom (viewOf m) p x s)
+          ((λ i. loadedFrom (viewOf m) (page i) x (is i)) ∙ static-first [] (done (instructionResult (staticLoaded (settingOf m) (viewOf m) f x)))) (d f)
 
-        stops : t ≡ cond (hooked h (x .word)) (SuspendedOnHook (n % 2 ^ 32)) Running
-        stops = u ∙ ap (λ (b : ℕ). cond (hooked h b) (SuspendedOnHook (n % 2 ^ 32)) Running) at-operand
-
-        stop-is : stopOf t ≡ cond (hooked h (x .word)) (onHook n) running
-        stop-is = ap stopOf stops ∙ suspended (hooked h (x .word)) n (store-passed (settingOf m) (viewOf m) (heapOf f area) (x .word) (hooked h (x .word)) n none .1)
-
-        given-is : resultOf r ≡ stored area f x n h
-        given-is = g ∙ (λ i. record { word = z i; operand = record { word = incremented (x .word); tag = false }; frame = frame-is f area (x .word) s is i; stop = stop-is i })
-
-        answers : executionOutcome r ≡ done (instructionResult (stored area f x n h))
-        answers =
-            ap (λ (y : ExecutionStatus). statusOutcome y (resultOf r)) (v ∙ stops) ∙ told-stop (hooked h (x .word)) (n % 2 ^ 32) (resultOf r)
-            ∙ ap (λ (y : InstructionResult). done (instructionResult y)) given-is
-
-        by-tests : answerOf m call ≡ last
-        by-tests =
-            well m call formed ∙ access-passes f area (x .word) s is instructionResult (tests (heapOf f area) (x .word)) last e
-            ∙ by-none (store-refusals (settingOf m) (viewOf m) (heapOf f area) (x .word) (hooked h (x .word)) n) none last
-
-        shows : Shows (settingOf m) (wordWritten (layoutOf (m .words)) (heapOf f area) (x .word) (wordBytes n) (viewOf m)) m'
-        shows =
-            subst (λ (b : List ℕ). Shows (settingOf m) (wordWritten (layoutOf (m .words)) (heapOf f area) (x .word) b (viewOf m)) m') d
-            (subst (λ (b : ℕ). Shows (settingOf m) (wordWritten (layoutOf (m .words)) (heapOf f area) b bs (viewOf m)) m') at-operand
-            (subst (λ (b : ℕ). Shows (settingOf m) (wordWritten (layoutOf (m .words)) b a bs (viewOf m)) m') page shown))
-
--- ---- static load and store
-module _ (m : Mem) (f : Frame) (x : Operand) (formed : wellFormed m ≡ true) where
-  static-fails : (rest : List (Check Value)) (o : Outcome Value) → ltb lastAddress (x .word) ≡ true
-      → firstOf ((ltb lastAddress (x .word), panicked (instructionResult (panic f))) ∷ rest) o ≡ panicked (instructionResult (panic f))
-  static-fails rest o e = rw e
-
-  static-passes : (rest : List (Check Value)) (o : Outcome Value) → ltb lastAddress (x .word) ≡ false
-      → firstOf ((ltb lastAddress (x .word), panicked (instructionResult (panic f))) ∷ rest) o ≡ firstOf rest o
-  static-passes rest o e = rw e
-
-  pub static-load-panics : (r : Execution) → ltb lastAddress (x .word) ≡ true → r .status ≡ Panicked → resultOf r ≡ panic f → Runs m (LoadStatic f x) f r m
-  static-load-panics r e q g =
-      panicked-runs m (LoadStatic f x) f r (panic f) q g
-      (well m (LoadStatic f x) formed ∙ static-fails [] (done (instructionResult (staticLoaded (settingOf m) (viewOf m) f x))) e)
-
-  pub static-load-done : ltb lastAddress (x .word) ≡ false → (r : Execution) (w : ℕ) → w ≡ bigEndian (run (viewOf m) (staticOf (layoutOf (m .words))) (x .word) 32)
-      → r .status ≡ Running → resultOf r ≡ carried Running w (incremented (x .word)) (x .tag) f → Runs m (LoadStatic f x) f r m
-  static-load-done e r w d q g =
-      done-runs m (LoadStatic f x) f r (staticLoaded (settingOf m) (viewOf m) f x)
-      (told-running r (staticLoaded (settingOf m) (viewOf m) f x) q (g ∙ carried-is d refl))
-      (well m (LoadStatic f x) formed ∙ static-passes [] (done (instructionResult (staticLoaded (settingOf m) (viewOf m) f x))) e)
-      (shows-itself m formed)
-
-  module _ (n : ℕ) where
-    abbrev static-tests : (p a : ℕ) → List (Check Value)
-    static-tests p a = wordWriteChecks (settingOf m) (viewOf m) p a
-
-    abbrev page-of : ℕ
-    page-of = staticOf (layoutOf (m .words))
-
-    abbrev static-last : Outcome Value
-    static-last = done (instructionResult (staticStored f x))
-
-    pub static-store-panics : (r : Execution) → ltb lastAddress (x .word) ≡ true → r .status ≡ Panicked → resultOf r ≡ panic f → Runs m (StoreStatic f x n) f r m
-    static-store-panics r e q g =
-        panicked-runs m (StoreStatic f x n) f r (panic f) q g (well m (StoreStatic f x n) formed ∙ static-fails (static-tests page-of (x .word)) static-last e)
-
-    module _ (e : ltb lastAddress (x .word) ≡ false) (p a : ℕ) (page : p ≡ page-of) (address : a ≡ x .word % 2 ^ 32) where
-      static-at : a ≡ x .word
-      static-at = address ∙ address-is (x .word) e
-
-      static-same : firstRefusal (static-tests p a) ≡ firstRefusal (static-tests page-of (x .word))
-      static-same = ap (λ (q : ℕ). firstRefusal (static-tests q a)) page ∙ ap (λ (b : ℕ). firstRefusal (static-tests page-of b)) static-at
-
-      pub static-store-refused : (k : ℕ) → k ≡ firstRefusal (static-tests p a) → (k ≡ 0 → ⊥) → (r : Execution) → r .status ≡ Refused k → resultOf r ≡ frameAlone f
-          → Runs m (StoreStatic f x n) f r m
-      static-store-refused k q z r t g =
-          refused-runs m (StoreStatic f x n) f r k t g
-          (well m (StoreStatic f x n) formed ∙ static-passes (static-tests page-of (x .word)) static-last e
-          ∙ by-number (write-refusals (settingOf m) (viewOf m) page-of (x .word)) k (q ∙ static-same) z static-last)
-
-      pub static-store-done : firstRefusal (static-tests p a) ≡ 0 → {m' : Mem} (bs : List ℕ) → bs ≡ wordBytes n → Shows (settingOf m) (wordWritten (layoutOf (m .words)) p a bs (viewOf m)) m'
-          → (r : Execution) (w : ℕ) → w ≡ 0 → r .status ≡ Running → resultOf r ≡ carried Running w (incremented (x .word)) false f → Runs m (StoreStatic f x n) f r m'
-      static-store-done q {m'} bs d shown r w z v g =
-          done-runs m (StoreStatic f x n) f r (staticStored f x) (told-running r (staticStored f x) v (g ∙ carried-is z refl))
-          (well m (StoreStatic f x n) formed ∙ static-passes (static-tests page-of (x .word)) static-last e
-          ∙ by-none (write-refusals (settingOf m) (viewOf m) page-of (x .word)) (sym static-same ∙ q) static-last)
-          (subst (λ (b : List ℕ). Shows (settingOf m) (wordWritten (layoutOf (m .words)) page-of (x .word) b (viewOf m)) m') d
-          (subst (λ (b : ℕ). Shows (settingOf m) (wordWritten (layoutOf (m .words)) page-of b bs (viewOf m)) m') static-at
-          (subst (λ (b : ℕ). Shows (settingOf m) (wordWritten (layoutOf (m .words)) b a bs (viewOf m)) m') page shown)))
+      -- the hook is off
+      pub static-store-runs : (n : ℕ) {m' : Mem} → Stores m p x n (record { on = false; address = 0 }) f s r m' → Runs m (StoreStatic f x n) f r m'
+      static-store-runs n {m'} d =
+          let checks = wordWriteChecks (settingOf m) (viewOf m) (staticOf (layoutOf (m .words))) (x .word) in
+          let last = done (instructionResult (staticStored f x)) in
+          well-runs m (StoreStatic f x n) formed _ (static-first (checks ++ ((false, refused 15) ∷ [])) last ∙ never-last (staticChecks instructionResult f (x .word) ++ checks) (refused 15) last)
+          (subst₂ (λ (q : ℕ) (t : Step). Stores m q x n (record { on = false; address = 0 }) f t r m') page is d)
 
 -- ---- pointer read; q is the operand's pointer
 module _ (m : Mem) (f : Frame) (x : Operand) (formed : wellFormed m ≡ true) where
@@ -277,13 +221,13 @@ module _ (m : Mem) (f : Frame) (x : Operand) (formed : wellFormed m ≡ true) wh
 
   module _ (r : Execution) where
     pub untagged-panics : x .tag ≡ false → r .status ≡ Panicked → resultOf r ≡ panic f → Runs m read f r m
-    untagged-panics t s g = panicked-runs m read f r (panic f) s g (well m read formed ∙ rw t)
+    untagged-panics t s g = panicked-ends m f r (panic f) s g (well m read formed ∙ rw t)
 
     module _ (t : x .tag ≡ true) (q : FatPointer) (is : q ≡ pointerOf (x .word)) where
       pub offset-panics : lastAddress < q .offset → r .status ≡ Panicked → resultOf r ≡ panic f → Runs m read f r m
       offset-panics l s g =
           let k : ltb lastAddress (pointer .offset) ≡ true = sym (ap (λ (p : FatPointer). ltb lastAddress (p .offset)) is) ∙ lt-ltb lastAddress (q .offset) l in
-          panicked-runs m read f r (panic f) s g (well m read formed ∙ rw (t, k))
+          panicked-ends m f r (panic f) s g (well m read formed ∙ rw (t, k))
 
       module _ (near : q .offset ≤ lastAddress) where
         near-is : ltb lastAddress (pointer .offset) ≡ false
@@ -292,7 +236,7 @@ module _ (m : Mem) (f : Frame) (x : Operand) (formed : wellFormed m ≡ true) wh
         pub pointer-refused : 4294967295 < q .start + q .length → r .status ≡ Refused 14 → resultOf r ≡ frameAlone f → Runs m read f r m
         pointer-refused l s g =
             let k : ltb 4294967295 (pointer .start + pointer .length) ≡ true = sym (ap (λ (p : FatPointer). ltb 4294967295 (p .start + p .length)) is) ∙ lt-ltb 4294967295 (q .start + q .length) l in
-            refused-runs m read f r 14 s g (well m read formed ∙ rw (t, near-is, k))
+            refused-ends m f r 14 s g (well m read formed ∙ rw (t, near-is, k))
 
         pub pointer-done : q .start + q .length ≤ 4294967295 → (w start n : ℕ) (bs : List ℕ) → start ≡ readFrom q → n ≡ readCount q
             → bs ≡ padded (run (viewOf m) (q .«memory_page» .0) start n) → w ≡ bigEndian bs
@@ -303,7 +247,7 @@ module _ (m : Mem) (f : Frame) (x : Operand) (formed : wellFormed m ≡ true) wh
             d ∙ ap (λ (y : ℕ). padded (run (viewOf m) (q .«memory_page» .0) y n)) from
             ∙ ap (λ (y : ℕ). padded (run (viewOf m) (q .«memory_page» .0) (readFrom q) y)) count
             ∙ ap (λ (p : FatPointer). padded (run (viewOf m) (p .«memory_page» .0) (readFrom p) (readCount p))) is in
-            done-runs m read f r (pointed (viewOf m) f x)
-            (told-running r (pointed (viewOf m) f x) s (g ∙ carried-is (e ∙ ap bigEndian b) refl))
+            done-ends m f r (pointed (viewOf m) f x)
+            (told-running r (pointed (viewOf m) f x) s (g ∙ carried-is (e ∙ ap bigEndian b)))
             (well m read formed ∙ rw (t, near-is, k))
-            (shows-itself m formed)
+            (shows-itself m (well-formed-means m formed))

@@ -24,6 +24,12 @@ by-none end e o = refl
 by-none (next {b = true} {n = k} r) e o = absurd (omega arith)
 by-none (next {b = false} r) e o = by-none r e o
 
+-- a last check that fails decides nothing
+pub never-last : (checks : List (Check Value)) (never o : Outcome Value) → firstOf (checks ++ ((false, never) ∷ [])) o ≡ firstOf checks o
+never-last [] never o = refl
+never-last ((true, _) ∷ rest) never o = refl
+never-last ((false, _) ∷ rest) never o = never-last rest never o
+
 -- ---- more checks after them
 module _ (rest : List (Check Value)) where
   pub more-number : {checks : List (Check Value)} → Refusals checks → (n : ℕ) → n ≡ firstRefusal checks → (n ≡ 0 → ⊥) → n ≡ firstRefusal (checks ++ rest)

@@ -34,7 +34,7 @@ module _ (f : Frame) (area : Area) (x : ℕ) where
       go Aux = rw e refl
 
   pub reach-near : ltb lastAddress x ≡ false → (a b : ℕ) → a ≡ x % 2 ^ 32 → b ≡ newBound a → (s : Step) → s ≡ frameGrown f area b → s ≡ frameAccessed f area x
-  reach-near e a b d g s h = h ∙ ap (frameGrown f area) (g ∙ ap newBound (d ∙ address-is x e)) ∙ rw e refl
+  reach-near e a b d g s h = h ∙ ap (frameGrown f area) (g ∙ ap newBound (d ∙ address-is x (ltb-false lastAddress x e))) ∙ rw e refl
 
 -- ---- the hook
 pub hook-off : (on b : Bool) → not on ≡ true → false ≡ (on && b)

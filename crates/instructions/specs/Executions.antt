@@ -1,15 +1,22 @@
 -- What the operands and answers of the instructions mean, and their contract.
 -- Assumes nothing.
 use mathlib.Core.Path.{_≡_}
-use mathlib.Core.Bool.{Bool}
+use mathlib.Core.Bool.{Bool, false, cond, not, _&&_}
+use mathlib.Core.List.{List, [], _∷_, _++_}
 use Prim.Native.Nat.{ℕ}
-use Rattle.outcome.specs.Outcome.{Outcome, refused, panicked, done}
-use Rattle.word.specs.Value.{value}
+use lib.Dec.{ltb}
+use Rattle.outcome.specs.Outcome.{Outcome, refused, panicked, done, firstOf}
+use Rattle.word.specs.Value.{value, bigEndian, wordBytes, lastAddress}
 use Rattle.state.specs.declared.Frame.{Frame}
-use Rattle.store.specs.Mem.{Mem}
+use Rattle.state.specs.declared.Step.{Step}
+use Rattle.store.specs.Mem.{Mem, layoutOf}
+use Rattle.view.specs.View.{View, Setting, settingOf, viewOf}
+use Rattle.view.specs.Steps.{run, wordWritten}
+use Rattle.view.specs.Checks.{Check, wordWriteChecks}
+use Rattle.view.specs.Does.{Does}
 use Rattle.view.specs.Instructions as view
-use Rattle.view.specs.Instructions.{InstructionResult, Stop, running, onHook, frameAlone}
-use Rattle.view.specs.Calls.{Call, Value, instructionResult, CallDoes}
+use Rattle.view.specs.Instructions.{InstructionResult, Stop, running, onHook, frameAlone, panic, incremented, hooked}
+use Rattle.view.specs.Calls.{Call, Value, instructionResult, answerOf, nextOf}
 use Rattle.instructions.specs.declared.Operand.{Operand}
 use Rattle.instructions.specs.declared.Hook.{Hook}
 use Rattle.instructions.specs.declared.Execution.{Execution}
@@ -43,13 +50,43 @@ statusOutcome (Refused n) g = refused n
 abbrev pub executionOutcome : Execution → Outcome Value
 executionOutcome r = statusOutcome (r .status) (resultOf r)
 
--- THE CONTRACT of an instruction c on the buffers m and the frame f, which answers r and leaves the buffers m'
-pub record Runs (m : Mem) (c : Call) (f : Frame) (r : Execution) (m' : Mem) : Type 0 where
-  -- that of every call: the outcome is the definition's; the buffers are as they were where it is refused or panics, and show the view that it leaves where not
-  pub does : CallDoes m c (executionOutcome r) m'
+-- a run on the buffers m and the frame f has the outcome o, answers r and leaves the buffers m', of the view v where it is carried out
+pub record Ends (m : Mem) (o : Outcome Value) (v : View) (f : Frame) (r : Execution) (m' : Mem) : Type 0 where
+  -- the buffers are as they were where it is refused or panics
+  pub does : Does m o (settingOf m) v (executionOutcome r) m'
   -- a refused instruction gives no word and no operand, and the frame as it was
   pub refusal : (n : ℕ) → executionOutcome r ≡ refused n → resultOf r ≡ frameAlone f
+
+-- THE CONTRACT of an instruction c on the buffers m and the frame f, which answers r and leaves the buffers m': that of every call, CallDoes, and `refusal`
+abbrev pub Runs : Mem → Call → Frame → Execution → Mem → Type 0
+Runs m c f r m' = Ends m (answerOf m c) (nextOf (settingOf m) c (viewOf m)) f r m'
 
 -- ---- what the parts do
 abbrev pub carried : ExecutionStatus → (word operand : ℕ) → Bool → Frame → InstructionResult
 carried s w x t f = record { word = w; operand = record { word = x; tag = t }; frame = f; stop = stopOf s }
+
+-- a load or a store panics where the step s does not pay
+abbrev pub unpaid : Step → List (Check Value)
+unpaid s = (not (s .paid), panicked (instructionResult (panic (s .frame)))) ∷ []
+
+-- the step of a static load or store: it costs nothing
+abbrev pub staticStep : Frame → ℕ → Step
+staticStep f x = record { frame = f; paid = not (ltb lastAddress x) }
+
+-- the outcome of a load from page p with the step s
+abbrev pub loadedFrom : View → ℕ → view.Operand → Step → Outcome Value
+loadedFrom v p x s = firstOf (unpaid s) (done (instructionResult (carried Running (bigEndian (run v p (x .word) 32)) (incremented (x .word)) (x .tag) (s .frame))))
+
+-- and its contract: it is never refused
+abbrev pub Loads : Mem → ℕ → view.Operand → Step → Execution → Type 0
+Loads m p x s r = (f : Frame) → Ends m (loadedFrom (viewOf m) p x s) (viewOf m) f r m
+
+-- the outcome of a store to page p with the step s: the panic, then the refusals of a word write, then 15
+abbrev pub storedTo : Setting → View → ℕ → view.Operand → ℕ → view.Hook → Step → Outcome Value
+storedTo t v p x n h s =
+    firstOf (unpaid s ++ (wordWriteChecks t v p (x .word) ++ ((hooked h (x .word) && ltb 4294967295 n, refused 15) ∷ [])))
+    (done (instructionResult (record { word = 0; operand = record { word = incremented (x .word); tag = false }; frame = s .frame; stop = cond (hooked h (x .word)) (onHook n) running })))
+
+-- and its contract; f is the frame before the step
+abbrev pub Stores : Mem → ℕ → view.Operand → ℕ → view.Hook → Frame → Step → Execution → Mem → Type 0
+Stores m p x n h f s r m' = Ends m (storedTo (settingOf m) (viewOf m) p x n h s) (wordWritten (layoutOf (m .words)) p (x .word) (wordBytes n) (viewOf m)) f r m'

@@ -54,22 +54,9 @@ pub fn load(
     if !formed::well_formed(bytes, keys, order, words) {
         return parts::refused(3, frame);
     }
-    let step = parts::reach(frame, area, operand.word);
-    let after = step.frame;
-    if !step.paid {
-        return parts::panicked(after);
-    }
     let page = parts::page_of(frame, area);
-    let address = Address(word::low_u32(operand.word));
-    let read = reads::steps::read_word(bytes, keys, order, words, page, address);
-    let word = word::from_big_endian(read);
-    parts::carried_out(
-        ExecutionStatus::Running,
-        word,
-        operand,
-        operand.tagged,
-        after,
-    )
+    let step = parts::reach(frame, area, operand.word);
+    parts::load_at(bytes, keys, order, words, page, operand, step)
 }
 
 // Writes a word at the operand, in the page of an area, and pays for the area's growth; stops on the hook.
@@ -89,21 +76,9 @@ pub fn store(
     if !formed::well_formed(bytes, keys, order, words) {
         return parts::refused(3, frame);
     }
-    let step = parts::reach(frame, area, operand.word);
-    let after = step.frame;
-    if !step.paid {
-        return parts::panicked(after);
-    }
     let page = parts::page_of(frame, area);
-    let address = Address(word::low_u32(operand.word));
-    let number = parts::store_refusal(bytes, keys, order, words, page, address, word, hook);
-    if number != 0 {
-        return parts::refused(number, frame);
-    }
-    let value = word::to_big_endian(word);
-    writes::steps::write_word(bytes, keys, order, words, page, address, value);
-    let status = parts::stop_of(hook, address, word);
-    parts::carried_out(status, parts::no_word(), operand, false, after)
+    let step = parts::reach(frame, area, operand.word);
+    parts::store_at(bytes, keys, order, words, page, operand, word, hook, frame, step)
 }
 
 // Reads the bytes that a pointer shows from its offset on, at most 32; they lead the word, and zeros follow.
@@ -154,20 +129,9 @@ pub fn load_static(
     if !formed::well_formed(bytes, keys, order, words) {
         return parts::refused(3, frame);
     }
-    if word::bigger_than_last_address(operand.word) {
-        return parts::panicked(frame);
-    }
-    let page = parts::static_page(bytes, keys, order, words);
-    let address = Address(word::low_u32(operand.word));
-    let read = reads::steps::read_word(bytes, keys, order, words, page, address);
-    let word = word::from_big_endian(read);
-    parts::carried_out(
-        ExecutionStatus::Running,
-        word,
-        operand,
-        operand.tagged,
-        frame,
-    )
+    let page = parts::static_page(words);
+    let step = parts::reach_static(frame, operand.word);
+    parts::load_at(bytes, keys, order, words, page, operand, step)
 }
 
 // Writes a word at the operand in the static page.
@@ -185,22 +149,11 @@ pub fn store_static(
     if !formed::well_formed(bytes, keys, order, words) {
         return parts::refused(3, frame);
     }
-    if word::bigger_than_last_address(operand.word) {
-        return parts::panicked(frame);
-    }
-    let page = parts::static_page(bytes, keys, order, words);
-    let address = Address(word::low_u32(operand.word));
-    let refusal = checks::word_checks(bytes, keys, order, words, page, address);
-    if refusal != 0 {
-        return parts::refused(refusal, frame);
-    }
-    let value = word::to_big_endian(word);
-    writes::steps::write_word(bytes, keys, order, words, page, address, value);
-    parts::carried_out(
-        ExecutionStatus::Running,
-        parts::no_word(),
-        operand,
-        false,
-        frame,
-    )
+    let page = parts::static_page(words);
+    let step = parts::reach_static(frame, operand.word);
+    let off = Hook {
+        on: false,
+        address: Address(0),
+    };
+    parts::store_at(bytes, keys, order, words, page, operand, word, off, frame, step)
 }

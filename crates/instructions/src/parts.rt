@@ -1,19 +1,21 @@
 // What the instructions are made of: the pages and the growth, the hook, and the answers.
 ghost use mathlib.Core.Path.{_≡_};
-ghost use mathlib.Core.Bool.{false, cond, _&&_};
+ghost use mathlib.Core.Bool.{true, false, cond, _&&_};
 ghost use mathlib.Core.List.{[], _∷_, _++_};
 ghost use Prim.Native.Nat.{_-_, _%_, _^_, _≤_, min};
 ghost use lib.Dec.{ltb};
+ghost use lib.ListN.{length};
 ghost use Rattle.view.specs.Calls.{firstRefusal};
 ghost use Rattle.outcome.specs.Outcome.{refused};
-ghost use Rattle.word.specs.Value.{value};
+ghost use Rattle.word.specs.Value.{value, lastAddress};
 ghost use Rattle.state.specs.Access.{frameAccessed};
-ghost use Rattle.store.specs.Mem.{mem, layoutOf};
+ghost use Rattle.store.specs.Mem.{mem, layoutOf, headLength};
+ghost use Rattle.formed.specs.Formed.{narrow};
 ghost use Rattle.formed.specs.WellFormed.{WellFormed};
 ghost use Rattle.view.specs.View.{settingOf, viewOf};
 ghost use Rattle.view.specs.Checks.{wordWriteChecks};
 ghost use Rattle.view.specs.Instructions.{heapOf, staticOf, frameAlone, panic, hooked, incremented};
-ghost use Rattle.instructions.specs.Executions.{hookOf, resultOf, carried};
+ghost use Rattle.instructions.specs.Executions.{operandOf, hookOf, resultOf, carried, staticStep, Loads, Stores};
 use crate::Execution;
 use crate::ExecutionStatus;
 use crate::Hook;
@@ -36,8 +38,8 @@ pub fn page_of(frame: Frame, area: Area) -> PageId
     }
 }
 
-pub fn static_page(bytes: &[u8], keys: &[u64], order: &[u32], words: &[u64]) -> PageId
-    requires { ⌜ WellFormed (mem (now bytes) (now keys) (now order) (now words)) ⌝ }
+pub fn static_page(words: &[u64]) -> PageId
+    requires { ⌜ (headLength ≤ length (now words)) × (narrow (now words) ≡ true) ⌝ }
     ensures { λ r. ⌜ r .0 ≡ staticOf (layoutOf (now (words .entry))) ⌝ }
 {
     let layout = formed::head::layout_of(words);
@@ -60,9 +62,20 @@ pub fn reach(frame: Frame, area: Area, operand: Word) -> Step
     state::growth_step(frame, area, state::new_bound(address))
 }
 
+// A static load or store has the same limit, and costs nothing.
+pub fn reach_static(frame: Frame, operand: Word) -> Step
+    ensures { λ r. ⌜ r ≡ staticStep frame (value (operand .limbs)) ⌝ }
+{
+    let far = word::bigger_than_last_address(operand);
+    Step {
+        frame: frame,
+        paid: !far,
+    }
+}
+
 // ---- the hook
 
-pub fn hits(hook: Hook, address: Address) -> bool
+fn hits(hook: Hook, address: Address) -> bool
     ensures { λ r. ⌜ r ≡ hooked (hookOf hook) (address .0) ⌝ }
 {
     if !hook.on {
@@ -72,7 +85,7 @@ pub fn hits(hook: Hook, address: Address) -> bool
 }
 
 // Which refusal a store to a well-formed memory gets, or 0.
-pub fn store_refusal(
+fn store_refusal(
     bytes: &[u8],
     keys: &[u64],
     order: &[u32],
@@ -98,7 +111,7 @@ pub fn store_refusal(
     15
 }
 
-pub fn stop_of(hook: Hook, address: Address, word: Word) -> ExecutionStatus
+fn stop_of(hook: Hook, address: Address, word: Word) -> ExecutionStatus
     ensures { λ r. ⌜ r ≡ cond (hooked (hookOf hook) (address .0)) (ExecutionStatus.SuspendedOnHook (value (word .limbs) % 2 ^ 32)) ExecutionStatus.Running ⌝ }
 {
     if hits(hook, address) {
@@ -109,7 +122,7 @@ pub fn stop_of(hook: Hook, address: Address, word: Word) -> ExecutionStatus
 
 // ---- the answers
 
-pub fn no_word() -> Word
+fn no_word() -> Word
     ensures { λ r. ⌜ value (r .limbs) ≡ 0 ⌝ }
 {
     let limbs = [0u64; 4];
@@ -167,6 +180,70 @@ pub fn carried_out(
         operand: next,
         frame: frame,
     }
+}
+
+// ---- load and store
+
+// Panics where the step is not paid, or reads the word at the operand.
+pub fn load_at(
+    bytes: &[u8],
+    keys: &[u64],
+    order: &[u32],
+    words: &[u64],
+    page: PageId,
+    operand: Operand,
+    step: Step,
+) -> Execution
+    requires { ⌜ WellFormed (mem (now bytes) (now keys) (now order) (now words)) ⌝ }
+    requires { ⌜ (step .paid ≡ true → value (operand .word .limbs) ≤ lastAddress) ⌝ }
+    ensures { λ r. ⌜ Loads (mem (now (bytes .entry)) (now (keys .entry)) (now (order .entry)) (now (words .entry))) (page .0) (operandOf operand) step r ⌝ }
+{
+    let after = step.frame;
+    if !step.paid {
+        return panicked(after);
+    }
+    let address = Address(word::low_u32(operand.word));
+    let read = reads::steps::read_word(bytes, keys, order, words, page, address);
+    let word = word::from_big_endian(read);
+    carried_out(
+        ExecutionStatus::Running,
+        word,
+        operand,
+        operand.tagged,
+        after,
+    )
+}
+
+// Panics where the step is not paid, or is refused with the frame as it was, or writes the word at the operand and stops on the hook.
+pub fn store_at(
+    bytes: &mut [u8],
+    keys: &mut [u64],
+    order: &mut [u32],
+    words: &mut [u64],
+    page: PageId,
+    operand: Operand,
+    word: Word,
+    hook: Hook,
+    before: Frame,
+    step: Step,
+) -> Execution
+    requires { ⌜ WellFormed (mem (now bytes) (now keys) (now order) (now words)) ⌝ }
+    requires { ⌜ (step .paid ≡ true → value (operand .word .limbs) ≤ lastAddress) ⌝ }
+    ensures { λ r. ⌜ Stores (mem (now (bytes .entry)) (now (keys .entry)) (now (order .entry)) (now (words .entry))) (page .0) (operandOf operand) (value (word .limbs)) (hookOf hook) before step r (mem (now (bytes .exit)) (now (keys .exit)) (now (order .exit)) (now (words .exit))) ⌝ }
+{
+    let after = step.frame;
+    if !step.paid {
+        return panicked(after);
+    }
+    let address = Address(word::low_u32(operand.word));
+    let number = store_refusal(bytes, keys, order, words, page, address, word, hook);
+    if number != 0 {
+        return refused(number, before);
+    }
+    let value = word::to_big_endian(word);
+    writes::steps::write_word(bytes, keys, order, words, page, address, value);
+    let status = stop_of(hook, address, word);
+    carried_out(status, no_word(), operand, false, after)
 }
 
 // ---- the bytes of a pointer

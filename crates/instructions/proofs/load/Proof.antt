@@ -1,14 +1,10 @@
-use mathlib.Core.Path.{_∙_}
-use Rattle.word.specs.Value.{value}
-use Rattle.view.specs.View.{viewOf}
-use Rattle.view.specs.Instructions.{heapOf}
-use Rattle.view.specs.Calls.{Load}
-use Rattle.instructions.specs.Executions.{operandOf}
-use Rattle.instructions.proofs.Laws.{address-is, ill, refused-runs, within, load-panics, load-done, word-is}
+use borrow.Author.Needs.{needs}
 use Rattle.store.specs.Mem.{mem}
 use Rattle.formed.proofs.Meaning.{well-formed-means}
+use Rattle.view.specs.Calls.{Load}
 use Rattle.reads.proofs.Answers.{passed, failed}
-use borrow.Author.Needs.{needs}
+use Rattle.instructions.specs.Executions.{operandOf}
+use Rattle.instructions.proofs.Laws.{ill-runs, within, load-runs}
 use Rattle.instructions.proofs.load.Statement.{statement}
 use Rattle.instructions.proofs.load.Tie as tie
 
@@ -19,46 +15,27 @@ returns c =
     let at-well-formed = at-if1 .before in
     let start = at-well-formed .before .before .before .before .before in
     let m = mem (start .args .bytes .now) (start .args .keys .now) (start .args .order .now) (start .args .words .now) in
-    refused-runs m (Load (start .args .area) (start .args .frame) (operandOf (start .args .operand))) (start .args .frame) _ 3 (at-refused .refused .ensures .0) (at-refused .refused .ensures .1) (ill m (Load (start .args .area) (start .args .frame) (operandOf (start .args .operand))) (failed (at-well-formed .well-formed .ensures) (at-if1 .if1 .taken)))
+    ill-runs m (Load (start .args .area) (start .args .frame) (operandOf (start .args .operand))) (start .args .frame) _ (failed (at-well-formed .well-formed .ensures) (at-if1 .if1 .taken)) (at-refused .refused .ensures .0) (at-refused .refused .ensures .1)
+
+load-at-requires : tie.Need-load-at-requires
+load-at-requires c κs =
+    let at-reach = c in
+    let at-if1 = at-reach .before .before in
+    let at-well-formed = at-if1 .before in
+    let start = at-well-formed .before .before .before .before .before in
+    let m = mem (start .args .bytes .now) (start .args .keys .now) (start .args .order .now) (start .args .words .now) in
+    (well-formed-means m (passed (at-well-formed .well-formed .ensures) (at-if1 .if1 .left)), within m (start .args .frame) (operandOf (start .args .operand)) (at-reach .reach .result) (start .args .area) (at-reach .reach .ensures))
 
 returns-2 : tie.Need-returns-2
 returns-2 c =
-    let at-panicked = c in
-    let at-if2 = at-panicked .before in
-    let at-reach = at-if2 .before .before .before in
-    let at-if1 = at-reach .before in
+    let at-load-at = c in
+    let at-reach = at-load-at .before in
+    let at-page-of = at-reach .before in
+    let at-if1 = at-page-of .before in
     let at-well-formed = at-if1 .before in
     let start = at-well-formed .before .before .before .before .before in
     let m = mem (start .args .bytes .now) (start .args .keys .now) (start .args .order .now) (start .args .words .now) in
-    load-panics m (start .args .area) (start .args .frame) (operandOf (start .args .operand)) (passed (at-well-formed .well-formed .ensures) (at-if1 .if1 .left)) (at-reach .reach .result) (at-reach .reach .ensures) _ (at-if2 .if2 .taken) (at-panicked .panicked .ensures .0) (at-panicked .panicked .ensures .1)
-
-read-word-requires : tie.Need-read-word-requires
-read-word-requires c κs =
-    let at-if1 = c .before .before .before .before .before .before in
-    let at-well-formed = at-if1 .before in
-    let start = at-well-formed .before .before .before .before .before in
-    let m = mem (start .args .bytes .now) (start .args .keys .now) (start .args .order .now) (start .args .words .now) in
-    well-formed-means m (passed (at-well-formed .well-formed .ensures) (at-if1 .if1 .left))
-
-returns-3 : tie.Need-returns-3
-returns-3 c =
-    let at-carried-out = c in
-    let at-from-big-endian = at-carried-out .before in
-    let at-read-word = at-from-big-endian .before in
-    let at-low-u32 = at-read-word .before in
-    let at-page-of = at-low-u32 .before in
-    let at-if2 = at-page-of .before in
-    let at-reach = at-if2 .before .before .before in
-    let at-if1 = at-reach .before in
-    let at-well-formed = at-if1 .before in
-    let start = at-well-formed .before .before .before .before .before in
-    let m = mem (start .args .bytes .now) (start .args .keys .now) (start .args .order .now) (start .args .words .now) in
-    let x = value (start .args .operand .word .limbs) in
-    let page = heapOf (start .args .frame) (start .args .area) in
-    let near = within (start .args .frame) (start .args .area) x (at-reach .reach .result) (at-reach .reach .ensures) (at-if2 .if2 .left) in
-    load-done m (start .args .area) (start .args .frame) (operandOf (start .args .operand)) (passed (at-well-formed .well-formed .ensures) (at-if1 .if1 .left)) (at-reach .reach .result) (at-reach .reach .ensures) (at-if2 .if2 .left) _ _
-    (word-is (viewOf m) _ (at-read-word .read-word .result) (at-page-of .page-of .result) page (at-low-u32 .low-u32 .result) x (at-from-big-endian .from-big-endian .ensures) (at-read-word .read-word .ensures) (at-page-of .page-of .ensures) (at-low-u32 .low-u32 .ensures ∙ address-is x near))
-    (at-carried-out .carried-out .ensures .0) (at-carried-out .carried-out .ensures .1)
+    load-runs m (start .args .frame) (operandOf (start .args .operand)) (at-reach .reach .result) (start .args .area) (at-reach .reach .ensures) (passed (at-well-formed .well-formed .ensures) (at-if1 .if1 .left)) (at-page-of .page-of .result .0) (at-page-of .page-of .ensures) (at-load-at .load-at .ensures)
 
 pub load-spec : {M : Type 1} → statement M
-load-spec = tie.close (tie.spec (λ c κs. search needs) (λ c κs. search needs) returns (λ c κs. search needs) (λ c κs. search needs) returns-2 (λ c κs. search needs) (λ c κs. search needs) read-word-requires (λ c κs. search needs) (λ c κs. search needs) returns-3)
+load-spec = tie.close (tie.spec (λ c κs. search needs) (λ c κs. search needs) returns (λ c κs. search needs) (λ c κs. search needs) load-at-requires returns-2)

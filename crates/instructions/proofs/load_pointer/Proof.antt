@@ -4,7 +4,7 @@ use native.Mathlib.Omega.{arith}
 use borrow.Author.Tests.{not-true, not-false}
 use Rattle.view.specs.Calls.{LoadPointer}
 use Rattle.instructions.specs.Executions.{operandOf}
-use Rattle.instructions.proofs.Laws.{ill, refused-runs, untagged-panics, offset-panics, pointer-refused, pointer-done}
+use Rattle.instructions.proofs.Laws.{ill-runs, untagged-panics, offset-panics, pointer-refused, pointer-done}
 use Rattle.instructions.proofs.Pieces.{min-le-left, min-le-right}
 use Rattle.store.specs.Mem.{mem}
 use Rattle.formed.proofs.Meaning.{well-formed-means}
@@ -26,7 +26,7 @@ returns c =
     let at-well-formed = at-if1 .before in
     let start = at-well-formed .before .before .before .before .before in
     let m = mem (start .args .bytes .now) (start .args .keys .now) (start .args .order .now) (start .args .words .now) in
-    refused-runs m (LoadPointer (start .args .frame) (operandOf (start .args .operand))) (start .args .frame) _ 3 (at-refused .refused .ensures .0) (at-refused .refused .ensures .1) (ill m (LoadPointer (start .args .frame) (operandOf (start .args .operand))) (failed (at-well-formed .well-formed .ensures) (at-if1 .if1 .taken)))
+    ill-runs m (LoadPointer (start .args .frame) (operandOf (start .args .operand))) (start .args .frame) _ (failed (at-well-formed .well-formed .ensures) (at-if1 .if1 .taken)) (at-refused .refused .ensures .0) (at-refused .refused .ensures .1)
 
 panicked-requires : tie.Need-panicked-requires
 panicked-requires c κs = search needs
@@ -84,8 +84,8 @@ add-end c = search needs
 lesser-requires : tie.Need-lesser-requires
 lesser-requires c κs = search needs
 
-add-start : tie.Need-add-start
-add-start c =
+add-first : tie.Need-add-first
+add-first c =
     let at-lesser = c .before in
     let at-if4 = at-lesser .before .before in
     let at-from-u256 = at-if4 .before .before .before .before .before in
@@ -106,7 +106,7 @@ count-requires c κs =
 
 read-padded-requires : tie.Need-read-padded-requires
 read-padded-requires c κs =
-    let at-count = c in
+    let at-count = c .before in
     let at-lesser = at-count .before .before in
     let at-from-u256 = at-lesser .before .before .before .before .before .before .before in
     let at-if1 = at-from-u256 .before .before .before in
@@ -128,7 +128,7 @@ returns-5 c =
     let at-carried-out = c in
     let at-from-big-endian = at-carried-out .before in
     let at-read-padded = at-from-big-endian .before in
-    let at-count = at-read-padded .before in
+    let at-count = at-read-padded .before .before in
     let at-lesser = at-count .before .before in
     let at-if4 = at-lesser .before .before in
     let at-struct-known4 = at-if4 .before in
@@ -145,4 +145,4 @@ returns-5 c =
     (at-read-padded .read-padded .ensures) (at-from-big-endian .from-big-endian .ensures) (at-carried-out .carried-out .ensures .0) (at-carried-out .carried-out .ensures .1)
 
 pub load-pointer-spec : {M : Type 1} → statement M
-load-pointer-spec = tie.close (tie.spec well-formed-requires refused-requires returns panicked-requires returns-2 from-u256-requires panicked-requires-2 returns-3 sub-if4 refused-requires-2 returns-4 add-end lesser-requires add-start count-requires read-padded-requires from-big-endian-requires carried-out-requires returns-5)
+load-pointer-spec = tie.close (tie.spec well-formed-requires refused-requires returns panicked-requires returns-2 from-u256-requires panicked-requires-2 returns-3 sub-if4 refused-requires-2 returns-4 add-end lesser-requires add-first count-requires read-padded-requires from-big-endian-requires carried-out-requires returns-5)

@@ -11,7 +11,7 @@ returns c =
 
 returns-2 : tie.Need-returns-2
 returns-2 c =
-    let at-if1 = c .before in
+    let at-if1 = c .before .before in
     let start = at-if1 .before .before in
     hook-on (start .args .hook .on) (eqb (start .args .address .0) (start .args .hook .address .0)) (at-if1 .if1 .left)
 

@@ -7,13 +7,13 @@ use Rattle.instructions.proofs.parts.page_of.Tie as tie
 
 returns : tie.Need-returns
 returns c =
-    let at-enum-told = c in
+    let at-enum-told = c .before in
     let start = at-enum-told .before .before in
     sym (ap (λ (area : Area). heapOf (start .args .frame) area) (at-enum-told .enum-told .given .1))
 
 returns-2 : tie.Need-returns-2
 returns-2 c =
-    let at-enum-told2 = c in
+    let at-enum-told2 = c .before in
     let start = at-enum-told2 .before .before in
     sym (ap (λ (area : Area). heapOf (start .args .frame) area) (at-enum-told2 .enum-told2 .given .1))
 

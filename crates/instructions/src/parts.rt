@@ -257,12 +257,12 @@ pub fn lesser(a: u32, b: u32) -> u32
     b
 }
 
-// How many bytes are read from `start` on: at most 32, and none past `end`.
-pub fn count(start: u32, end: u32) -> usize
-    requires { ⌜ start ≤ end ⌝ }
-    ensures { λ r. ⌜ r ≡ min 32 (end - start) ⌝ }
+// How many bytes are read from `first` on: at most 32, and none past `end`.
+pub fn count(first: u32, end: u32) -> usize
+    requires { ⌜ first ≤ end ⌝ }
+    ensures { λ r. ⌜ r ≡ min 32 (end - first) ⌝ }
 {
-    let left = end - start;
+    let left = end - first;
     if left < 32 {
         return left as usize;
     }

@@ -15,7 +15,7 @@ use Rattle.index.specs.Index.{seek}
 use Rattle.index.proofs.Logic.{lt-or-ge}
 use Rattle.store.specs.Mem.{Mem, mem, layoutOf, slotCount, pageCount, heldNow, inUse, journalWords, journalLength, holders}
 use Rattle.store.specs.Hold.{lacks, Indexed, Held}
-use Rattle.store.specs.Find.{slotFor}
+use Rattle.store.specs.Find.{slotFor, slotAtEntry}
 use Rattle.store.proofs.Holds.{part-room, insertable, taken, lacking, held-new, held-was}
 use Rattle.store.proofs.Parts.{rest-part}
 use Rattle.formed.specs.Pages.{group, journalCount, journalPlace, journalPage}
@@ -193,10 +193,10 @@ copy to (suc n) g ds l =
 -- ---- a word is noted
 module _ (m : Mem) (j a : ℕ) (asks : NoteAsks m j a) where
   abbrev first : ℕ
-  first = seek (holders m) (journalPlace j * 33554432 + 1 + a / 256)
+  first = slotAtEntry (m .keys) (m .words) (journalPlace j) (a / 256)
 
   abbrev last : ℕ
-  last = seek (holders m) (journalPlace j * 33554432 + 1 + (a + 31) / 256)
+  last = slotAtEntry (m .keys) (m .words) (journalPlace j) ((a + 31) / 256)
 
   pub noted-there : Reached (settingOf m) (noting j (wordNotes (viewOf m) (journalPage (layoutOf (m .words)) j) a) (viewOf m))
   noted-there =

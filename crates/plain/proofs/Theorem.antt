@@ -1,21 +1,24 @@
 -- THE CLAIM about every list of calls, proved of each relation whose steps do what the contracts say.
 -- Assumes nothing.
 use mathlib.Core.Path.{_≡_, refl, sym, ap, _∙_}
-use mathlib.Core.Bool.{Bool, true, false, cond}
+use mathlib.Core.Bool.{Bool, true, false, cond, not}
+use mathlib.Core.List.{[], _∷_}
 use Prim.Native.Nat.{ℕ, zero, suc, _<_}
 use native.Mathlib.Omega.{arith}
 use lib.Dec.{ltb}
 use lib.ListN.{length}
 use borrow.Author.Tests.{le-ltb}
-use Rattle.outcome.specs.Outcome.{Outcome, done, carriedOut}
+use Rattle.outcome.specs.Outcome.{Outcome, refused, done, carriedOut, firstOf}
 use Rattle.store.specs.Mem.{Mem}
 use Rattle.formed.specs.Pages.{journalCount, journalPage}
-use Rattle.view.specs.View.{View, Setting}
-use Rattle.view.specs.Steps.{marks, rolledBack}
+use Rattle.formed.proofs.Meaning.{well-formed-passes}
+use Rattle.view.specs.View.{View, Setting, viewOf}
+use Rattle.view.specs.Steps.{alike, marks, rolledBack}
+use Rattle.view.specs.Checks.{sameLayout, compareChecks}
 use Rattle.view.specs.Does.{Shows, Does}
-use Rattle.view.specs.Calls.{Call, Value, Snapshot, Rollback, nothing, lengths, outcomeOf}
+use Rattle.view.specs.Calls.{Call, Value, CompareLeft, CompareRight, Snapshot, Rollback, nothing, lengths, verdict, outcomeOf}
 use Rattle.plain.specs.Plain.{Plain, follow, feed, seen}
-use Rattle.plain.specs.Claim.{Steps, Contracts, Listed, Run, none, more, Keeps, Restored, Claim}
+use Rattle.plain.specs.Claim.{Steps, Contracts, Listed, Run, none, more, Keeps, Restored, compared, Claim}
 use Rattle.plain.proofs.Tests.{or-neither}
 use Rattle.plain.proofs.Undone.{rolled-others}
 use Rattle.plain.proofs.Good.{Good, rule, kept, never, does, start, run-good}
@@ -38,6 +41,23 @@ module _ (S : Steps) (C : Contracts S) where
       → Since (s .layout) (marks heap aux) f p → Since (s .layout) (marks heap aux) f p'
   run-since heap aux f none g h = h
   run-since heap aux f (more r x l k) g h = since heap aux f x l k (run-good S C r g) (run-since heap aux f r g h)
+
+  -- ---- a comparison with another memory n that comes from a list, and so is well formed
+  module _ {s t : Setting} {m n : Mem} {p q : Plain} (g : Good s m p) (h : Good t n q) where
+    other-passes : (left right : View) → firstOf (compareChecks (s .layout) n) (done (verdict (alike left right))) ≡ compared s t left right
+    other-passes left right = rw (well-formed-passes n (h .shows .formed)) (ap (λ (u : Setting). compared s u left right) (h .shows .setting))
+
+    left : {m' : Mem} {o : Outcome Value} → S m (CompareLeft n) o m' → o ≡ compared s t (seen s p) (seen t q)
+    left x =
+        does S C (CompareLeft n) x (λ t d e. absurd (never (cc))) g .answer
+        ∙ other-passes (seen s p) (viewOf n)
+        ∙ ap (compared s t (seen s p)) (h .shows .view)
+
+    right : {m' : Mem} {o : Outcome Value} → S m (CompareRight n) o m' → o ≡ compared s t (seen t q) (seen s p)
+    right x =
+        does S C (CompareRight n) x (λ t d e. absurd (never (cc))) g .answer
+        ∙ other-passes (viewOf n) (seen s p)
+        ∙ ap (λ (v : View). compared s t v (seen s p)) (h .shows .view)
 
   -- ---- a snapshot, the list after it, and the rollback to it
   module _ {s : Setting} {snap snap' m m' : Mem} {p q : Plain} {heap aux : ℕ} {o : Outcome Value}
@@ -88,5 +108,7 @@ module _ (S : Steps) (C : Contracts S) where
   claim = record {
     lists = λ b r. kept (run-good S C r (start S C b));
     answers = λ {c = c} b r x l. does S C c x l (run-good S C r (start S C b)) .answer;
+    compares-left = λ b r c u x. left (run-good S C r (start S C b)) (run-good S C u (start S C c)) x;
+    compares-right = λ b r c u x. right (run-good S C r (start S C b)) (run-good S C u (start S C c)) x;
     rollbacks = λ b r x t y. let g = run-good S C r (start S C b) in (rolled g x t y .answer ∙ accepted g x t y, restored g x t y);
   }

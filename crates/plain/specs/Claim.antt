@@ -2,18 +2,20 @@
 -- call c, lent the buffers m, may have the outcome o and leave the buffers m'. Crate `lists` proves it of the relation that the contracts of the code give.
 -- Assumes nothing.
 use mathlib.Core.Path.{_≡_}
-use mathlib.Core.Bool.{true, false}
-use mathlib.Core.List.{List}
+use mathlib.Core.Bool.{true, false, not}
+use mathlib.Core.List.{List, [], _∷_}
 use Prim.Native.Nat.{ℕ, _+_, _≤_, _<_}
 use lib.ListN.{length}
-use Rattle.outcome.specs.Outcome.{Outcome, done, carriedOut}
+use Rattle.outcome.specs.Outcome.{Outcome, refused, done, carriedOut, firstOf}
 use Rattle.store.specs.Mem.{Mem, slotCount}
 use Rattle.formed.specs.Pages.{journalCount, journalPage}
 use Rattle.formed.specs.Parts.{byteAt, holds, allocated, pool}
 use Rattle.formed.specs.WellFormed.{Pooled, slotByte}
 use Rattle.view.specs.View.{View, Setting}
+use Rattle.view.specs.Steps.{alike}
+use Rattle.view.specs.Checks.{sameLayout}
 use Rattle.view.specs.Does.{Shows, Does}
-use Rattle.view.specs.Calls.{Call, Value, Open, Snapshot, Rollback, DeleteHistory, nothing, lengths, outcomeOf, nextOf, OpenDoes}
+use Rattle.view.specs.Calls.{Call, Value, Open, CompareLeft, CompareRight, Snapshot, Rollback, DeleteHistory, nothing, lengths, verdict, outcomeOf, nextOf, OpenDoes}
 use Rattle.plain.specs.Plain.{Plain, freshPlain, feed, seen}
 
 -- a relation of this kind
@@ -69,12 +71,23 @@ pub record Restored (s : Setting) (snap m m' : Mem) : Type 0 where
   pub others : (q : ℕ) → ((j : ℕ) → j < journalCount → q ≡ journalPage (s .layout) j → ⊥)
       → ((a : ℕ) → byteAt m' q a ≡ byteAt m q a) × ((k : ℕ) → holds m' q k ≡ holds m q k) × (allocated m' q ≡ allocated m q)
 
+-- what a comparison answers of two settings, a left view and a right one: refusal 1 where the layouts differ, else the verdict
+abbrev pub compared : (s t : Setting) (left right : View) → Outcome Value
+compared s t left right = firstOf ((not (sameLayout (s .layout) (t .layout)), refused 1) ∷ []) (done (verdict (alike left right)))
+
 pub record Claim (S : Steps) : Type 0 where
   -- after every list
   pub lists : {s : Setting} {start m : Mem} {p₀ p : Plain} → Started S s start p₀ → Run S Any s start p₀ m p → Kept s m p
   -- every call's outcome, value and refusal number alike, is the one computed from the setting and the plain map
   pub answers : {s : Setting} {start m m' : Mem} {p₀ p : Plain} {c : Call} {o : Outcome Value}
       → Started S s start p₀ → Run S Any s start p₀ m p → S m c o m' → Listed c o → o ≡ outcomeOf s c (seen s p)
+  -- a comparison with another memory that comes from a list: the two plain maps decide it, whichever memory stands on the left
+  pub compares-left : {s t : Setting} {start m m' other n : Mem} {p₀ p q₀ q : Plain} {o : Outcome Value}
+      → Started S s start p₀ → Run S Any s start p₀ m p → Started S t other q₀ → Run S Any t other q₀ n q
+      → S m (CompareLeft n) o m' → o ≡ compared s t (seen s p) (seen t q)
+  pub compares-right : {s t : Setting} {start m m' other n : Mem} {p₀ p q₀ q : Plain} {o : Outcome Value}
+      → Started S s start p₀ → Run S Any s start p₀ m p → Started S t other q₀ → Run S Any t other q₀ n q
+      → S m (CompareRight n) o m' → o ≡ compared s t (seen t q) (seen s p)
   -- wherever the next call is a rollback to a snapshot taken in the list
   pub rollbacks : {s : Setting} {start snap snap' m m' : Mem} {p₀ p q : Plain} {heap aux : ℕ} {o : Outcome Value}
       → Started S s start p₀ → Run S Any s start p₀ snap p

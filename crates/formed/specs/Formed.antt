@@ -1,4 +1,5 @@
--- Well formed, as the test that the code computes. proofs/Meaning shows that it is 01's sentence, both ways.
+-- Well formed, as the test that the code computes. It is 01's sentence, the record WellFormed, both ways: `well-formed` of lists/specs/Rules.antt is
+-- that law, and proofs/Meaning its proof.
 -- Assumes nothing.
 use mathlib.Core.Bool.{Bool, true, cond, not, _&&_, _||_}
 use mathlib.Core.List.{List, [], _∷_}

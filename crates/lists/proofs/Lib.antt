@@ -14,6 +14,7 @@ pub mod Frees
 pub mod Comparing
 pub mod Instructions
 pub mod Next
+pub mod Rules
 pub mod Theorem
 pub mod Leaving
 pub mod Worked

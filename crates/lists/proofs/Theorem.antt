@@ -30,6 +30,7 @@ use Rattle.lists.specs.Steps.{Step}
 use Rattle.lists.specs.Demand.{Demand}
 use Rattle.lists.proofs.Contracts.{contracts}
 use Rattle.lists.proofs.Next.{not-empty}
+use Rattle.lists.proofs.Rules.{rules}
 
 pub theorem : Claim Step
 theorem = claim Step contracts
@@ -63,4 +64,5 @@ demand = record {
   «store_static» = λ {M}. store-static-met.met {M = M};
   claim = theorem;
   not-empty = not-empty;
+  rules = rules;
 }

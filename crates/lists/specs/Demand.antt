@@ -1,5 +1,5 @@
 -- THE DEMAND in one type: each public function meets its contract, for every model of the logic, the claim holds of every list of
--- calls that those contracts allow, and there are such lists.
+-- calls that those contracts allow, there are such lists, and the definitions that the contracts cite have the rules of 01.
 -- Assumes nothing.
 use Rattle.opening.proofs.open.Statement as open-says
 use Rattle.reads.proofs.read_u256.Statement as word-says
@@ -28,8 +28,9 @@ use Rattle.instructions.proofs.store_static.Statement as store-static-says
 use Rattle.plain.specs.Claim.{Claim}
 use Rattle.lists.specs.Steps.{Step}
 use Rattle.lists.specs.Goes.{NotEmpty}
+use Rattle.lists.specs.Rules.{Rules}
 
-pub record Demand : Type 2 where
+pub record Demand : Type 3 where
   pub «open» : {M : Type 1} → open-says.statement M
   pub «read_u256» : {M : Type 1} → word-says.statement M
   pub «read_u256_partially» : {M : Type 1} → partial-says.statement M
@@ -56,3 +57,4 @@ pub record Demand : Type 2 where
   pub «store_static» : {M : Type 1} → store-static-says.statement M
   pub claim : Claim Step
   pub not-empty : NotEmpty
+  pub rules : Rules

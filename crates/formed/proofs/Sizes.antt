@@ -27,6 +27,11 @@ pub record Fit (b k o w c p j : ℕ) : Type 0 where
   pub in-order : o ≡ orderFor c p
   pub in-words : w ≡ wordsFor j
 
+-- 01: no buffer is longer; the lower bounds of the counts are not needed
+pub counts-bound : (c p j : ℕ) → c ≤ 65536 → p ≤ 4096 → j ≤ 65536
+    → (bytesFor c j ≤ 33554432) × (keysFor c p ≤ 33554432) × (orderFor c p ≤ 33554432) × (wordsFor j ≤ 33554432)
+counts-bound c p j x y z = (omega arith, omega arith, omega arith, omega arith)
+
 module _ (b k o w c p j : ℕ) where
   abbrev S₆ : Bool
   S₆ = eqb o (orderFor c p) && eqb w (wordsFor j)
@@ -76,7 +81,7 @@ module _ (b k o w c p j : ℕ) where
       (and-both (eqb k (keysFor c p)) S₆ (eq-eqb k (keysFor c p) (r .in-keys))
       (and-both (eqb o (orderFor c p)) (eqb w (wordsFor j)) (eq-eqb o (orderFor c p) (r .in-order)) (eq-eqb w (wordsFor j) (r .in-words)))))))
 
-  -- 01: no buffer is longer
+  -- the same of a test that passed
   pub lengths-bound : Fit b k o w c p j → (b ≤ 33554432) × (k ≤ 33554432) × (o ≤ 33554432) × (w ≤ 33554432)
   lengths-bound r = (omega arith, omega arith, omega arith, omega arith)
 

@@ -2,7 +2,9 @@
 -- Assumes nothing.
 use mathlib.Core.Path.{_≡_}
 use mathlib.Core.Bool.{true}
+use Prim.Native.Nat.{ℕ, _≤_}
 use Rattle.store.specs.Mem.{Mem}
+use Rattle.formed.specs.Buffers.{bytesFor, keysFor, orderFor, wordsFor}
 use Rattle.formed.specs.Formed.{wellFormed}
 use Rattle.formed.specs.WellFormed.{WellFormed}
 
@@ -10,3 +12,6 @@ pub record Rules : Type 3 where
   -- ---- the memory
   -- refusal 3: the test that the code computes is 01's sentence, both ways
   pub well-formed : (m : Mem) → (wellFormed m ≡ true → WellFormed m) × (WellFormed m → wellFormed m ≡ true)
+  -- refusal 2: for counts in bounds no buffer is longer than 33,554,432
+  pub buffers-bound : (chunks pages words : ℕ) → chunks ≤ 65536 → pages ≤ 4096 → words ≤ 65536
+      → (bytesFor chunks words ≤ 33554432) × (keysFor chunks pages ≤ 33554432) × (orderFor chunks pages ≤ 33554432) × (wordsFor words ≤ 33554432)

@@ -1,6 +1,6 @@
 -- Slots and entries against what they stand for, in a well-formed memory.
 -- Assumes nothing.
-use mathlib.Core.Path.{_≡_, sym, ap, _∙_}
+use mathlib.Core.Path.{_≡_, refl, sym, ap, _∙_}
 use mathlib.Core.Logic.{_⊎_, inl, inr, ⊎-elim}
 use mathlib.Core.Bool.{true, false, false≢true}
 use Prim.Native.Nat.{ℕ, _+_, _*_, _/_, _%_, _≤_, _<_}
@@ -8,6 +8,7 @@ use native.Mathlib.Omega.{arith}
 use lib.Dec.{ltb}
 use lib.ListN.{length, getD, List·getD-eq-default}
 use borrow.Author.Tests.{lt-ltb, le-leb, lt-leb, ltb-true, ltb-false}
+use Rattle.page_ids.specs.Decode.{Page, none, page, decoded, isNone, isDynamic, isFixed}
 use Rattle.store.specs.Keys.{keyOf, keyEntry, keyChunk}
 use Rattle.index.specs.Index.{seek}
 use Rattle.index.proofs.Logic.{lt-or-ge}
@@ -15,7 +16,7 @@ use Rattle.index.proofs.Counts.{used-free}
 use Rattle.index.proofs.Orders.{index-count}
 use Rattle.index.proofs.Places.{seek-hit, seek-upto}
 use Rattle.store.specs.Mem.{Mem, layoutOf, slotCount, pageCount, heldNow, inUse, holders, entries, slotOrder, pageOrder, chunks}
-use Rattle.formed.specs.Pages.{fixed}
+use Rattle.formed.specs.Pages.{fixed, dynamic}
 use Rattle.formed.specs.Parts.{entryOf, allocated, entriesLeft, slotOfChunk, holds, pool, byteAt}
 use Rattle.formed.specs.WellFormed.{holder, slotByte, HeldAt, OnePlace, ListedPage, WellFormed}
 use Rattle.formed.proofs.Bools.{refute}
@@ -23,6 +24,10 @@ use Rattle.formed.proofs.Sizes.{holders-long, entries-long, chunks-long
 use Rattle.formed.proofs.Pages.{is-fixed, fixed-at}
 use Rattle.formed.proofs.Keys.{le-or-gt, in-table, seek-is, key-entry, key-chunk, key-again}
 use Rattle.formed.proofs.Meaning.{slots-index, pages-index, slot-once, page-once}
+
+no-kind : (d : Page) → isNone d ≡ true → (isFixed d ≡ false) × (isDynamic d ≡ false)
+no-kind none u = (refl, refl)
+no-kind (page k g) u = absurd (false≢true u)
 
 -- the chunks
 module _ (m : Mem) (p k : ℕ) where
@@ -142,3 +147,17 @@ module _ (m : Mem) (f : WellFormed m) where
       (λ (x : fixed (layoutOf (m .words)) p ≡ true). false≢true (sym n ∙ fixed-allocated p x))
       (λ (x : ListedPage m p). false≢true (sym n ∙ listed-allocated p x))
       (f .holders-known (slotOfChunk m p k) p k (holds-held p k h))))
+
+  -- and reads zero at every address
+  pub unlisted-byte : (p a : ℕ) → allocated m p ≡ false → byteAt m p a ≡ 0
+  unlisted-byte p a n = unheld-byte p a (unlisted-holds p (a / 256) n)
+
+  -- an undecodable page is not allocated: it is neither fixed nor dynamic
+  pub undecodable-unlisted : (p : ℕ) → isNone (decoded (layoutOf (m .words)) p) ≡ true → allocated m p ≡ false
+  unfolding fixed dynamic
+  undecodable-unlisted p u =
+      sym (refute (allocated m p) (λ h.
+      ⊎-elim
+      (λ (x : fixed (layoutOf (m .words)) p ≡ true). false≢true (sym (no-kind (decoded (layoutOf (m .words)) p) u .0) ∙ x))
+      (λ (x : ListedPage m p). false≢true (sym (no-kind (decoded (layoutOf (m .words)) p) u .1) ∙ f .pages-dynamic (x .entry) p (x .there)))
+      (allocated-is p h)))

@@ -1,11 +1,30 @@
 -- The rules of 01, each by the law of the crate that it speaks of.
 -- Assumes nothing.
+use mathlib.Core.Path.{_≡_}
+use mathlib.Core.Bool.{true, false}
+use mathlib.Core.Logic.{⊎-elim}
+use Prim.Native.Nat.{ℕ}
+use Rattle.store.specs.Mem.{Mem}
+use Rattle.formed.specs.Parts.{allocated}
+use Rattle.formed.specs.WellFormed.{WellFormed}
 use Rattle.formed.proofs.Meaning.{well-formed-means, well-formed-passes}
 use Rattle.formed.proofs.Sizes.{counts-bound}
+use Rattle.formed.proofs.Sense.{unlisted-byte, undecodable-unlisted}
+use Rattle.view.specs.View.{settingOf}
+use Rattle.view.specs.Checks.{undecodable}
 use Rattle.lists.specs.Rules.{Rules}
+
+absent : (m : Mem) → WellFormed m → (p : ℕ) → undecodable (settingOf m) p ≡ true → allocated m p ≡ false
+unfolding undecodable
+absent m f p u = undecodable-unlisted m f p u
 
 pub rules : Rules
 rules = record {
   well-formed = λ m. (well-formed-means m, well-formed-passes m);
   buffers-bound = counts-bound;
+  undecodable-not-allocated = absent;
+  reads-zero = λ m f p a.
+      ⊎-elim
+      (λ (u : undecodable (settingOf m) p ≡ true). unlisted-byte m f p a (absent m f p u))
+      (λ (n : allocated m p ≡ false). unlisted-byte m f p a n);
 }

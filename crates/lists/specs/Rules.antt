@@ -1,12 +1,16 @@
 -- RULES OF 01 that the definitions of the contracts have, each in one sentence. A reader need not work them out.
 -- Assumes nothing.
 use mathlib.Core.Path.{_≡_}
-use mathlib.Core.Bool.{true}
+use mathlib.Core.Bool.{true, false}
+use mathlib.Core.Logic.{_⊎_}
 use Prim.Native.Nat.{ℕ, _≤_}
 use Rattle.store.specs.Mem.{Mem}
 use Rattle.formed.specs.Buffers.{bytesFor, keysFor, orderFor, wordsFor}
+use Rattle.formed.specs.Parts.{allocated, byteAt}
 use Rattle.formed.specs.Formed.{wellFormed}
 use Rattle.formed.specs.WellFormed.{WellFormed}
+use Rattle.view.specs.View.{settingOf}
+use Rattle.view.specs.Checks.{undecodable}
 
 pub record Rules : Type 3 where
   -- ---- the memory
@@ -15,3 +19,7 @@ pub record Rules : Type 3 where
   -- refusal 2: for counts in bounds no buffer is longer than 33,554,432
   pub buffers-bound : (chunks pages words : ℕ) → chunks ≤ 65536 → pages ≤ 4096 → words ≤ 65536
       → (bytesFor chunks words ≤ 33554432) × (keysFor chunks pages ≤ 33554432) × (orderFor chunks pages ≤ 33554432) × (wordsFor words ≤ 33554432)
+  -- an undecodable page is not allocated
+  pub undecodable-not-allocated : (m : Mem) → WellFormed m → (p : ℕ) → undecodable (settingOf m) p ≡ true → allocated m p ≡ false
+  -- a page that is undecodable or not allocated reads zero at every address
+  pub reads-zero : (m : Mem) → WellFormed m → (p a : ℕ) → (undecodable (settingOf m) p ≡ true) ⊎ (allocated m p ≡ false) → byteAt m p a ≡ 0

@@ -12,6 +12,7 @@ use Rattle.formed.proofs.Sizes.{counts-bound}
 use Rattle.formed.proofs.Sense.{unlisted-byte, undecodable-unlisted}
 use Rattle.view.specs.View.{settingOf}
 use Rattle.view.specs.Checks.{undecodable}
+use Rattle.view.proofs.Lookup.{lookup-rule}
 use Rattle.lists.specs.Rules.{Rules}
 
 absent : (m : Mem) → WellFormed m → (p : ℕ) → undecodable (settingOf m) p ≡ true → allocated m p ≡ false
@@ -27,4 +28,5 @@ rules = record {
       ⊎-elim
       (λ (u : undecodable (settingOf m) p ≡ true). unlisted-byte m f p a (absent m f p u))
       (λ (n : allocated m p ≡ false). unlisted-byte m f p a n);
+  lookup = lookup-rule;
 }

@@ -3,14 +3,16 @@
 use mathlib.Core.Path.{_≡_}
 use mathlib.Core.Bool.{true, false}
 use mathlib.Core.Logic.{_⊎_}
+use mathlib.Core.List.{List}
 use Prim.Native.Nat.{ℕ, _≤_}
 use Rattle.store.specs.Mem.{Mem}
 use Rattle.formed.specs.Buffers.{bytesFor, keysFor, orderFor, wordsFor}
 use Rattle.formed.specs.Parts.{allocated, byteAt}
 use Rattle.formed.specs.Formed.{wellFormed}
 use Rattle.formed.specs.WellFormed.{WellFormed}
-use Rattle.view.specs.View.{settingOf}
+use Rattle.view.specs.View.{View, settingOf}
 use Rattle.view.specs.Checks.{undecodable}
+use Rattle.view.specs.Calls.{LookupRule}
 
 pub record Rules : Type 3 where
   -- ---- the memory
@@ -23,3 +25,6 @@ pub record Rules : Type 3 where
   pub undecodable-not-allocated : (m : Mem) → WellFormed m → (p : ℕ) → undecodable (settingOf m) p ≡ true → allocated m p ≡ false
   -- a page that is undecodable or not allocated reads zero at every address
   pub reads-zero : (m : Mem) → WellFormed m → (p a : ℕ) → (undecodable (settingOf m) p ≡ true) ⊎ (allocated m p ≡ false) → byteAt m p a ≡ 0
+  -- ---- the calls
+  -- a lookup shows an empty part exactly where its check is refused with 8
+  pub lookup : (v : View) (p k : ℕ) (z : List ℕ) → LookupRule v p k z

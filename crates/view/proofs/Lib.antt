@@ -9,3 +9,4 @@ pub mod Reading
 pub mod Order
 pub mod Hints
 pub mod Refused
+pub mod Lookup

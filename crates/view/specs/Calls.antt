@@ -1,5 +1,6 @@
 -- The calls, with their arguments and without the lent memory; what each answers, what it does to the view, and the contract that all of them share.
 -- Assumes nothing.
+use mathlib.Core.Path.{_≡_}
 use mathlib.Core.Bool.{Bool, cond, _&&_}
 use mathlib.Core.List.{List, []}
 use Prim.Native.Nat.{ℕ, _*_, _-_}
@@ -66,6 +67,11 @@ sameLengths s t =
 -- a refused lookup shows an empty part
 abbrev pub shown : View → ℕ → ℕ → List ℕ → List ℕ
 shown v p k z = cond (eqb (length z) 256 && zeros z) (run v p (256 * k) 256) []
+
+-- THE RULE of a lookup: it shows an empty part exactly where its check is refused with 8
+pub record LookupRule (v : View) (p k : ℕ) (z : List ℕ) : Type 0 where
+  pub refused-empty : firstOf (lookupChecks z) (done nothing) ≡ refused 8 → shown v p k z ≡ []
+  pub empty-refused : shown v p k z ≡ [] → firstOf (lookupChecks z) (done nothing) ≡ refused 8
 
 -- the number of the first refusal of a list, 0 where there is none
 abbrev pub firstRefusal : List (Check Value) → ℕ

@@ -4,6 +4,8 @@ use mathlib.Core.Path.{_≡_}
 use mathlib.Core.Bool.{true, false}
 use mathlib.Core.Logic.{⊎-elim}
 use Prim.Native.Nat.{ℕ}
+use Rattle.state.proofs.Laws as state-laws
+use Rattle.instructions.proofs.Laws as instruction-laws
 use Rattle.store.specs.Mem.{Mem}
 use Rattle.formed.specs.Parts.{allocated}
 use Rattle.formed.specs.WellFormed.{WellFormed}
@@ -29,4 +31,6 @@ rules = record {
       (λ (u : undecodable (settingOf m) p ≡ true). unlisted-byte m f p a (absent m f p u))
       (λ (n : allocated m p ≡ false). unlisted-byte m f p a n);
   lookup = lookup-rule;
+  no-wrap = state-laws.no-wrap;
+  no-carry = instruction-laws.no-carry;
 }

@@ -4,7 +4,9 @@ use mathlib.Core.Path.{_≡_}
 use mathlib.Core.Bool.{true, false}
 use mathlib.Core.Logic.{_⊎_}
 use mathlib.Core.List.{List}
-use Prim.Native.Nat.{ℕ, _≤_}
+use Prim.Native.Nat.{ℕ, _+_, _%_, _^_, _≤_, _<_}
+use Rattle.word.specs.Value.{lastAddress}
+use Rattle.state.specs.Access.{newBound}
 use Rattle.store.specs.Mem.{Mem}
 use Rattle.formed.specs.Buffers.{bytesFor, keysFor, orderFor, wordsFor}
 use Rattle.formed.specs.Parts.{allocated, byteAt}
@@ -13,6 +15,7 @@ use Rattle.formed.specs.WellFormed.{WellFormed}
 use Rattle.view.specs.View.{View, settingOf}
 use Rattle.view.specs.Checks.{undecodable}
 use Rattle.view.specs.Calls.{LookupRule}
+use Rattle.view.specs.Instructions.{incremented}
 
 pub record Rules : Type 3 where
   -- ---- the memory
@@ -28,3 +31,7 @@ pub record Rules : Type 3 where
   -- ---- the calls
   -- a lookup shows an empty part exactly where its check is refused with 8
   pub lookup : (v : View) (p k : ℕ) (z : List ℕ) → LookupRule v p k z
+  -- within the operand limit the new bound, a wrapping sum, is the address plus 32
+  pub no-wrap : (x : ℕ) → x ≤ lastAddress → newBound x ≡ x + 32
+  -- and the incremented operand is the whole word plus 32; the low 32 bits are the address, a pointer's its offset
+  pub no-carry : (x : ℕ) → x < 2 ^ 256 → x % 2 ^ 32 ≤ lastAddress → incremented x ≡ x + 32

@@ -14,6 +14,7 @@ use Rattle.state.specs.declared.Area.{Area}
 use Rattle.state.specs.declared.Area.the-variants.{Heap, Aux}
 
 -- the new bound is the address plus 32, taken as a wrapping sum
+-- It never wraps where the operand is within the limit: `no-wrap` of proofs/Laws.antt, a field of lists/specs/Rules.antt
 abbrev pub newBound : ℕ → ℕ
 newBound address = (address + 32) % 2 ^ 32
 

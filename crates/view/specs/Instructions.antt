@@ -60,7 +60,8 @@ frameAlone f = record { word = 0; operand = record { word = 0; tag = false }; fr
 abbrev pub panic : Frame → InstructionResult
 panic f = frameAlone (withPanicked f)
 
--- the whole word plus 32, in 256 bits. The operand limits keep it from leaving them: instructions/proofs/Laws.antt
+-- the whole word plus 32, in 256 bits
+-- It never leaves them where the operand is within the limit: `no-carry` of instructions/proofs/Laws.antt, a field of lists/specs/Rules.antt
 abbrev pub incremented : ℕ → ℕ
 incremented x = (x + 32) % 2 ^ 256
 

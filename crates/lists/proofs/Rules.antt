@@ -1,9 +1,10 @@
 -- The rules of 01, each by the law of the crate that it speaks of.
 -- Assumes nothing.
-use mathlib.Core.Path.{_≡_}
+use mathlib.Core.Path.{_≡_, refl}
 use mathlib.Core.Bool.{true, false}
 use mathlib.Core.Logic.{⊎-elim}
 use Prim.Native.Nat.{ℕ}
+use borrow.Fn.Args.{argsV}
 use Rattle.state.proofs.Laws as state-laws
 use Rattle.instructions.proofs.Laws as instruction-laws
 use Rattle.store.specs.Mem.{Mem}
@@ -33,4 +34,16 @@ rules = record {
   lookup = lookup-rule;
   no-wrap = state-laws.no-wrap;
   no-carry = instruction-laws.no-carry;
+  calls-are-steps = λ {n} {ps} {r} {P} {Q} {Γ} {ar} {u} c asked. record {
+    went = record {
+      lifetimes = c .lifetimes;
+      args = argsV (c .lifetimes) ps (Γ .locals) ar u;
+      result = c .result;
+      last = c .last;
+      asked = asked;
+      kept = c .kept;
+      ensures = c .ensures;
+    };
+    same = refl;
+  };
 }

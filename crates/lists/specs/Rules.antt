@@ -5,6 +5,12 @@ use mathlib.Core.Bool.{true, false}
 use mathlib.Core.Logic.{_⊎_}
 use mathlib.Core.List.{List}
 use Prim.Native.Nat.{ℕ, _+_, _%_, _^_, _≤_, _<_}
+use borrow.Fn.Kind.{PK, RK}
+use borrow.Fn.Kinds.{In, Out}
+use borrow.Fn.Args.{ArgsT, argsV}
+use borrow.Table.Row.{Cx}
+use borrow.Table.Typed.{Mo}
+use borrow.Author.Called.{Called}
 use Rattle.word.specs.Value.{lastAddress}
 use Rattle.state.specs.Access.{newBound}
 use Rattle.store.specs.Mem.{Mem}
@@ -16,6 +22,7 @@ use Rattle.view.specs.View.{View, settingOf}
 use Rattle.view.specs.Checks.{undecodable}
 use Rattle.view.specs.Calls.{LookupRule}
 use Rattle.view.specs.Instructions.{incremented}
+use Rattle.lists.specs.Steps.{WentBy}
 
 pub record Rules : Type 3 where
   -- ---- the memory
@@ -35,3 +42,6 @@ pub record Rules : Type 3 where
   pub no-wrap : (x : ℕ) → x ≤ lastAddress → newBound x ≡ x + 32
   -- and the incremented operand is the whole word plus 32; the low 32 bits are the address, a pointer's its offset
   pub no-carry : (x : ℕ) → x < 2 ^ 256 → x % 2 ^ 32 ≤ lastAddress → incremented x ≡ x + 32
+  -- each call of the code is a step: a caller that showed what is asked, and has what the logic hands it, has the `Went` of a step
+  pub calls-are-steps : {n : ℕ} {ps : List (PK n)} {r : RK n} {P : In n ps} {Q : Out n ps r} {Γ : Cx} {ar : ArgsT ps (Γ .locals)} {u : Mo Γ}
+      (c : Called ps r Q Γ ar u) → P (c .lifetimes) (argsV (c .lifetimes) ps (Γ .locals) ar u) → WentBy P c

@@ -7,6 +7,10 @@ use Prim.Native.Nat.{ℕ}
 use lib.ListN.{length}
 use borrow.Fn.Kind.{PK, RK}
 use borrow.Fn.Kinds.{In, Out, Dens, resT, endedOf, stays}
+use borrow.Fn.Args.{ArgsT, argsV}
+use borrow.Table.Row.{Cx}
+use borrow.Table.Typed.{Mo}
+use borrow.Author.Called.{Called}
 use contract.Lifetimes.{Lfts}
 use denote.Triple.Clauses.{Lasts, AtExit, atExit}
 use denote.Triple.Walked.{Fit}
@@ -82,6 +86,15 @@ pub record Went {n : ℕ} (ps : List (PK n)) (r : RK n) (P : In n ps) (Q : Out n
   pub asked : P lifetimes args
   pub kept : Fit (endedOf n ps r) (stays ps) lifetimes args last
   pub ensures : Q lifetimes args result (atExit (endedOf n ps r) lifetimes args last)
+
+-- the call c of the logic as a `Went`: it has the lifetimes, arguments, result and last values of c
+-- `calls-are-steps` of Rules says that each call has one
+pub record WentBy {n : ℕ} {ps : List (PK n)} {r : RK n} {Q : Out n ps r} {Γ : Cx} {ar : ArgsT ps (Γ .locals)} {u : Mo Γ} (P : In n ps) (c : Called ps r Q Γ ar u) : Type 0 where
+  pub went : Went ps r P Q
+  pub same :
+      _≡_ {A = (κ : Lfts n) × (a : Dens κ ps) × resT r κ .Denot × Lasts (endedOf n ps r) κ a}
+      (went .lifetimes, went .args, went .result, went .last)
+      (c .lifetimes, argsV (c .lifetimes) ps (Γ .locals) ar u, c .result, c .last)
 
 -- the parameters at exit
 abbrev pub exits : {n : ℕ} {ps : List (PK n)} {r : RK n} {P : In n ps} {Q : Out n ps r} (w : Went ps r P Q) → AtExit (endedOf n ps r) (w .lifetimes)

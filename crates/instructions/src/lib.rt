@@ -78,7 +78,18 @@ pub fn store(
     }
     let page = parts::page_of(frame, area);
     let step = parts::reach(frame, area, operand.word);
-    parts::store_at(bytes, keys, order, words, page, operand, word, hook, frame, step)
+    parts::store_at(
+        bytes,
+        keys,
+        order,
+        words,
+        page,
+        operand,
+        word,
+        hook,
+        frame,
+        step,
+    )
 }
 
 // Reads the bytes that a pointer shows from its offset on, at most 32; they lead the word, and zeros follow.
@@ -155,5 +166,16 @@ pub fn store_static(
         on: false,
         address: Address(0),
     };
-    parts::store_at(bytes, keys, order, words, page, operand, word, off, frame, step)
+    parts::store_at(
+        bytes,
+        keys,
+        order,
+        words,
+        page,
+        operand,
+        word,
+        off,
+        frame,
+        step,
+    )
 }

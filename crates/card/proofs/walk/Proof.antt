@@ -3,66 +3,6 @@ use native.Mathlib.Omega.{arith}
 use Rattle.card.proofs.walk.Statement.{statement}
 use Rattle.card.proofs.walk.Tie as tie
 
-slice-aggregate-write-all : tie.Need-slice-aggregate-write-all
-slice-aggregate-write-all c = refl
-
-write-all-requires : tie.Need-write-all-requires
-write-all-requires c κs = tt
-
-edge-requires : tie.Need-edge-requires
-edge-requires c κs = tt
-
-ended-requires : tie.Need-ended-requires
-ended-requires c κs = tt
-
-slice-aggregate-write-all-2 : tie.Need-slice-aggregate-write-all-2
-slice-aggregate-write-all-2 c = refl
-
-write-all-requires-2 : tie.Need-write-all-requires-2
-write-all-requires-2 c κs = tt
-
-fresh-requires : tie.Need-fresh-requires
-fresh-requires c κs = tt
-
-ended-requires-2 : tie.Need-ended-requires-2
-ended-requires-2 c κs = tt
-
-slice-aggregate-write-all-3 : tie.Need-slice-aggregate-write-all-3
-slice-aggregate-write-all-3 c = refl
-
-write-all-requires-3 : tie.Need-write-all-requires-3
-write-all-requires-3 c κs = tt
-
-paid-requires : tie.Need-paid-requires
-paid-requires c κs = tt
-
-ended-requires-3 : tie.Need-ended-requires-3
-ended-requires-3 c κs = tt
-
-slice-aggregate-write-all-4 : tie.Need-slice-aggregate-write-all-4
-slice-aggregate-write-all-4 c = refl
-
-write-all-requires-4 : tie.Need-write-all-requires-4
-write-all-requires-4 c κs = tt
-
-window-requires : tie.Need-window-requires
-window-requires c κs = tt
-
-ended-requires-4 : tie.Need-ended-requires-4
-ended-requires-4 c κs = tt
-
-slice-aggregate-write-all-5 : tie.Need-slice-aggregate-write-all-5
-slice-aggregate-write-all-5 c = refl
-
-write-all-requires-5 : tie.Need-write-all-requires-5
-write-all-requires-5 c κs = tt
-
-rollback-requires : tie.Need-rollback-requires
-rollback-requires c κs = tt
-
-ended-requires-5 : tie.Need-ended-requires-5
-ended-requires-5 c κs = tt
-
 add-result : tie.Need-add-result
 add-result c =
     let at-ended4 = c .before .before .before .before .before .before .before .before .before .before .before .before .before .before .before .before in
@@ -131,33 +71,11 @@ same-length-4 c =
     let at-words = at-words2 .before .before .before .before .before .before .before .before .before .before .before .before .before .before .before .before in
     at-words5 .words5 .given ∙ at-words4 .words4 .given ∙ at-words3 .words3 .given ∙ at-words2 .words2 .given ∙ at-words .words .given
 
-returns : tie.Need-returns
-returns c = tt
-
 pub walk-spec : {M : Type 1} → statement M
 walk-spec =
     tie.close
     (tie.spec
-    slice-aggregate-write-all
-    write-all-requires
-    edge-requires
-    ended-requires
-    slice-aggregate-write-all-2
-    write-all-requires-2
-    fresh-requires
-    ended-requires-2
-    slice-aggregate-write-all-3
-    write-all-requires-3
-    paid-requires
-    ended-requires-3
-    slice-aggregate-write-all-4
-    write-all-requires-4
-    window-requires
-    ended-requires-4
-    slice-aggregate-write-all-5
-    write-all-requires-5
-    rollback-requires
-    ended-requires-5
+    (λ c. refl) (λ c κs. tt) (λ c κs. tt) (λ c κs. tt) (λ c. refl) (λ c κs. tt) (λ c κs. tt) (λ c κs. tt) (λ c. refl) (λ c κs. tt) (λ c κs. tt) (λ c κs. tt) (λ c. refl) (λ c κs. tt) (λ c κs. tt) (λ c κs. tt) (λ c. refl) (λ c κs. tt) (λ c κs. tt) (λ c κs. tt)
     add-result
     add-result-2
     add-result-3
@@ -166,4 +84,4 @@ walk-spec =
     same-length-2
     same-length-3
     same-length-4
-    returns)
+    (λ c. tt))

@@ -92,8 +92,6 @@ short-of-chunks-spec =
     (λ c. search needs)
     lacks-requires
     returns
-    (λ c. search needs)
-    (λ c. search needs)
-    (λ c. search needs)
+    (λ c. search needs) (λ c. search needs) (λ c. search needs)
     loop-again
     returns-2)

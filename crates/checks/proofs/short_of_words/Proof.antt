@@ -52,8 +52,7 @@ short-of-words-spec =
     journal-of-requires
     returns
     shared-slice-read-result
-    (λ c. search needs)
-    (λ c. search needs)
+    (λ c. search needs) (λ c. search needs)
     shared-slice-read-result-2
     add-result-2
     returns-2)

@@ -46,7 +46,6 @@ word-checks-spec =
     decode-requires
     (λ c κs. search needs)
     returns
-    (λ c κs. search needs)
-    (λ c. search needs)
+    (λ c κs. search needs) (λ c. search needs)
     capacity-refusal-requires
     returns-2)

@@ -53,14 +53,9 @@ pub hold-chunk-spec : {M : Type 1} → statement M
 hold-chunk-spec =
     tie.close
     (tie.spec hinted-requires
-    (λ c. search needs)
-    (λ c. search needs)
-    (λ c. search needs)
-    (λ c. search needs)
+    (λ c. search needs) (λ c. search needs) (λ c. search needs) (λ c. search needs)
     returns
     hold-requires
     learn-requires
-    (λ c. search needs)
-    (λ c. search needs)
-    (λ c. search needs)
+    (λ c. search needs) (λ c. search needs) (λ c. search needs)
     returns-2)

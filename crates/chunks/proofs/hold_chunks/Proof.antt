@@ -89,10 +89,7 @@ hold-chunks-spec =
     (λ c. search needs)
     add-hold-chunk-2
     hold-chunk-requires
-    (λ c. search needs)
-    (λ c. search needs)
+    (λ c. search needs) (λ c. search needs)
     loop-again
-    (λ c. search needs)
-    (λ c. search needs)
-    (λ c. search needs)
+    (λ c. search needs) (λ c. search needs) (λ c. search needs)
     returns)

@@ -12,15 +12,6 @@ returns c =
     let l = length-take-le (256 * start .args .slots) (start .args .bytes .now) (start .pre .0) in
     sym (List·getD-eq-default (take (256 * start .args .slots) (start .args .bytes .now)) 0 (omega arith))
 
-mul-result : tie.Need-mul-result
-mul-result c = omega arith
-
-add-result : tie.Need-add-result
-add-result c = omega arith
-
-shared-slice-read-result : tie.Need-shared-slice-read-result
-shared-slice-read-result c = omega arith
-
 returns-2 : tie.Need-returns-2
 returns-2 c =
     let start = c .before .before in
@@ -28,4 +19,4 @@ returns-2 c =
 
 pub byte-beside-spec : {M : Type 1} → statement M
 byte-beside-spec =
-    tie.close (tie.spec returns mul-result add-result shared-slice-read-result returns-2)
+    tie.close (tie.spec returns (λ c. omega arith) (λ c. omega arith) (λ c. omega arith) returns-2)

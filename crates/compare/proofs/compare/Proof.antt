@@ -14,18 +14,12 @@ left start = mem (start .args .left-bytes .now) (start .args .left-keys .now) (s
 abbrev right : tie.Start → Mem
 right start = mem (start .args .right-bytes .now) (start .args .right-keys .now) (start .args .right-order .now) (start .args .right-words .now)
 
-well-formed-requires : tie.Need-well-formed-requires
-well-formed-requires c κs = tt
-
 returns : tie.Need-returns
 returns c =
     let at-if1 = c in
     let at-well-formed = at-if1 .before in
     let start = at-well-formed .before .before .before .before .before .before .before .before .before in
     left-ill (left start) (right start) (failed (at-well-formed .well-formed .ensures) (at-if1 .if1 .taken))
-
-well-formed-requires-2 : tie.Need-well-formed-requires-2
-well-formed-requires-2 c κs = tt
 
 returns-2 : tie.Need-returns-2
 returns-2 c =
@@ -97,9 +91,9 @@ pub compare-spec : {M : Type 1} → statement M
 compare-spec =
     tie.close
     (tie.spec
-    well-formed-requires
+    (λ c κs. tt)
     returns
-    well-formed-requires-2
+    (λ c κs. tt)
     returns-2
     same-layout-requires
     returns-3

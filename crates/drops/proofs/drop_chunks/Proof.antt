@@ -46,8 +46,5 @@ drop-chunks-spec =
     key-of-requires
     key-of-requires-2
     give-requires
-    (λ c. search needs)
-    (λ c. search needs)
-    (λ c. search needs)
-    (λ c. search needs)
+    (λ c. search needs) (λ c. search needs) (λ c. search needs) (λ c. search needs)
     returns)

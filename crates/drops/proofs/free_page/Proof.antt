@@ -28,8 +28,5 @@ free-page-spec =
     (tie.spec (λ c. search needs)
     drop-chunks-requires
     unlist-page-requires
-    (λ c. search needs)
-    (λ c. search needs)
-    (λ c. search needs)
-    (λ c. search needs)
+    (λ c. search needs) (λ c. search needs) (λ c. search needs) (λ c. search needs)
     returns)

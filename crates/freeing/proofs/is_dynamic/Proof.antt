@@ -39,8 +39,7 @@ pub is-dynamic-spec : {M : Type 1} → statement M
 is-dynamic-spec =
     tie.close
     (tie.spec
-    (λ c κs. search needs)
-    (λ c κs. search needs)
+    (λ c κs. search needs) (λ c κs. search needs)
     returns
     (λ c κs. search needs)
     returns-2

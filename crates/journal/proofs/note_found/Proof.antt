@@ -16,6 +16,5 @@ returns c =
 
 pub note-found-spec : {M : Type 1} → statement M
 note-found-spec = tie.close (tie.spec note-at-requires
-    (λ c. search needs)
-    (λ c. search needs)
+    (λ c. search needs) (λ c. search needs)
     returns)

@@ -34,7 +34,5 @@ decode-page-spec =
     returns-4
     returns-5
     returns-6
-    (λ c. search needs)
-    (λ c. search needs)
-    (λ c κs. search needs)
+    (λ c. search needs) (λ c. search needs) (λ c κs. search needs)
     returns-7)

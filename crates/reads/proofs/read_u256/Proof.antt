@@ -43,8 +43,7 @@ pub read-u256-spec : {M : Type 1} → statement M
 read-u256-spec =
     tie.close
     (tie.spec
-    (λ c κs. search needs)
-    (λ c κs. search needs)
+    (λ c κs. search needs) (λ c κs. search needs)
     returns
     read-word-requires
     (λ c κs. search needs)

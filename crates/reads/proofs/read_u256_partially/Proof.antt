@@ -64,11 +64,9 @@ pub read-u256-partially-spec : {M : Type 1} → statement M
 read-u256-partially-spec =
     tie.close
     (tie.spec
-    (λ c κs. search needs)
-    (λ c κs. search needs)
+    (λ c κs. search needs) (λ c κs. search needs)
     returns
-    (λ c κs. search needs)
-    (λ c κs. search needs)
+    (λ c κs. search needs) (λ c κs. search needs)
     returns-2
     (λ c. search needs)
     read-padded-requires

@@ -42,8 +42,7 @@ clear-chunk-spec =
     loop-holds
     (λ c. search needs)
     slice-write-bytes
-    (λ c. search needs)
-    (λ c. search needs)
+    (λ c. search needs) (λ c. search needs)
     loop-again
     (λ c. search needs)
     returns)

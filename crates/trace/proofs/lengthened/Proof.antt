@@ -20,9 +20,6 @@ pub lengthened-spec : {M : Type 1} → statement M
 lengthened-spec =
     tie.close
     (tie.spec
-    (λ c. search needs)
-    (λ c. search needs)
-    (λ c. search needs)
-    (λ c. search needs)
+    (λ c. search needs) (λ c. search needs) (λ c. search needs) (λ c. search needs)
     longer-requires
     returns)

@@ -32,8 +32,7 @@ returns-5 c = let l = c .before .before .before .before .before .args .w .limbs 
 pub bigger-than-last-address-spec : {M : Type 1} → statement M
 bigger-than-last-address-spec =
     tie.close
-    (tie.spec (λ c. search needs)
-    (λ c. search needs)
+    (tie.spec (λ c. search needs) (λ c. search needs)
     returns
     (λ c. search needs)
     returns-2

@@ -30,8 +30,7 @@ sum-32-spec =
     (tie.spec
     (λ c. search needs)
     returns
-    (λ c. search needs)
-    (λ c. search needs)
+    (λ c. search needs) (λ c. search needs)
     returns-2
     (λ c. search needs)
     returns-3

@@ -2,21 +2,6 @@ use mathlib.Core.Path.{_∙_}
 use Rattle.card.proofs.calls.hold.Statement.{statement}
 use Rattle.card.proofs.calls.hold.Tie as tie
 
-zero-requires : tie.Need-zero-requires
-zero-requires c κs = tt
-
-write-requires : tie.Need-write-requires
-write-requires c κs = tt
-
-write-requires-2 : tie.Need-write-requires-2
-write-requires-2 c κs = tt
-
-write-requires-3 : tie.Need-write-requires-3
-write-requires-3 c κs = tt
-
-write-requires-4 : tie.Need-write-requires-4
-write-requires-4 c κs = tt
-
 same-length : tie.Need-same-length
 same-length c =
     let at-bytes4 = c .before .before .before .before .before .before .before in
@@ -49,20 +34,13 @@ same-length-4 c =
     let at-words = at-words2 .before .before .before .before .before .before .before .before .before .before .before .before .before in
     at-words4 .words4 .given ∙ at-words3 .words3 .given ∙ at-words2 .words2 .given ∙ at-words .words .given
 
-returns : tie.Need-returns
-returns c = tt
-
 pub hold-spec : {M : Type 1} → statement M
 hold-spec =
     tie.close
     (tie.spec
-    zero-requires
-    write-requires
-    write-requires-2
-    write-requires-3
-    write-requires-4
+    (λ c κs. tt) (λ c κs. tt) (λ c κs. tt) (λ c κs. tt) (λ c κs. tt)
     same-length
     same-length-2
     same-length-3
     same-length-4
-    returns)
+    (λ c. tt))

@@ -2,21 +2,6 @@ use mathlib.Core.Path.{_∙_}
 use Rattle.card.proofs.paths.edge.Statement.{statement}
 use Rattle.card.proofs.paths.edge.Tie as tie
 
-open-requires : tie.Need-open-requires
-open-requires c κs = tt
-
-counting-requires : tie.Need-counting-requires
-counting-requires c κs = tt
-
-write-requires : tie.Need-write-requires
-write-requires c κs = tt
-
-write-requires-2 : tie.Need-write-requires-2
-write-requires-2 c κs = tt
-
-sides-requires : tie.Need-sides-requires
-sides-requires c κs = tt
-
 same-length : tie.Need-same-length
 same-length c =
     let at-bytes3 = c .before .before .before .before .before .before .before .before .before .before .before .before in
@@ -45,20 +30,13 @@ same-length-4 c =
     let at-words = at-words2 .before .before .before .before .before .before .before .before .before .before .before .before .before .before in
     at-words3 .words3 .given ∙ at-words2 .words2 .given ∙ at-words .words .given
 
-returns : tie.Need-returns
-returns c = tt
-
 pub edge-spec : {M : Type 1} → statement M
 edge-spec =
     tie.close
     (tie.spec
-    open-requires
-    counting-requires
-    write-requires
-    write-requires-2
-    sides-requires
+    (λ c κs. tt) (λ c κs. tt) (λ c κs. tt) (λ c κs. tt) (λ c κs. tt)
     same-length
     same-length-2
     same-length-3
     same-length-4
-    returns)
+    (λ c. tt))

@@ -2,24 +2,6 @@ use mathlib.Core.Path.{refl, _∙_}
 use Rattle.card.proofs.paths.fresh.Statement.{statement}
 use Rattle.card.proofs.paths.fresh.Tie as tie
 
-leave-requires : tie.Need-leave-requires
-leave-requires c κs = tt
-
-allocate-at-requires : tie.Need-allocate-at-requires
-allocate-at-requires c κs = tt
-
-slice-aggregate-done : tie.Need-slice-aggregate-done
-slice-aggregate-done c = refl
-
-done-requires : tie.Need-done-requires
-done-requires c κs = tt
-
-hold-requires : tie.Need-hold-requires
-hold-requires c κs = tt
-
-blank-requires : tie.Need-blank-requires
-blank-requires c κs = tt
-
 same-length : tie.Need-same-length
 same-length c =
     let at-bytes3 = c .before .before .before .before .before .before .before .before .before .before .before .before in
@@ -48,21 +30,13 @@ same-length-4 c =
     let at-words = at-words2 .before .before .before .before .before .before .before .before .before .before .before .before .before in
     at-words3 .words3 .given ∙ at-words2 .words2 .given ∙ at-words .words .given
 
-returns : tie.Need-returns
-returns c = tt
-
 pub fresh-spec : {M : Type 1} → statement M
 fresh-spec =
     tie.close
     (tie.spec
-    leave-requires
-    allocate-at-requires
-    slice-aggregate-done
-    done-requires
-    hold-requires
-    blank-requires
+    (λ c κs. tt) (λ c κs. tt) (λ c. refl) (λ c κs. tt) (λ c κs. tt) (λ c κs. tt)
     same-length
     same-length-2
     same-length-3
     same-length-4
-    returns)
+    (λ c. tt))

@@ -2,30 +2,6 @@ use mathlib.Core.Path.{_∙_}
 use Rattle.card.proofs.paths.overlap.Statement.{statement}
 use Rattle.card.proofs.paths.overlap.Tie as tie
 
-open-requires : tie.Need-open-requires
-open-requires c κs = tt
-
-counting-requires : tie.Need-counting-requires
-counting-requires c κs = tt
-
-write-requires : tie.Need-write-requires
-write-requires c κs = tt
-
-snapshot-requires : tie.Need-snapshot-requires
-snapshot-requires c κs = tt
-
-many-171-requires : tie.Need-many-171-requires
-many-171-requires c κs = tt
-
-write-requires-2 : tie.Need-write-requires-2
-write-requires-2 c κs = tt
-
-many-205-requires : tie.Need-many-205-requires
-many-205-requires c κs = tt
-
-write-requires-3 : tie.Need-write-requires-3
-write-requires-3 c κs = tt
-
 same-length : tie.Need-same-length
 same-length c =
     let at-bytes4 = c .before .before .before .before .before .before .before in
@@ -58,23 +34,13 @@ same-length-4 c =
     let at-words = at-words2 .before .before .before .before .before .before .before .before .before .before .before .before .before .before in
     at-words4 .words4 .given ∙ at-words3 .words3 .given ∙ at-words2 .words2 .given ∙ at-words .words .given
 
-returns : tie.Need-returns
-returns c = tt
-
 pub overlap-spec : {M : Type 1} → statement M
 overlap-spec =
     tie.close
     (tie.spec
-    open-requires
-    counting-requires
-    write-requires
-    snapshot-requires
-    many-171-requires
-    write-requires-2
-    many-205-requires
-    write-requires-3
+    (λ c κs. tt) (λ c κs. tt) (λ c κs. tt) (λ c κs. tt) (λ c κs. tt) (λ c κs. tt) (λ c κs. tt) (λ c κs. tt)
     same-length
     same-length-2
     same-length-3
     same-length-4
-    returns)
+    (λ c. tt))

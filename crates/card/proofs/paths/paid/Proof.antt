@@ -2,24 +2,6 @@ use mathlib.Core.Path.{_∙_}
 use Rattle.card.proofs.paths.paid.Statement.{statement}
 use Rattle.card.proofs.paths.paid.Tie as tie
 
-open-requires : tie.Need-open-requires
-open-requires c κs = tt
-
-untouched-requires : tie.Need-untouched-requires
-untouched-requires c κs = tt
-
-store-requires : tie.Need-store-requires
-store-requires c κs = tt
-
-store-requires-2 : tie.Need-store-requires-2
-store-requires-2 c κs = tt
-
-load-requires : tie.Need-load-requires
-load-requires c κs = tt
-
-load-requires-2 : tie.Need-load-requires-2
-load-requires-2 c κs = tt
-
 same-length : tie.Need-same-length
 same-length c =
     let at-bytes3 = c .before .before .before .before .before .before .before .before .before .before .before .before .before .before .before .before .before .before .before .before .before in
@@ -48,21 +30,13 @@ same-length-4 c =
     let at-words = at-words2 .before .before .before .before .before .before .before .before .before .before .before .before .before .before .before .before in
     at-words3 .words3 .given ∙ at-words2 .words2 .given ∙ at-words .words .given
 
-returns : tie.Need-returns
-returns c = tt
-
 pub paid-spec : {M : Type 1} → statement M
 paid-spec =
     tie.close
     (tie.spec
-    open-requires
-    untouched-requires
-    store-requires
-    store-requires-2
-    load-requires
-    load-requires-2
+    (λ c κs. tt) (λ c κs. tt) (λ c κs. tt) (λ c κs. tt) (λ c κs. tt) (λ c κs. tt)
     same-length
     same-length-2
     same-length-3
     same-length-4
-    returns)
+    (λ c. tt))

@@ -2,30 +2,6 @@ use mathlib.Core.Path.{refl, _∙_}
 use Rattle.card.proofs.paths.window.Statement.{statement}
 use Rattle.card.proofs.paths.window.Tie as tie
 
-open-requires : tie.Need-open-requires
-open-requires c κs = tt
-
-counting-requires : tie.Need-counting-requires
-counting-requires c κs = tt
-
-write-requires : tie.Need-write-requires
-write-requires c κs = tt
-
-write-requires-2 : tie.Need-write-requires-2
-write-requires-2 c κs = tt
-
-compact-to-window-requires : tie.Need-compact-to-window-requires
-compact-to-window-requires c κs = tt
-
-slice-aggregate-done : tie.Need-slice-aggregate-done
-slice-aggregate-done c = refl
-
-done-requires : tie.Need-done-requires
-done-requires c κs = tt
-
-shown-requires : tie.Need-shown-requires
-shown-requires c κs = tt
-
 same-length : tie.Need-same-length
 same-length c =
     let at-bytes4 = c .before .before .before .before .before .before .before .before .before .before .before .before .before .before in
@@ -58,23 +34,13 @@ same-length-4 c =
     let at-words = at-words2 .before .before .before .before .before .before .before .before .before .before .before .before .before .before in
     at-words4 .words4 .given ∙ at-words3 .words3 .given ∙ at-words2 .words2 .given ∙ at-words .words .given
 
-returns : tie.Need-returns
-returns c = tt
-
 pub window-spec : {M : Type 1} → statement M
 window-spec =
     tie.close
     (tie.spec
-    open-requires
-    counting-requires
-    write-requires
-    write-requires-2
-    compact-to-window-requires
-    slice-aggregate-done
-    done-requires
-    shown-requires
+    (λ c κs. tt) (λ c κs. tt) (λ c κs. tt) (λ c κs. tt) (λ c κs. tt) (λ c. refl) (λ c κs. tt) (λ c κs. tt)
     same-length
     same-length-2
     same-length-3
     same-length-4
-    returns)
+    (λ c. tt))

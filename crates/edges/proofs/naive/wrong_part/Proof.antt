@@ -11,27 +11,10 @@ Inv-loop part bytes at wrong₀ i₀ wrong i = i ≤ 256
 abbrev μ-loop : tie.MeasureT-loop
 μ-loop part bytes at wrong₀ i₀ wrong i = 256 - i
 
-add-i : tie.Need-add-i Inv-loop μ-loop
-add-i c = omega arith
-
-loop-less : tie.Need-loop-less Inv-loop μ-loop
-loop-less c = omega arith
-
-loop-again : tie.Need-loop-again Inv-loop μ-loop
-loop-again c = omega arith
-
 pub wrong-part-spec : {M : Type 1} → statement M
 wrong-part-spec =
     tie.close
     (tie.spec
     Inv-loop
     μ-loop
-    (λ c κs. search needs)
-    (λ c. search needs)
-    (λ c κs. search needs)
-    (λ c κs. search needs)
-    (λ c κs. search needs)
-    add-i
-    loop-less
-    loop-again
-    (λ c. search needs))
+    (λ c κs. search needs) (λ c. search needs) (λ c κs. search needs) (λ c κs. search needs) (λ c κs. search needs) (λ c. omega arith) (λ c. omega arith) (λ c. omega arith) (λ c. search needs))

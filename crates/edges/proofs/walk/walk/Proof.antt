@@ -11,26 +11,10 @@ Inv-loop bytes₀ keys₀ order₀ words₀ input n state₀ i₀ bytes keys ord
 abbrev μ-loop : tie.MeasureT-loop
 μ-loop bytes₀ keys₀ order₀ words₀ input n state₀ i₀ bytes keys order words state i = n - i
 
-add-i : tie.Need-add-i Inv-loop μ-loop
-add-i c = omega arith
-
-loop-less : tie.Need-loop-less Inv-loop μ-loop
-loop-less c = omega arith
-
-loop-again : tie.Need-loop-again Inv-loop μ-loop
-loop-again c = omega arith
-
 pub walk-spec : {M : Type 1} → statement M
 walk-spec =
     tie.close
     (tie.spec
     Inv-loop
     μ-loop
-    (λ c κs. search needs)
-    (λ c. search needs)
-    (λ c κs. search needs)
-    add-i
-    (λ c κs. search needs)
-    loop-less
-    loop-again
-    (λ c. search needs))
+    (λ c κs. search needs) (λ c. search needs) (λ c κs. search needs) (λ c. omega arith) (λ c κs. search needs) (λ c. omega arith) (λ c. omega arith) (λ c. search needs))

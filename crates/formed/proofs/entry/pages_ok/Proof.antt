@@ -60,7 +60,6 @@ pages-ok-spec =
     loop-holds
     entry-ok-requires
     returns
-    (λ c. search needs)
-    (λ c. search needs)
+    (λ c. search needs) (λ c. search needs)
     loop-again
     returns-2)

@@ -86,10 +86,7 @@ pub journal-ok-spec : {M : Type 1} → statement M
 journal-ok-spec =
     tie.close
     (tie.spec
-    (λ c. search needs)
-    (λ c. search needs)
-    (λ c. search needs)
-    (λ c. search needs)
+    (λ c. search needs) (λ c. search needs) (λ c. search needs) (λ c. search needs)
     returns
     (λ c. search needs)
     mul-at-2
@@ -99,8 +96,7 @@ journal-ok-spec =
     (λ c κs. search needs)
     key-of-requires
     mul-notes-ok
-    (λ c. search needs)
-    (λ c. search needs)
+    (λ c. search needs) (λ c. search needs)
     part-notes-ok-end
     notes-ok-requires
     returns-2)

@@ -86,8 +86,7 @@ free-groups-spec =
     add-end
     loop-holds
     free-entry-requires
-    (λ c. search needs)
-    (λ c. search needs)
+    (λ c. search needs) (λ c. search needs)
     loop-again
     same-length
     same-length-2

@@ -73,9 +73,7 @@ gather-spec =
     returns
     (λ c. search needs)
     slice-write-line
-    (λ c. search needs)
-    (λ c. search needs)
-    (λ c. search needs)
+    (λ c. search needs) (λ c. search needs) (λ c. search needs)
     loop-again
     same-length-2
     returns-2)

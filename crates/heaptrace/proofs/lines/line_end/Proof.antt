@@ -22,9 +22,6 @@ returns c =
     let at-loop = at-if1 .before .before .before in
     record { low = at-loop .loop .inv .0; high = at-loop .loop .inv .1; inside = at-loop .loop .inv .2; newline = λ l. at-if1 .if1 .taken }
 
-loop-less : tie.Need-loop-less Inv-loop μ-loop
-loop-less c = omega arith
-
 loop-again : tie.Need-loop-again Inv-loop μ-loop
 loop-again c =
     let at-if1 = c in
@@ -47,7 +44,6 @@ line-end-spec =
     loop-holds
     (λ c. search needs)
     returns
-    (λ c. search needs)
-    loop-less
+    (λ c. search needs) (λ c. omega arith)
     loop-again
     returns-2)

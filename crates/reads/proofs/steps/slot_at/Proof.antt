@@ -21,9 +21,7 @@ returns-2 c =
 pub slot-at-spec : {M : Type 1} → statement M
 slot-at-spec =
     tie.close (tie.spec
-    (λ c. search needs)
-    (λ c. search needs)
+    (λ c. search needs) (λ c. search needs)
     returns
-    (λ c. search needs)
-    (λ c κs. search needs)
+    (λ c. search needs) (λ c κs. search needs)
     returns-2)

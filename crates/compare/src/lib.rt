@@ -84,12 +84,8 @@ fn covered(
     'pages: while e < pages {
         let listed = left_keys[slots + e];
         if listed != 0 {
-            let f = store::entry_of(
-                right_keys,
-                right_order,
-                right_words,
-                PageId((listed - 1) as u32),
-            );
+            let page = PageId((listed - 1) as u32);
+            let f = store::entry_of(right_keys, right_order, right_words, page);
             if f >= right_pages {
                 equal = false;
                 break 'pages;

@@ -101,13 +101,13 @@ shared-slice-read-listed c =
     let start = at-pages .before .before .before .before .before .before .before .before .before .before .before .before .before .before in
     omega (arith, at-pages-test .pages-test .taken, start .pre .0 .lengths)
 
-sub-t35 : tie.Need-sub-t35 Inv-loop μ-loop Inv-chunks μ-chunks Inv-pages μ-pages
-sub-t35 c =
+sub-page : tie.Need-sub-t36 Inv-loop μ-loop Inv-chunks μ-chunks Inv-pages μ-pages
+sub-page c =
     let at-if1 = c in
     omega (arith, at-if1 .if1 .taken)
 
-cast-t36 : tie.Need-cast-t36 Inv-loop μ-loop Inv-chunks μ-chunks Inv-pages μ-pages
-cast-t36 c =
+cast-page : tie.Need-cast-t37 Inv-loop μ-loop Inv-chunks μ-chunks Inv-pages μ-pages
+cast-page c =
     let at-if1 = c in
     let at-pages = at-if1 .before .before .before in
     let start = at-pages .before .before .before .before .before .before .before .before .before .before .before .before .before .before in
@@ -370,8 +370,8 @@ covered-spec =
     add-listed
     mul-listed
     shared-slice-read-listed
-    sub-t35
-    cast-t36
+    sub-page
+    cast-page
     entry-of-requires
     chunks-holds
     mul-s

@@ -3,11 +3,11 @@
 use mathlib.Core.Path.{_≡_, refl, sym, ap, _∙_, subst}
 use mathlib.Core.Bool.{Bool, true, false, not, _&&_}
 use mathlib.Core.List.{List, [], _∷_, _++_}
-use mathlib.Core.Logic.{_⊎_, inl, inr}
+use mathlib.Core.Logic.{_⊎_, ⊎-elim}
 use Prim.Native.Nat.{ℕ, _<_}
 use native.Mathlib.Omega.{arith}
 use lib.Dec.{ltb}
-use lib.ListN.{length, getD, drop}
+use lib.ListN.{length, getD, take, drop}
 use borrow.Author.Tests.{ne-eqb, ltb-true}
 use Rattle.index.proofs.Logic.{and-left, and-right}
 use Rattle.outcome.specs.Outcome.{Outcome, refused, panicked, done, firstOf}
@@ -25,7 +25,7 @@ use Rattle.instructions.specs.Executions.{statusOutcome, executionOutcome}
 use Rattle.instructions.specs.declared.Execution.{Execution}
 use Rattle.instructions.specs.declared.ExecutionStatus.{ExecutionStatus}
 use Rattle.instructions.specs.declared.ExecutionStatus.the-variants.{Running, SuspendedOnHook, Panicked, Refused}
-use Rattle.zincpapaya.specs.Executing.{bit, flag, frameFrom, outcomeFrom, frameNumbers, resultNumbers, executionStatus, frameAfter, outAfter, ReportsExecution, Executes}
+use Rattle.zincpapaya.specs.Executing.{bit, flag, frameFrom, outcomeFrom, frameNumbers, outNumbers, resultNumbers, executionStatus, frameAfter, outAfter, ReportsExecution, Executes}
 
 -- ---- an outcome that a status can tell: a refusal's number is none of 0, 100, 101, and a panic gives the frame alone
 pub data Tellable : Outcome Value → Type 0 where
@@ -93,12 +93,19 @@ flag-bit : (b : Bool) → flag (bit b) ≡ b
 flag-bit true = refl
 flag-bit false = refl
 
-bit-small : (b : Bool) → bit b < 2
-bit-small true = omega arith
-bit-small false = omega arith
-
 frame-back : (f : Frame) → frameFrom (frameNumbers f) ≡ f
 frame-back f = λ i. record { gas = f .gas; heap = f .heap; aux = f .aux; «heap_bound» = f .«heap_bound»; «aux_bound» = f .«aux_bound»; panicked = flag-bit (f .panicked) i }
+
+-- the numbers are those of what they mean
+frame-numbers : (f : Frame) → frameNumbers f ≡ frameNumbers (frameFrom (frameNumbers f))
+frame-numbers f = sym (ap frameNumbers (frame-back f))
+
+out-numbers : (x : Execution) (h : ℕ) → resultNumbers x h ≡ outNumbers (resultNumbers x h)
+out-numbers x h = ap (λ (b : Bool). take 8 (resultNumbers x h) ++ bit b ∷ h ∷ []) (sym (flag-bit (x .operand .tagged)))
+
+-- a status of a refusal is none of those that are carried out
+none : {r : ℕ} → (r ≡ 0 → ⊥) → (r ≡ 100 → ⊥) → (r ≡ 101 → ⊥) → ((r ≡ 0) ⊎ ((r ≡ 100) ⊎ (r ≡ 101)) → ⊥) × ((r ≡ 0) ⊎ (r ≡ 101) → ⊥)
+none a b c = (⊎-elim a (⊎-elim b c), ⊎-elim a c)
 
 abbrev back : Execution → ℕ → Stop → InstructionResult
 back x h s = record {
@@ -122,8 +129,8 @@ record Left (s : ExecutionStatus) (x : Execution) (frame out : List ℕ) (r : �
   same : outcomeFrom r frame' out' ≡ statusOutcome s (record { word = value (x .word .limbs); operand = executions.operandOf (x .operand); frame = x .frame; stop = executions.stopOf s })
   kept-out : (r ≡ 0 → ⊥) → (r ≡ 101 → ⊥) → out' ≡ out
   kept-frame : (r ≡ 0 → ⊥) → (r ≡ 100 → ⊥) → (r ≡ 101 → ⊥) → frame' ≡ frame
-  mark : (frame' ≡ frame) ⊎ (getD frame' 5 0 < 2)
-  tag : (out' ≡ out) ⊎ (getD out' 8 0 < 2)
+  frame-numbers : (r ≡ 0) ⊎ ((r ≡ 100) ⊎ (r ≡ 101)) → frame' ≡ frameNumbers (frameFrom frame')
+  out-numbers : (r ≡ 0) ⊎ (r ≡ 101) → out' ≡ outNumbers out'
   no-stop : r ≡ 0 → getD out' 9 0 ≡ 0
 
 module _ (x : Execution) (frame out : List ℕ) where
@@ -135,16 +142,16 @@ module _ (x : Execution) (frame out : List ℕ) where
     same = ap (λ (g : InstructionResult). done (instructionResult g)) (given-back x 0 running);
     kept-out = λ a b. absurd (a refl);
     kept-frame = λ a b c. absurd (a refl);
-    mark = inr (bit-small (x .frame .panicked));
-    tag = inr (bit-small (x .operand .tagged));
+    frame-numbers = λ _. frame-numbers (x .frame);
+    out-numbers = λ _. out-numbers x 0;
     no-stop = λ _. refl;
   }
   left (SuspendedOnHook h) p = record {
     same = ap (λ (g : InstructionResult). done (instructionResult g)) (given-back x h (onHook h));
     kept-out = λ a b. absurd (b refl);
     kept-frame = λ a b c. absurd (c refl);
-    mark = inr (bit-small (x .frame .panicked));
-    tag = inr (bit-small (x .operand .tagged));
+    frame-numbers = λ _. frame-numbers (x .frame);
+    out-numbers = λ _. out-numbers x h;
     no-stop = λ e. absurd (omega arith);
   }
   left Panicked p = record {
@@ -153,8 +160,8 @@ module _ (x : Execution) (frame out : List ℕ) where
         ∙ ap (λ (g : InstructionResult). panicked (instructionResult g)) (panic-is p _ refl);
     kept-out = λ a b. refl;
     kept-frame = λ a b c. absurd (b refl);
-    mark = inr (bit-small (x .frame .panicked));
-    tag = inl refl;
+    frame-numbers = λ _. frame-numbers (x .frame);
+    out-numbers = λ e. absurd (⊎-elim (λ z. omega arith) (λ z. omega arith) e);
     no-stop = λ e. absurd (omega arith);
   }
   left (Refused n) p =
@@ -163,8 +170,8 @@ module _ (x : Execution) (frame out : List ℕ) where
         same = rw (ne-eqb n 0 (λ e. omega arith), ne-eqb n 100 (λ e. omega arith), ne-eqb n 101 (λ e. omega arith)) refl;
         kept-out = λ a b. refl;
         kept-frame = λ a b c. refl;
-        mark = inl refl;
-        tag = inl refl;
+        frame-numbers = λ e. absurd (none (λ z. omega arith) (λ z. omega arith) (λ z. omega arith) .0 e);
+        out-numbers = λ e. absurd (none (λ z. omega arith) (λ z. omega arith) (λ z. omega arith) .1 e);
         no-stop = λ e. absurd (omega arith);
       }
 
@@ -176,8 +183,8 @@ module _ (m : Mem) (c : Call) (frame out : List ℕ) where
     does = λ a b. absurd (h (a, b));
     kept-out = λ a b. refl;
     kept-frame = λ a b d. refl;
-    mark = inl refl;
-    tag = inl refl;
+    frame-numbers = λ e. absurd (none (λ z. omega arith) (λ z. omega arith) (λ z. omega arith) .0 e);
+    out-numbers = λ e. absurd (none (λ z. omega arith) (λ z. omega arith) (λ z. omega arith) .1 e);
     no-stop = λ e. absurd (omega arith);
   }
 
@@ -196,8 +203,8 @@ module _ (m : Mem) (c : Call) (frame out : List ℕ) where
           does = λ _ _. record { answer = h .same ∙ done .answer; kept = done .kept; changed = done .changed };
           kept-out = h .kept-out;
           kept-frame = h .kept-frame;
-          mark = h .mark;
-          tag = h .tag;
+          frame-numbers = h .frame-numbers;
+          out-numbers = h .out-numbers;
           no-stop = h .no-stop;
         }
 

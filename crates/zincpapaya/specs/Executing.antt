@@ -2,11 +2,11 @@
 -- Assumes nothing.
 use mathlib.Core.Path.{_≡_}
 use mathlib.Core.Bool.{Bool, true, false, cond, not}
-use mathlib.Core.List.{List, [], _∷_}
+use mathlib.Core.List.{List, [], _∷_, _++_}
 use mathlib.Core.Logic.{_⊎_}
-use Prim.Native.Nat.{ℕ, _+_, _<_}
+use Prim.Native.Nat.{ℕ, _+_}
 use lib.Dec.{eqb}
-use lib.ListN.{length, getD, set, drop}
+use lib.ListN.{length, getD, set, take, drop}
 use Rattle.outcome.specs.Outcome.{Outcome, refused, panicked, done, firstOf}
 use Rattle.word.specs.Value.{value, limbsValue}
 use Rattle.state.specs.declared.Frame.{Frame}
@@ -42,6 +42,10 @@ frameFrom l = record {
   panicked = flag (getD l 5 0);
 }
 
+-- the six numbers of a frame
+abbrev pub frameNumbers : Frame → List ℕ
+frameNumbers f = f .gas ∷ f .heap .0 ∷ f .aux .0 ∷ f .«heap_bound» ∷ f .«aux_bound» ∷ bit (f .panicked) ∷ []
+
 -- the operand of four limbs and a tag
 abbrev pub operandFrom : (x0 x1 x2 x3 : ℕ) → Bool → Operand
 operandFrom x0 x1 x2 x3 tagged = record { word = limbsValue x0 x1 x2 x3; tag = tagged }
@@ -69,6 +73,10 @@ outcomeFrom r frame out =
     ∷ [])
     (refused r)
 
+-- ten numbers of which the tag is 0 or 1
+abbrev pub outNumbers : List ℕ → List ℕ
+outNumbers out = take 8 out ++ bit (flag (getD out 8 0)) ∷ getD out 9 0 ∷ []
+
 -- THE CONTRACT of an instruction c that is lent the buffers m, a frame and an `out`, has the status r, and leaves m', frame' and out'
 pub record Executes (m : Mem) (c : Call) (frame out : List ℕ) (r : ℕ) (m' : Mem) (frame' out' : List ℕ) : Type 0 where
   -- a frame has six numbers and `out` ten, or nothing is done
@@ -78,17 +86,14 @@ pub record Executes (m : Mem) (c : Call) (frame out : List ℕ) (r : ℕ) (m' : 
   -- `out` is as it was where the instruction is refused or panics, the frame where it is refused
   pub kept-out : (r ≡ 0 → ⊥) → (r ≡ 101 → ⊥) → out' ≡ out
   pub kept-frame : (r ≡ 0 → ⊥) → (r ≡ 100 → ⊥) → (r ≡ 101 → ⊥) → frame' ≡ frame
-  -- the flags that are written are 0 or 1, and without a stop the hook's value is 0
-  pub mark : (frame' ≡ frame) ⊎ (getD frame' 5 0 < 2)
-  pub tag : (out' ≡ out) ⊎ (getD out' 8 0 < 2)
+  -- otherwise all six numbers are written, and all ten: the mark and the tag are 0 or 1, and without a stop the hook's value is 0
+  pub frame-numbers : (r ≡ 0) ⊎ ((r ≡ 100) ⊎ (r ≡ 101)) → frame' ≡ frameNumbers (frameFrom frame')
+  pub out-numbers : (r ≡ 0) ⊎ (r ≡ 101) → out' ≡ outNumbers out'
   pub no-stop : r ≡ 0 → getD out' 9 0 ≡ 0
 
 -- ---- what the parts write
 abbrev pub limbsPut : List ℕ → ℕ → List ℕ → List ℕ
 limbsPut out at limbs = set (set (set (set out at (getD limbs 0 0)) (at + 1) (getD limbs 1 0)) (at + 2) (getD limbs 2 0)) (at + 3) (getD limbs 3 0)
-
-abbrev pub frameNumbers : Frame → List ℕ
-frameNumbers f = f .gas ∷ f .heap .0 ∷ f .aux .0 ∷ f .«heap_bound» ∷ f .«aux_bound» ∷ bit (f .panicked) ∷ []
 
 -- the numbers of a frame that has grown to f: gas and bounds are those of f, and the others are as they were
 abbrev pub grownNumbers : List ℕ → Frame → List ℕ

@@ -1,7 +1,5 @@
 // The library as C sees it: include/zincpapaya.h declares each function, with the lengths and the statuses that it speaks of.
 // Each takes numbers and slices alone, demands nothing of them, and is thin over the public call of the same name in a crate below.
-mod answers;
 pub mod arithmetic;
 pub mod execute;
-mod frames;
 pub mod memory;

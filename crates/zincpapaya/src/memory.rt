@@ -1,9 +1,8 @@
 // The memory's calls, as a host makes them: opening, reads, writes and allocation, freeing, history, comparison.
-use crate::answers;
-use crate::frames;
+use abi::answers;
+use abi::frames;
+use abi::status::UNFIT;
 use page_ids::Address;
-use page_ids::BasePage;
-use page_ids::Layout;
 use page_ids::PageId;
 ghost use mathlib.Core.List.{[]};
 ghost use lib.ListN.{length};
@@ -12,7 +11,9 @@ ghost use Rattle.word.specs.Value.{limbsValue};
 ghost use Rattle.store.specs.Mem.{mem};
 ghost use Rattle.view.specs.Calls.{Call, Value, nothing, answerOf, comparisonOf, CallDoes, OpenDoes};
 ghost use Rattle.opening.specs.Opening.{layoutFrom, setting};
-ghost use Rattle.zincpapaya.specs.Interface.{Gives, wordIn, numberIn, marksIn, verdictIn, chunkAnswer};
+ghost use Rattle.abi.specs.Interface.{Gives, wordIn, numberIn, marksIn, verdictIn, chunkAnswer};
+
+const CHUNK_BYTES: usize = 256;
 
 // ---- opening
 
@@ -36,14 +37,14 @@ pub extern "C" fn zp_open(
 ) -> u32
     ensures { λ r. ⌜ OpenDoes (mem (now (bytes .entry)) (now (keys .entry)) (now (order .entry)) (now (words .entry))) (setting (layoutFrom «static_memory» «calldata_page» «bootloader_heap» «bootloader_aux» base stride) chunks pages room) (now (calldata .entry)) (answered r nothing) (mem (now (bytes .exit)) (now (keys .exit)) (now (order .exit)) (now (words .exit))) ⌝ }
 {
-    let layout = Layout {
-        static_memory: PageId(static_memory),
-        calldata: PageId(calldata_page),
-        bootloader_heap: PageId(bootloader_heap),
-        bootloader_aux: PageId(bootloader_aux),
-        base: BasePage(base),
-        stride: stride,
-    };
+    let layout = frames::layout_of(
+        static_memory,
+        calldata_page,
+        bootloader_heap,
+        bootloader_aux,
+        base,
+        stride,
+    );
     outcome::status(opening::open(
         bytes,
         keys,
@@ -195,8 +196,8 @@ pub extern "C" fn zp_chunk<'a>(
 ) -> u32
     ensures { λ r. let m = mem (now (bytes .entry)) (now (keys .entry)) (now (order .entry)) (now (words .entry)) in ⌜ Gives 256 (chunkAnswer m page number (now (block .entry))) Value.bytes r (now (output .entry)) (now (output .exit)) ⌝ }
 {
-    if output.len() != 256 {
-        return 102;
+    if output.len() != CHUNK_BYTES {
+        return UNFIT;
     }
     let refusal = outcome::status(reads::chunk_check(
         bytes,

@@ -1,7 +1,5 @@
-use Rattle.zincpapaya.proofs.ExecuteTold.{static-tellable, unfit, executes, static-is}
-use Rattle.zincpapaya.specs.Executing.{frameFrom, operandFrom}
-use Rattle.store.specs.Mem.{mem}
-use Rattle.view.specs.Calls.{LoadStatic}
+use Rattle.reads.proofs.Answers.{passed, failed}
+use Rattle.abi.proofs.Executing.{lengths, unfit, executes, load-static, static-is}
 use borrow.Author.Needs.{needs}
 use Rattle.zincpapaya.proofs.execute.zp_load_static.Statement.{statement}
 use Rattle.zincpapaya.proofs.execute.zp_load_static.Tie as tie
@@ -9,42 +7,32 @@ use Rattle.zincpapaya.proofs.execute.zp_load_static.Tie as tie
 returns : tie.Need-returns
 returns c =
     let at-if1 = c in
-    let start = at-if1 .before .before .before .before .before .before .before in
-    unfit (mem (start .args .bytes .now) (start .args .keys .now) (start .args .order .now) (start .args .words .now)) (LoadStatic (frameFrom (start .args .frame .now)) (operandFrom (start .args .x0) (start .args .x1) (start .args .x2) (start .args .x3) (start .args .tagged))) (start .args .frame .now) (start .args .out .now) (λ h. at-if1 .if1 .taken (h .0))
+    let at-lengths-fit = at-if1 .before in
+    unfit (failed (at-lengths-fit .lengths-fit .ensures) (at-if1 .if1 .taken))
+
+frame-of-requires : tie.Need-frame-of-requires
+frame-of-requires c κs =
+    let at-if1 = c .before in
+    let at-lengths-fit = at-if1 .before in
+    let start = at-lengths-fit .before .before .before .before .before .before .before .before .before in
+    lengths (start .args .frame .now) (start .args .out .now) (passed (at-lengths-fit .lengths-fit .ensures) (at-if1 .if1 .left)) .0
+
+report-requires : tie.Need-report-requires
+report-requires c κs =
+    let at-if1 = c .before .before .before .before .before .before in
+    let at-lengths-fit = at-if1 .before in
+    let start = at-lengths-fit .before .before .before .before .before .before .before .before .before in
+    lengths (start .args .frame .now) (start .args .out .now) (passed (at-lengths-fit .lengths-fit .ensures) (at-if1 .if1 .left))
 
 returns-2 : tie.Need-returns-2
 returns-2 c =
-    let at-if2 = c in
-    let start = at-if2 .before .before .before .before .before .before .before .before in
-    unfit (mem (start .args .bytes .now) (start .args .keys .now) (start .args .order .now) (start .args .words .now)) (LoadStatic (frameFrom (start .args .frame .now)) (operandFrom (start .args .x0) (start .args .x1) (start .args .x2) (start .args .x3) (start .args .tagged))) (start .args .frame .now) (start .args .out .now) (λ h. at-if2 .if2 .taken (h .1))
-
-operand-of-requires : tie.Need-operand-of-requires
-operand-of-requires c κs = tt
-
-load-static-requires : tie.Need-load-static-requires
-load-static-requires c κs = tt
-
-returns-3 : tie.Need-returns-3
-returns-3 c =
-    let at-tell = c .before .before .before .before in
-    let at-load-static = at-tell .before .before .before in
+    let at-report = c .before .before .before .before in
+    let at-load-static = at-report .before .before .before in
     let at-operand-of = at-load-static .before in
     let at-frame-of = at-operand-of .before in
-    let at-if2 = at-frame-of .before .before in
-    let at-if1 = at-if2 .before in
-    let start = at-if1 .before .before .before .before .before .before .before in
-    executes (mem (start .args .bytes .now) (start .args .keys .now) (start .args .order .now) (start .args .words .now)) (LoadStatic (frameFrom (start .args .frame .now)) (operandFrom (start .args .x0) (start .args .x1) (start .args .x2) (start .args .x3) (start .args .tagged))) (start .args .frame .now) (start .args .out .now) (at-if1 .if1 .left) (at-if2 .if2 .left) (static-tellable (mem (start .args .bytes .now) (start .args .keys .now) (start .args .order .now) (start .args .words .now)) (frameFrom (start .args .frame .now)) (operandFrom (start .args .x0) (start .args .x1) (start .args .x2) (start .args .x3) (start .args .tagged))) (static-is (at-frame-of .frame-of .ensures) (at-operand-of .operand-of .ensures)) (at-load-static .load-static .result) (at-load-static .load-static .ensures .does) (at-tell .tell .ensures)
+    let at-if1 = at-frame-of .before .before in
+    let at-lengths-fit = at-if1 .before in
+    executes (passed (at-lengths-fit .lengths-fit .ensures) (at-if1 .if1 .left)) load-static (static-is (at-frame-of .frame-of .ensures) (at-operand-of .operand-of .ensures)) (at-load-static .load-static .result) (at-load-static .load-static .ensures .does) (at-report .report .ensures)
 
 pub zp-load-static-spec : {M : Type 1} → statement M
-zp-load-static-spec =
-    tie.close
-    (tie.spec
-    returns
-    returns-2
-    (λ c κs. search needs)
-    operand-of-requires
-    load-static-requires
-    (λ c κs. search needs)
-    (λ c. search needs)
-    (λ c. search needs)
-    returns-3)
+zp-load-static-spec = tie.close (tie.spec (λ c κs. tt) (λ c. search needs) (λ c. search needs) returns frame-of-requires (λ c κs. tt) (λ c κs. tt) report-requires (λ c. search needs) (λ c. search needs) returns-2)

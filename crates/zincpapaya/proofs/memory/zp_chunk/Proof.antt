@@ -1,7 +1,7 @@
 use Rattle.view.specs.Calls.{bytes}
 use Rattle.store.specs.Mem.{mem}
-use Rattle.zincpapaya.proofs.MemoryStatus.{chunk-refused, chunk-asks, chunk-fits, chunk-given}
-use Rattle.zincpapaya.proofs.MemoryGives.{gives-unfit}
+use Rattle.abi.proofs.Statuses.{chunk-refused, chunk-asks, chunk-fits, chunk-given}
+use Rattle.abi.proofs.Outputs.{gives-unfit}
 use borrow.Author.Needs.{needs}
 use Rattle.zincpapaya.proofs.memory.zp_chunk.Statement.{statement}
 use Rattle.zincpapaya.proofs.memory.zp_chunk.Tie as tie
@@ -10,7 +10,7 @@ returns : tie.Need-returns
 returns c =
     let at-if1 = c in
     let start = at-if1 .before .before .before .before .before .before .before in
-    gives-unfit 256 bytes (start .args .output .now) _ (at-if1 .if1 .taken)
+    gives-unfit (at-if1 .if1 .taken)
 
 returns-2 : tie.Need-returns-2
 returns-2 c =

@@ -1,6 +1,6 @@
 use Rattle.store.specs.Mem.{mem}
-use Rattle.zincpapaya.proofs.MemoryStatus.{comparison-nonzero}
-use Rattle.zincpapaya.proofs.MemoryGives.{gives-same}
+use Rattle.abi.proofs.Statuses.{comparison-nonzero}
+use Rattle.abi.proofs.Outputs.{gives-same}
 use borrow.Author.Needs.{needs}
 use Rattle.zincpapaya.proofs.memory.zp_compare.Statement.{statement}
 use Rattle.zincpapaya.proofs.memory.zp_compare.Tie as tie

@@ -1,6 +1,6 @@
 use Rattle.store.specs.Mem.{mem}
 use Rattle.view.specs.Calls.{Call}
-use Rattle.zincpapaya.proofs.MemoryStatus.{call-status}
+use Rattle.abi.proofs.Statuses.{call-status}
 use borrow.Author.Needs.{needs}
 use Rattle.zincpapaya.proofs.memory.zp_delete_history.Statement.{statement}
 use Rattle.zincpapaya.proofs.memory.zp_delete_history.Tie as tie

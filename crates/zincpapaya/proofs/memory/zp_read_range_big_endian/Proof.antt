@@ -1,5 +1,5 @@
 use Rattle.store.specs.Mem.{mem}
-use Rattle.zincpapaya.proofs.MemoryStatus.{range-status}
+use Rattle.abi.proofs.Statuses.{range-status}
 use borrow.Author.Needs.{needs}
 use Rattle.zincpapaya.proofs.memory.zp_read_range_big_endian.Statement.{statement}
 use Rattle.zincpapaya.proofs.memory.zp_read_range_big_endian.Tie as tie

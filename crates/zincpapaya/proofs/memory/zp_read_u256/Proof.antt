@@ -1,7 +1,7 @@
 use Rattle.view.specs.Calls.{number}
 use Rattle.store.specs.Mem.{mem}
 use Rattle.reads.proofs.Calls.{word-call}
-use Rattle.zincpapaya.proofs.MemoryGives.{gives-as}
+use Rattle.abi.proofs.Outputs.{gives-as}
 use borrow.Author.Needs.{needs}
 use Rattle.zincpapaya.proofs.memory.zp_read_u256.Statement.{statement}
 use Rattle.zincpapaya.proofs.memory.zp_read_u256.Tie as tie

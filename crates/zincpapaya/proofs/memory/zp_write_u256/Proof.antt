@@ -1,5 +1,5 @@
 use Rattle.store.specs.Mem.{mem}
-use Rattle.zincpapaya.proofs.MemoryStatus.{word-status}
+use Rattle.abi.proofs.Statuses.{word-status}
 use borrow.Author.Needs.{needs}
 use Rattle.zincpapaya.proofs.memory.zp_write_u256.Statement.{statement}
 use Rattle.zincpapaya.proofs.memory.zp_write_u256.Tie as tie

@@ -1,0 +1,5 @@
+-- The laws that the proofs of this crate and of zincpapaya share.
+pub mod Outputs
+pub mod Statuses
+pub mod Lists
+pub mod Executing

@@ -1,0 +1,29 @@
+use mathlib.Core.Path.{ap, _∙_}
+use Rattle.word.specs.Value.{value}
+use Rattle.abi.proofs.Outputs.{gives-unfit, gives-refused, gives-value}
+use Rattle.abi.proofs.Lists.{value-put}
+use borrow.Author.Needs.{needs}
+use Rattle.abi.proofs.answers.give_word.Statement.{statement}
+use Rattle.abi.proofs.answers.give_word.Tie as tie
+
+returns : tie.Need-returns
+returns c =
+    let at-if1 = c in
+    gives-unfit (at-if1 .if1 .taken)
+
+returns-2 : tie.Need-returns-2
+returns-2 c =
+    let at-if2 = c in
+    let at-if1 = at-if2 .before in
+    gives-refused _ _ (at-if1 .if1 .left) (at-if2 .if2 .taken)
+
+returns-3 : tie.Need-returns-3
+returns-3 c =
+    let at-put-word = c .before .before in
+    let at-if2 = at-put-word .before .before in
+    let at-if1 = at-if2 .before in
+    let start = at-if1 .before .before in
+    gives-value (at-if1 .if1 .left) (at-if2 .if2 .left) (ap value (at-put-word .put-word .ensures) ∙ value-put (start .args .word .limbs) (start .args .out .now) (at-if1 .if1 .left))
+
+pub give-word-spec : {M : Type 1} → statement M
+give-word-spec = tie.close (tie.spec returns returns-2 (λ c κs. search needs) (λ c. search needs) returns-3)

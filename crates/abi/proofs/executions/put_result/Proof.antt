@@ -1,0 +1,45 @@
+use mathlib.Core.Path.{_∙_}
+use lib.ListN.{length-set}
+use Rattle.abi.proofs.Lists.{given-put}
+use borrow.Author.Needs.{needs}
+use Rattle.abi.proofs.executions.put_result.Statement.{statement}
+use Rattle.abi.proofs.executions.put_result.Tie as tie
+
+bit-requires : tie.Need-bit-requires
+bit-requires c κs = tt
+
+wide-requires : tie.Need-wide-requires
+wide-requires c κs = tt
+
+wide-requires-2 : tie.Need-wide-requires-2
+wide-requires-2 c κs = tt
+
+slice-write-out-2 : tie.Need-slice-write-out-2
+slice-write-out-2 c = simp length-set (search needs)
+
+same-length : tie.Need-same-length
+same-length c = simp length-set (search needs)
+
+returns : tie.Need-returns
+returns c =
+    let at-wide2 = c in
+    let at-wide = at-wide2 .before in
+    let at-bit = at-wide .before in
+    let at-put-word2 = at-bit .before .before .before in
+    let at-put-word = at-put-word2 .before .before .before .before in
+    let start = at-put-word .before .before .before .before in
+    given-put (start .args .run) (start .args .hook) (start .args .out .now) (start .pre) (at-put-word .put-word .ensures) (at-put-word2 .put-word2 .ensures) (at-wide .wide .ensures ∙ at-bit .bit .ensures) (at-wide2 .wide2 .ensures)
+
+pub put-result-spec : {M : Type 1} → statement M
+put-result-spec =
+    tie.close
+    (tie.spec
+    (λ c κs. search needs)
+    (λ c κs. search needs)
+    bit-requires
+    wide-requires
+    (λ c. search needs)
+    wide-requires-2
+    slice-write-out-2
+    same-length
+    returns)

@@ -1,4 +1,0 @@
--- The definitions that the contracts of this crate cite: Interface for the calls of the memory and what all share, Executing for the instructions, Numbers for page ids, fat pointers and gas.
-pub mod Interface
-pub mod Numbers
-pub mod Executing

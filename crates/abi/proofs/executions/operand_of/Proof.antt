@@ -2,9 +2,6 @@ use Rattle.abi.proofs.Executing.{operand-made}
 use Rattle.abi.proofs.executions.operand_of.Statement.{statement}
 use Rattle.abi.proofs.executions.operand_of.Tie as tie
 
-word-of-requires : tie.Need-word-of-requires
-word-of-requires c κs = tt
-
 returns : tie.Need-returns
 returns c =
     let at-word-of = c in
@@ -12,4 +9,4 @@ returns c =
     operand-made (start .args .tagged) (at-word-of .word-of .ensures)
 
 pub operand-of-spec : {M : Type 1} → statement M
-operand-of-spec = tie.close (tie.spec word-of-requires returns)
+operand-of-spec = tie.close (tie.spec (λ c κs. tt) returns)

@@ -5,15 +5,6 @@ use borrow.Author.Needs.{needs}
 use Rattle.abi.proofs.executions.put_result.Statement.{statement}
 use Rattle.abi.proofs.executions.put_result.Tie as tie
 
-bit-requires : tie.Need-bit-requires
-bit-requires c κs = tt
-
-wide-requires : tie.Need-wide-requires
-wide-requires c κs = tt
-
-wide-requires-2 : tie.Need-wide-requires-2
-wide-requires-2 c κs = tt
-
 slice-write-out-2 : tie.Need-slice-write-out-2
 slice-write-out-2 c = simp length-set (search needs)
 
@@ -34,12 +25,7 @@ pub put-result-spec : {M : Type 1} → statement M
 put-result-spec =
     tie.close
     (tie.spec
-    (λ c κs. search needs)
-    (λ c κs. search needs)
-    bit-requires
-    wide-requires
-    (λ c. search needs)
-    wide-requires-2
+    (λ c κs. search needs) (λ c κs. search needs) (λ c κs. tt) (λ c κs. tt) (λ c. search needs) (λ c κs. tt)
     slice-write-out-2
     same-length
     returns)

@@ -55,8 +55,7 @@ zp-chunk-spec =
     tie.close
     (tie.spec
     returns
-    (λ c κs. search needs)
-    (λ c κs. search needs)
+    (λ c κs. search needs) (λ c κs. search needs)
     returns-2
     chunk-of-requires
     copy-requires

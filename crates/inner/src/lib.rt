@@ -64,9 +64,16 @@ pub extern "C" fn in_read_words(
     let mut i: usize = 0;
     while i < places.len() {
         let place = places[i];
-        let page = PageId((place / 4294967296) as u32);
-        let address = Address((place % 4294967296) as u32);
-        let read = reads::steps::read_word(bytes, keys, order, words, page, address);
+        let page = (place / 4294967296) as u32;
+        let address = (place % 4294967296) as u32;
+        let read = reads::steps::read_word(
+            bytes,
+            keys,
+            order,
+            words,
+            PageId(page),
+            Address(address),
+        );
         put(out, 4 * i, word::from_big_endian(read));
         i += 1;
     }

@@ -213,7 +213,7 @@ pub extern "C" fn zp_chunk<'a>(
     }
     answers::copy(
         output,
-        reads::steps::chunk_of(bytes, keys, order, words, page, number, block),
+        reads::steps::chunk_of(bytes, keys, order, words, PageId(page), number, block),
     );
     0
 }

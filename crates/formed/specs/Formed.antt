@@ -1,5 +1,5 @@
--- Well formed, as the test that the code computes. It is 01's sentence, the record WellFormed, both ways: `well-formed` of lists/specs/Rules.antt is
--- that law, and proofs/Meaning its proof.
+-- Well formed, as the test that the code computes.
+-- It is 01's sentence, the record WellFormed, both ways: `well-formed` of lists/specs/Rules.antt says so, and proofs/Meaning proves it.
 -- Assumes nothing.
 use mathlib.Core.Bool.{Bool, true, cond, not, _&&_, _||_}
 use mathlib.Core.List.{List, [], _∷_}

@@ -14,18 +14,18 @@ use Rattle.outcome.specs.Outcome.{Outcome, refused, panicked, done, firstOf, an
 use Rattle.word.specs.Value.{value}
 use Rattle.state.specs.declared.Frame.{Frame}
 use Rattle.state.specs.declared.Area.{Area}
-use Rattle.state.specs.declared.Step.{Step}
+use Rattle.state.specs.declared.FrameStep.{FrameStep}
 use Rattle.store.specs.Mem.{Mem}
 use Rattle.formed.specs.Formed.{wellFormed}
 use Rattle.view.specs.View.{settingOf, viewOf}
 use Rattle.view.specs.Checks.{Check, wordWriteChecks}
 use Rattle.view.specs.Instructions.{Operand, Hook, InstructionResult, Stop, running, onHook, heapOf, frameAlone, hooked, accessChecks, loaded, storeChecks, stored, pointerChecks, pointed, staticChecks, staticLoaded, staticStoreChecks, staticStored}
 use Rattle.view.specs.Calls.{Call, Value, Load, Store, LoadPointer, LoadStatic, StoreStatic, instructionResult, answerOf, CallDoes}
-use Rattle.instructions.specs.Executions as executions
-use Rattle.instructions.specs.Executions.{statusOutcome, executionOutcome}
-use Rattle.instructions.specs.declared.Execution.{Execution}
-use Rattle.instructions.specs.declared.ExecutionStatus.{ExecutionStatus}
-use Rattle.instructions.specs.declared.ExecutionStatus.the-variants.{Running, SuspendedOnHook, Panicked, Refused}
+use Rattle.execution.specs.Executions as executions
+use Rattle.execution.specs.Executions.{statusOutcome, executionOutcome}
+use Rattle.execution.specs.declared.Execution.{Execution}
+use Rattle.execution.specs.declared.ExecutionStatus.{ExecutionStatus}
+use Rattle.execution.specs.declared.ExecutionStatus.the-variants.{Running, SuspendedOnHook, Panicked, Refused}
 use Rattle.abi.specs.Executing.{bit, flag, fit, frameFrom, outcomeFrom, frameNumbers, grownNumbers, outNumbers, resultNumbers, executionStatus, frameAfter, outAfter, ReportsExecution, Executes}
 use Rattle.abi.specs.Interface.{Gives}
 use Rattle.abi.specs.Numbers.{asTheyAre, Grows}
@@ -231,16 +231,16 @@ module _ {m : Mem} {c : Call} {frame out : List ℕ} where
       }
 
 -- ---- a growth
-module _ {frame out : List ℕ} {step : Step} where
+module _ {frame out : List ℕ} {step : FrameStep} where
   pub grow-unfit : fit frame out 1 ≡ false → Grows frame out step 102 frame out
   grow-unfit h = record { unfit = λ _. (refl, (refl, refl)); answer = λ e. absurd (false≢true (sym h ∙ e)) }
 
-  pub grows : fit frame out 1 ≡ true → {s : Step} → s ≡ step → {r b : ℕ} {frame' out' : List ℕ} → frame' ≡ grownNumbers frame (s .frame) → Gives 1 (answered 0 (b ∷ [])) asTheyAre r out out' → b ≡ bit (s .paid) → Grows frame out step r frame' out'
+  pub grows : fit frame out 1 ≡ true → {s : FrameStep} → s ≡ step → {r b : ℕ} {frame' out' : List ℕ} → frame' ≡ grownNumbers frame (s .frame) → Gives 1 (answered 0 (b ∷ [])) asTheyAre r out out' → b ≡ bit (s .paid) → Grows frame out step r frame' out'
   grows fits q {r} {b} {out' = out'} e g p = record {
     unfit = λ h. absurd (false≢true (sym h ∙ fits));
     answer = λ _.
         let h = answered-is r (g .answer (lengths frame out fits .1)) in
-        (h .0, (e ∙ ap (λ (x : Step). grownNumbers frame (x .frame)) q, h .1 ∙ ap (λ (x : ℕ). x ∷ []) p ∙ ap (λ (x : Step). bit (x .paid) ∷ []) q));
+        (h .0, (e ∙ ap (λ (x : FrameStep). grownNumbers frame (x .frame)) q, h .1 ∙ ap (λ (x : ℕ). x ∷ []) p ∙ ap (λ (x : FrameStep). bit (x .paid) ∷ []) q));
   }
     where
       answered-is : (k : ℕ) → answered k out' ≡ done (b ∷ []) → (k ≡ 0) × (out' ≡ b ∷ [])

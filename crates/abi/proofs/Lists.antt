@@ -8,7 +8,7 @@ use lib.ListN.{length, getD, set}
 use Rattle.word.specs.Value.{value}
 use Rattle.state.specs.declared.Frame.{Frame}
 use Rattle.fat_pointer.specs.declared.FatPointer.{FatPointer}
-use Rattle.instructions.specs.declared.Execution.{Execution}
+use Rattle.execution.specs.declared.Execution.{Execution}
 use Rattle.abi.specs.Executing.{bit, limbsPut, frameNumbers, resultNumbers}
 use Rattle.abi.specs.Numbers.{pointerAt}
 

@@ -15,9 +15,9 @@ use Rattle.state.specs.declared.Area.the-variants.{Heap, Aux}
 use Rattle.store.specs.Mem.{Mem}
 use Rattle.view.specs.Instructions.{Operand, Hook, InstructionResult, running, onHook, frameAlone}
 use Rattle.view.specs.Calls.{Call, Value, instructionResult, CallDoes}
-use Rattle.instructions.specs.declared.Execution.{Execution}
-use Rattle.instructions.specs.declared.ExecutionStatus.{ExecutionStatus}
-use Rattle.instructions.specs.declared.ExecutionStatus.the-variants.{Running, SuspendedOnHook, Panicked, Refused}
+use Rattle.execution.specs.declared.Execution.{Execution}
+use Rattle.execution.specs.declared.ExecutionStatus.{ExecutionStatus}
+use Rattle.execution.specs.declared.ExecutionStatus.the-variants.{Running, SuspendedOnHook, Panicked, Refused}
 
 -- ---- arguments
 -- a frame has six numbers, and `out` has n

@@ -1,5 +1,6 @@
--- THE CONTRACTS of the exported calls. A call that returns no value has that of view/specs/Calls.antt, where `answered` is of its status;
--- a call that returns a value through an output has `Gives`.
+-- THE CONTRACTS of the exported calls.
+-- A call that returns no value has the contract of view/specs/Calls.antt, with `answered` of its status for the outcome.
+-- A call that returns a value through an output has `Gives`.
 -- Assumes nothing.
 use mathlib.Core.Path.{_≡_}
 use mathlib.Core.Bool.{true, false, cond}

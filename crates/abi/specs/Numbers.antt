@@ -8,7 +8,7 @@ use lib.ListN.{getD}
 use Rattle.page_ids.specs.Decode.{Page, kindNumber, groupNumber}
 use Rattle.fat_pointer.specs.declared.FatPointer.{FatPointer}
 use Rattle.state.specs.declared.Gas.{Gas}
-use Rattle.state.specs.declared.Step.{Step}
+use Rattle.state.specs.declared.FrameStep.{FrameStep}
 use Rattle.state.specs.declared.quote.RunEnd.{RunEnd}
 use Rattle.abi.specs.Executing.{bit, fit, grownNumbers}
 
@@ -22,11 +22,11 @@ abbrev pub asTheyAre : List ℕ → List ℕ
 asTheyAre out = out
 
 -- offset, page, start and length of a fat pointer
-abbrev pub pointer : (offset page start length : ℕ) → FatPointer
-pointer offset p start n = record { offset = offset; «memory_page» = record { 0 = p }; start = start; length = n }
+abbrev pub pointerFrom : (offset page start length : ℕ) → FatPointer
+pointerFrom offset p start n = record { offset = offset; «memory_page» = record { 0 = p }; start = start; length = n }
 
 abbrev pub pointerAt : List ℕ → FatPointer
-pointerAt out = pointer (getD out 0 0) (getD out 1 0) (getD out 2 0) (getD out 3 0)
+pointerAt out = pointerFrom (getD out 0 0) (getD out 1 0) (getD out 2 0) (getD out 3 0)
 
 -- ---- what a call answers
 abbrev pub pageNumbers : Page → List ℕ
@@ -41,7 +41,7 @@ abbrev pub endNumbers : RunEnd → List ℕ
 endNumbers end = end .spent ∷ end .bound ∷ end .position ∷ []
 
 -- THE CONTRACT of a growth that takes a frame to a step, has the status r and leaves frame' and out'
-pub record Grows (frame out : List ℕ) (step : Step) (r : ℕ) (frame' out' : List ℕ) : Type 0 where
+pub record Grows (frame out : List ℕ) (step : FrameStep) (r : ℕ) (frame' out' : List ℕ) : Type 0 where
   -- a frame has six numbers and `out` one, or nothing is done
   pub unfit : fit frame out 1 ≡ false → (r ≡ 102) × ((frame' ≡ frame) × (out' ≡ out))
   -- nothing is refused; gas and bounds are the step's, the other numbers as they were; `out` is 1 where the growth was paid, else 0

@@ -1,15 +1,15 @@
 // The operands of an instruction, and its execution as a status, a frame and `out`.
 ghost use mathlib.Core.Path.{_≡_};
 ghost use lib.ListN.{length};
-ghost use Rattle.instructions.specs.Executions as executions;
+ghost use Rattle.execution.specs.Executions as executions;
 ghost use Rattle.abi.specs.Executing.{operandFrom, hookFrom, fit, resultNumbers, ReportsExecution};
 use crate::frames;
 use crate::status::PANICKED;
 use crate::status::STOPPED;
-use instructions::Execution;
-use instructions::ExecutionStatus;
-use instructions::Hook;
-use instructions::Operand;
+use execution::Execution;
+use execution::ExecutionStatus;
+use execution::Hook;
+use execution::Operand;
 use page_ids::Address;
 
 // The places of the numbers of `out`.

@@ -4,7 +4,7 @@ ghost use Prim.Native.Nat.{_+_, _≤_};
 ghost use lib.ListN.{length};
 ghost use Rattle.word.specs.Value.{value, limbsValue};
 ghost use Rattle.abi.specs.Executing as spec;
-ghost use Rattle.opening.specs.Opening.{layoutFrom};
+ghost use Rattle.page_ids.specs.Decode.{layoutFrom};
 use page_ids::BasePage;
 use page_ids::Layout;
 use page_ids::PageId;

@@ -1,4 +1,4 @@
-// What the exported functions of zincpapaya share: statuses, frames and words as numbers, and answers returned through an output.
+// What exported functions share: statuses, frames and words as numbers, and answers returned through an output.
 pub mod answers;
 pub mod executions;
 pub mod frames;

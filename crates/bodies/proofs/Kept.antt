@@ -13,9 +13,9 @@ use lib.Seq.{getD-take}
 use Rattle.formed.proofs.Sizes.{lengths-kept}
 use Rattle.store.specs.Keys.{keyChunk}
 use Rattle.index.proofs.Logic.{lt-or-ge}
-use Rattle.store.specs.Mem.{Mem, mem, slotCount, journalLength, chunks}
+use Rattle.store.specs.Mem.{Mem, mem, slotCount, journalLength, chunkBytes}
 use Rattle.formed.specs.Pages.{journalCount}
-use Rattle.formed.specs.Parts.{Note, tab, noteAddress, oldAt, slotOfChunk, holds, byteAt, allocated, journal}
+use Rattle.formed.specs.Parts.{Note, tab, noteAddress, oldPlace, slotOfChunk, holds, byteAt, allocated, journal}
 use Rattle.formed.specs.WellFormed.{holder, WellFormed}
 use Rattle.formed.proofs.Meaning.{facts-of, formed-by}
 use Rattle.view.specs.View.{View, settingOf, viewOf}
@@ -31,7 +31,7 @@ bytesAre g v = record {
   held = v .held;
   pool = v .pool;
   allocated = v .allocated;
-  entries = v .entries;
+  entriesLeft = v .entriesLeft;
   dynamicLength = v .dynamicLength;
   journal = v .journal;
 }
@@ -63,7 +63,7 @@ unfolding slotOfChunk
 slot-same m bytes' p k = refl
 
 module _ (m : Mem) (f : WellFormed m) (bytes' : List ℕ) (kept : Bodies m bytes') where
-  chunk-same : (b : ℕ) → getD bytes' b 0 ≡ getD (m .bytes) b 0 → getD (chunks (withBytes m bytes')) b 0 ≡ getD (chunks m) b 0
+  chunk-same : (b : ℕ) → getD bytes' b 0 ≡ getD (m .bytes) b 0 → getD (chunkBytes (withBytes m bytes')) b 0 ≡ getD (chunkBytes m) b 0
   chunk-same b e = cut-same (256 * slotCount (m .words)) bytes' (m .bytes) b e
 
   -- it is well formed again
@@ -96,8 +96,8 @@ module _ (m : Mem) (f : WellFormed m) (bytes' : List ℕ) (kept : Bodies m bytes
   unfolding allocated
   allocated-same p = refl
 
-  old-same : (j i : ℕ) → tab 32 (λ x. getD bytes' (oldAt m j i + x) 0) ≡ tab 32 (λ x. getD (m .bytes) (oldAt m j i + x) 0)
-  old-same j i = ap (tab 32) (fun-ext (λ x. kept .behind (oldAt m j i + x) (omega arith)))
+  old-same : (j i : ℕ) → tab 32 (λ x. getD bytes' (oldPlace (m .words) j i + x) 0) ≡ tab 32 (λ x. getD (m .bytes) (oldPlace (m .words) j i + x) 0)
+  old-same j i = ap (tab 32) (fun-ext (λ x. kept .behind (oldPlace (m .words) j i + x) (omega arith)))
 
   journal-same : (j : ℕ) → journal (withBytes m bytes') j ≡ journal m j
   unfolding journal

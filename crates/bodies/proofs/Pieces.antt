@@ -9,7 +9,7 @@ use lib.ListN.{length, getD, take, drop, length-drop}
 use lib.Seq.{getD-take, getD-drop, length-take-le}
 use borrow.Author.Tests.{lt-ltb}
 use Rattle.store.specs.Keys.{keyChunk}
-use Rattle.store.specs.Mem.{Mem, slotCount, holders, chunks}
+use Rattle.store.specs.Mem.{Mem, slotCount, holders, chunkBytes}
 use Rattle.formed.specs.Parts.{slotOfChunk, holds, byteAt}
 use Rattle.formed.specs.WellFormed.{holder, HeldAt, WellFormed}
 use Rattle.formed.proofs.Sizes.{holders-long}
@@ -86,7 +86,7 @@ module _ (m : Mem) (f : WellFormed m) (s p k r : ℕ) (there : HeldAt m s p k) (
   unfolding byteAt
   old-byte q b off =
       let i = slot-lt m f s p k there in
-      ap (λ (t : ℕ). getD (chunks (withBytes m bytes')) (256 * t + b % 256) 0) (slot-same m bytes' q (b / 256))
+      ap (λ (t : ℕ). getD (chunkBytes (withBytes m bytes')) (256 * t + b % 256) 0) (slot-same m bytes' q (b / 256))
       ∙ cut-same (256 * slotCount (m .words)) bytes' (m .bytes) (256 * slotOfChunk m q (b / 256) + b % 256)
       (outside (256 * slotOfChunk m q (b / 256) + b % 256) (λ lo hi.
       let h = held-here m f s q (b / 256) (omega arith) i in

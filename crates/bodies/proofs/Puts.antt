@@ -43,7 +43,7 @@ module _ (bytes keys order words : List ℕ) (p a : ℕ) (src : List ℕ) (asks 
   put-in s pos l h =
       let i = slot-lt (mem bytes keys order words) (asks .formed) s p ((a + pos) / 256) (put-slot s pos l h) in
       let n = asks .formed .lengths .in-bytes in
-      let few = asks .formed .lengths .slots-hi in
+      let few = asks .formed .lengths .chunks-hi in
       (omega arith, omega arith)
 
   module _ (pos : ℕ) (now : List ℕ) (shown : Shows (settingOf (mem bytes keys order words)) (putting p a (take pos src) (viewOf (mem bytes keys order words))) (mem now keys order words)) where

@@ -9,7 +9,7 @@ use lib.ListN.{length, getD}
 use lib.Seq.{getD-take}
 use Rattle.store.specs.Keys.{keyChunk}
 use Rattle.index.proofs.Logic.{lt-or-ge}
-use Rattle.store.specs.Mem.{Mem, slotCount, chunks}
+use Rattle.store.specs.Mem.{Mem, slotCount, chunkBytes}
 use Rattle.formed.specs.Parts.{tab, slotOfChunk, byteAt}
 use Rattle.formed.specs.WellFormed.{holder, HeldAt, WellFormed}
 use Rattle.formed.proofs.Same.{tab-at, tab-long}
@@ -84,7 +84,7 @@ module _ (m : Mem) (f : WellFormed m) (p a s t : ℕ) (small : a ≤ 4294967295)
   old-byte : (q b : ℕ) → (q ≡ p → a ≤ b → b < a + 32 → ⊥) → byteAt m' q b ≡ byteAt m q b
   unfolding byteAt
   old-byte q b off =
-      ap (λ (y : ℕ). getD (chunks m') (256 * y + b % 256) 0) (slot-same m bytes' q (b / 256))
+      ap (λ (y : ℕ). getD (chunkBytes m') (256 * y + b % 256) 0) (slot-same m bytes' q (b / 256))
       ∙ cut-same (256 * slotCount (m .words)) bytes' (m .bytes) (256 * slotOfChunk m q (b / 256) + b % 256)
       (d .off (256 * slotOfChunk m q (b / 256) + b % 256) (λ i li e.
       ⊎-elim

@@ -1,6 +1,10 @@
 // Calls of a path. Each answers whether the path is right so far, and has printed what came where it went wrong.
 ghost use Prim.Native.Nat.{_≤_};
 ghost use lib.ListN.{length};
+use crate::buffers::BYTES;
+use crate::buffers::KEYS;
+use crate::buffers::ORDER;
+use crate::buffers::WORDS;
 use crate::report;
 use crate::samples;
 use page_ids::Address;
@@ -22,64 +26,65 @@ fn layout() -> Layout {
 }
 
 // Opens a memory of 8 chunks, 4 pages and 8 words of each journal, with no calldata.
-pub fn open(bytes: &mut [u8], keys: &mut [u64], order: &mut [u32], words: &mut [u64]) -> bool {
-    let answer = opening::open(bytes, keys, order, words, layout(), 8, 4, 8, b"");
-    report::done(true, b"refusal of the opening", answer)
+pub fn open(
+    bytes: &mut [u8; BYTES],
+    keys: &mut [u64; KEYS],
+    order: &mut [u32; ORDER],
+    words: &mut [u64; WORDS],
+) -> bool {
+    report::opened(opening::open(bytes, keys, order, words, layout(), 8, 4, 8, b""))
 }
 
 pub fn write(
     right: bool,
-    bytes: &mut [u8],
-    keys: &mut [u64],
-    order: &mut [u32],
-    words: &mut [u64],
+    bytes: &mut [u8; BYTES],
+    keys: &mut [u64; KEYS],
+    order: &mut [u32; ORDER],
+    words: &mut [u64; WORDS],
     page: u32,
     at: u32,
     word: Word,
 ) -> bool {
     let answer = writes::write_u256(bytes, keys, order, words, PageId(page), Address(at), word);
-    report::done(right, b"refusal of a write", answer)
+    report::written(right, answer)
 }
 
 // Reads a word and compares it.
 pub fn read(
     right: bool,
-    bytes: &[u8],
-    keys: &[u64],
-    order: &[u32],
-    words: &[u64],
+    bytes: &[u8; BYTES],
+    keys: &[u64; KEYS],
+    order: &[u32; ORDER],
+    words: &[u64; WORDS],
     page: u32,
     at: u32,
     expected: Word,
 ) -> bool {
     let r = reads::read_u256(bytes, keys, order, words, PageId(page), Address(at));
-    let refusal = r.refusal;
-    let came = r.word;
-    let read = report::same(right, b"refusal of a read", 0, refusal as u64);
-    report::same_word(read, b"word at ", at as u64, expected, came)
+    report::word_read(right, at, expected, r)
 }
 
 // Writes 2,048 bytes of 171: each byte of eight chunks.
 pub fn fill(
     right: bool,
-    bytes: &mut [u8],
-    keys: &mut [u64],
-    order: &mut [u32],
-    words: &mut [u64],
+    bytes: &mut [u8; BYTES],
+    keys: &mut [u64; KEYS],
+    order: &mut [u32; ORDER],
+    words: &mut [u64; WORDS],
     page: u32,
 ) -> bool {
     let old = [171u8; 2048];
     let answer = writes::write_bytes(bytes, keys, order, words, PageId(page), Address(0), &old);
-    report::done(right, b"refusal of the write of eight chunks", answer)
+    report::filled(right, answer)
 }
 
 // Writes a word of zeros over every second chunk edge, so that the page holds eight chunks.
 pub fn hold(
     right: bool,
-    bytes: &mut [u8],
-    keys: &mut [u64],
-    order: &mut [u32],
-    words: &mut [u64],
+    bytes: &mut [u8; BYTES],
+    keys: &mut [u64; KEYS],
+    order: &mut [u32; ORDER],
+    words: &mut [u64; WORDS],
     page: u32,
 ) -> bool {
     let zero = samples::zero();
@@ -107,10 +112,10 @@ fn other_than_zero(read: &[u8]) -> usize
 // Reads the first 2,048 bytes of a page, all of which must be zero. The output has ones before, so that zeros in it were read.
 pub fn blank(
     right: bool,
-    bytes: &[u8],
-    keys: &[u64],
-    order: &[u32],
-    words: &[u64],
+    bytes: &[u8; BYTES],
+    keys: &[u64; KEYS],
+    order: &[u32; ORDER],
+    words: &[u64; WORDS],
     page: u32,
 ) -> bool {
     let mut out = [1u8; 2048];
@@ -124,25 +129,18 @@ pub fn blank(
         Address(2048),
         &mut out,
     );
-    let n = other_than_zero(&out);
-    let read = report::done(right, b"refusal of a range read", answer);
-    report::same(read, b"old bytes in the new page", 0, n as u64)
+    report::range_read(right, answer, other_than_zero(&out))
 }
 
 // Takes a snapshot, which must find as many words in the heap's journal and none in the aux heap's.
 pub fn snapshot(
     right: bool,
-    bytes: &[u8],
-    keys: &[u64],
-    order: &[u32],
-    words: &[u64],
+    bytes: &[u8; BYTES],
+    keys: &[u64; KEYS],
+    order: &[u32; ORDER],
+    words: &[u64; WORDS],
     expected: u64,
 ) -> bool {
     let r = reads::snapshot(bytes, keys, order, words);
-    let refusal = r.refusal;
-    let heap = r.heap;
-    let aux = r.aux;
-    let taken = report::same(right, b"refusal of a snapshot", 0, refusal as u64);
-    let one = report::same(taken, b"snapshot of the heap", expected, heap as u64);
-    report::same(one, b"snapshot of the aux heap", 0, aux as u64)
+    report::marked(right, expected, r)
 }

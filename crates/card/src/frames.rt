@@ -1,11 +1,15 @@
 // Instructions on a frame, and what they leave.
+use crate::buffers::BYTES;
+use crate::buffers::KEYS;
+use crate::buffers::ORDER;
+use crate::buffers::WORDS;
 use crate::report;
 use crate::samples;
+use execution::Execution;
+use execution::ExecutionStatus;
+use execution::Hook;
+use execution::Operand;
 use fat_pointer::FatPointer;
-use instructions::Execution;
-use instructions::ExecutionStatus;
-use instructions::Hook;
-use instructions::Operand;
 use page_ids::Address;
 use page_ids::PageId;
 use state::Area;
@@ -55,15 +59,15 @@ fn number(status: ExecutionStatus) -> u32 {
     }
 }
 
-// The frame that an instruction left, which must have run, and left this gas, and this bound of the heap.
-fn left(right: bool, touch: &[u8], e: Execution, gas: u64, bound: u64) -> Touched {
+// The touch must have run, and left this gas and this heap bound.
+fn left(right: bool, touch: u64, e: Execution, gas: u64, bound: u64) -> Touched {
     let status = e.status;
     let frame = e.frame;
     let ended = number(status);
     let gas_left = frame.gas;
     let bound_left = frame.heap_bound;
     let ran = report::same(right, b"refusal of a touch", 0, ended as u64);
-    let charged = report::same(ran, touch, gas, gas_left as u64);
+    let charged = report::same_after(ran, touch, gas, gas_left as u64);
     let right = report::same(charged, b"bound of the heap", bound, bound_left as u64);
     Touched {
         right: right,
@@ -71,15 +75,30 @@ fn left(right: bool, touch: &[u8], e: Execution, gas: u64, bound: u64) -> Touche
     }
 }
 
+// The word that a pointer showed at an offset.
+fn seen(right: bool, offset: u32, expected: Word, e: Execution) -> bool {
+    let status = e.status;
+    let came = e.word;
+    let ended = number(status);
+    let ran = report::same(right, b"refusal of the pointer", 0, ended as u64);
+    report::same_word(
+        ran,
+        b"word of the pointer at ",
+        offset as u64,
+        expected,
+        came,
+    )
+}
+
 // Stores the bytes 1 to 32 to the heap of a frame, with no hook.
 pub fn store(
     last: Touched,
-    bytes: &mut [u8],
-    keys: &mut [u64],
-    order: &mut [u32],
-    words: &mut [u64],
+    bytes: &mut [u8; BYTES],
+    keys: &mut [u64; KEYS],
+    order: &mut [u32; ORDER],
+    words: &mut [u64; WORDS],
     address: u64,
-    touch: &[u8],
+    touch: u64,
     gas: u64,
     bound: u64,
 ) -> Touched {
@@ -107,12 +126,12 @@ pub fn store(
 // Loads from the heap of a frame.
 pub fn load(
     last: Touched,
-    bytes: &[u8],
-    keys: &[u64],
-    order: &[u32],
-    words: &[u64],
+    bytes: &[u8; BYTES],
+    keys: &[u64; KEYS],
+    order: &[u32; ORDER],
+    words: &[u64; WORDS],
     address: u64,
-    touch: &[u8],
+    touch: u64,
     gas: u64,
     bound: u64,
 ) -> Touched {
@@ -126,23 +145,18 @@ pub fn load(
 // Loads what a pointer shows from its offset on, and compares it.
 pub fn show(
     right: bool,
-    bytes: &[u8],
-    keys: &[u64],
-    order: &[u32],
-    words: &[u64],
+    bytes: &[u8; BYTES],
+    keys: &[u64; KEYS],
+    order: &[u32; ORDER],
+    words: &[u64; WORDS],
     pointer: FatPointer,
     expected: Word,
 ) -> bool {
     let offset = pointer.offset;
-    let at = offset as u64;
     let operand = Operand {
         word: fat_pointer::into_u256(pointer),
         tagged: true,
     };
     let e = instructions::load_pointer(bytes, keys, order, words, frame(), operand);
-    let status = e.status;
-    let came = e.word;
-    let ended = number(status);
-    let ran = report::same(right, b"refusal of the pointer", 0, ended as u64);
-    report::same_word(ran, b"word of the pointer at ", at, expected, came)
+    seen(right, offset, expected, e)
 }

@@ -1,4 +1,8 @@
 // The five paths. Each opens its memory anew, in buffers that have whatever the last path left.
+use crate::buffers::BYTES;
+use crate::buffers::KEYS;
+use crate::buffers::ORDER;
+use crate::buffers::WORDS;
 use crate::calls;
 use crate::frames;
 use crate::report;
@@ -17,44 +21,31 @@ const NEXT_HEAP: u32 = 74;
 const BOOTLOADER: u32 = 5;
 
 // The words on both sides of the edge at 256: half of the word at 240, and the last byte of that at 225.
-fn sides(right: bool, bytes: &[u8], keys: &[u64], order: &[u32], words: &[u64]) -> bool {
+fn sides(
+    right: bool,
+    bytes: &[u8; BYTES],
+    keys: &[u64; KEYS],
+    order: &[u32; ORDER],
+    words: &[u64; WORDS],
+) -> bool {
     let whole = samples::counting();
+    let front = samples::front_half();
+    let back = samples::back_half();
+    let end = samples::last_byte();
     let right = calls::read(right, bytes, keys, order, words, HEAP, 240, whole);
-    let right = calls::read(
-        right,
-        bytes,
-        keys,
-        order,
-        words,
-        HEAP,
-        224,
-        samples::front_half(),
-    );
-    let right = calls::read(
-        right,
-        bytes,
-        keys,
-        order,
-        words,
-        HEAP,
-        256,
-        samples::back_half(),
-    );
+    let right = calls::read(right, bytes, keys, order, words, HEAP, 224, front);
+    let right = calls::read(right, bytes, keys, order, words, HEAP, 256, back);
     let right = calls::read(right, bytes, keys, order, words, AUX, 225, whole);
-    calls::read(
-        right,
-        bytes,
-        keys,
-        order,
-        words,
-        AUX,
-        256,
-        samples::last_byte(),
-    )
+    calls::read(right, bytes, keys, order, words, AUX, 256, end)
 }
 
 // Words over a chunk edge, read on both sides. Catches a half-written word.
-pub fn edge(bytes: &mut [u8], keys: &mut [u64], order: &mut [u32], words: &mut [u64]) -> bool {
+pub fn edge(
+    bytes: &mut [u8; BYTES],
+    keys: &mut [u64; KEYS],
+    order: &mut [u32; ORDER],
+    words: &mut [u64; WORDS],
+) -> bool {
     let right = calls::open(bytes, keys, order, words);
     let whole = samples::counting();
     let right = calls::write(right, bytes, keys, order, words, HEAP, 240, whole);
@@ -63,34 +54,45 @@ pub fn edge(bytes: &mut [u8], keys: &mut [u64], order: &mut [u32], words: &mut [
 }
 
 // Fills all eight chunks, and frees them.
-fn leave(bytes: &mut [u8], keys: &mut [u64], order: &mut [u32], words: &mut [u64]) -> bool {
+fn leave(
+    bytes: &mut [u8; BYTES],
+    keys: &mut [u64; KEYS],
+    order: &mut [u32; ORDER],
+    words: &mut [u64; WORDS],
+) -> bool {
     let right = calls::open(bytes, keys, order, words);
     let right = calls::fill(right, bytes, keys, order, words, HEAP);
     let freed = freeing::deallocate(bytes, keys, order, words, PageId(HEAP));
-    report::done(right, b"refusal of a free", freed)
+    report::freed(right, freed)
 }
 
 // A page takes over the eight chunks of a freed one. Catches old bytes in a new call.
-pub fn fresh(bytes: &mut [u8], keys: &mut [u64], order: &mut [u32], words: &mut [u64]) -> bool {
+pub fn fresh(
+    bytes: &mut [u8; BYTES],
+    keys: &mut [u64; KEYS],
+    order: &mut [u32; ORDER],
+    words: &mut [u64; WORDS],
+) -> bool {
     let right = leave(bytes, keys, order, words);
     let allocated = writes::allocate_at(bytes, keys, order, words, PageId(NEXT_HEAP));
-    let right = report::done(right, b"refusal of an allocation", allocated);
+    let right = report::allocated(right, allocated);
     let right = calls::hold(right, bytes, keys, order, words, NEXT_HEAP);
     calls::blank(right, bytes, keys, order, words, NEXT_HEAP)
 }
 
 // Paid memory is touched again. Catches a second growth charge.
 // The word at 100 ends at 132: of 1,000 gas 868 is left, also after the second touch. That at 101 has one byte that is not paid.
-pub fn paid(bytes: &mut [u8], keys: &mut [u64], order: &mut [u32], words: &mut [u64]) -> bool {
+pub fn paid(
+    bytes: &mut [u8; BYTES],
+    keys: &mut [u64; KEYS],
+    order: &mut [u32; ORDER],
+    words: &mut [u64; WORDS],
+) -> bool {
     let new = frames::untouched(calls::open(bytes, keys, order, words));
-    let what = b"gas after the first store";
-    let first = frames::store(new, bytes, keys, order, words, 100, what, 868, 132);
-    let what = b"gas after the second store";
-    let second = frames::store(first, bytes, keys, order, words, 100, what, 868, 132);
-    let what = b"gas after a load";
-    let third = frames::load(second, bytes, keys, order, words, 100, what, 868, 132);
-    let what = b"gas after a load one byte on";
-    let last = frames::load(third, bytes, keys, order, words, 101, what, 867, 133);
+    let first = frames::store(new, bytes, keys, order, words, 100, 1, 868, 132);
+    let second = frames::store(first, bytes, keys, order, words, 100, 2, 868, 132);
+    let third = frames::load(second, bytes, keys, order, words, 100, 3, 868, 132);
+    let last = frames::load(third, bytes, keys, order, words, 101, 4, 867, 133);
     last.right
 }
 
@@ -105,7 +107,13 @@ fn pointer(offset: u32) -> FatPointer {
 }
 
 // What is left of the page: 256 + 225 is 481, where the word was written, and 256 + 256 is 512, its last byte. The bytes at 800 are freed.
-fn shown(right: bool, bytes: &[u8], keys: &[u64], order: &[u32], words: &[u64]) -> bool {
+fn shown(
+    right: bool,
+    bytes: &[u8; BYTES],
+    keys: &[u64; KEYS],
+    order: &[u32; ORDER],
+    words: &[u64; WORDS],
+) -> bool {
     let whole = samples::counting();
     let end = samples::last_byte();
     let right = frames::show(right, bytes, keys, order, words, pointer(225), whole);
@@ -114,19 +122,29 @@ fn shown(right: bool, bytes: &[u8], keys: &[u64], order: &[u32], words: &[u64]) 
 }
 
 // The window of 257 bytes from 256 on ends with the first byte of a chunk. Catches a lost last byte.
-pub fn window(bytes: &mut [u8], keys: &mut [u64], order: &mut [u32], words: &mut [u64]) -> bool {
+pub fn window(
+    bytes: &mut [u8; BYTES],
+    keys: &mut [u64; KEYS],
+    order: &mut [u32; ORDER],
+    words: &mut [u64; WORDS],
+) -> bool {
     let right = calls::open(bytes, keys, order, words);
     let whole = samples::counting();
     let right = calls::write(right, bytes, keys, order, words, HEAP, 481, whole);
     let right = calls::write(right, bytes, keys, order, words, HEAP, 800, whole);
     let start = Address(256);
     let shrunk = freeing::compact_to_window(bytes, keys, order, words, PageId(HEAP), start, 257);
-    let right = report::done(right, b"refusal of the window", shrunk);
+    let right = report::shrunk(right, shrunk);
     shown(right, bytes, keys, order, words)
 }
 
 // A word, a snapshot, and two writes that overlap it and each other.
-fn overlap(bytes: &mut [u8], keys: &mut [u64], order: &mut [u32], words: &mut [u64]) -> bool {
+fn overlap(
+    bytes: &mut [u8; BYTES],
+    keys: &mut [u64; KEYS],
+    order: &mut [u32; ORDER],
+    words: &mut [u64; WORDS],
+) -> bool {
     let right = calls::open(bytes, keys, order, words);
     let whole = samples::counting();
     let right = calls::write(right, bytes, keys, order, words, BOOTLOADER, 0, whole);
@@ -138,21 +156,18 @@ fn overlap(bytes: &mut [u8], keys: &mut [u64], order: &mut [u32], words: &mut [u
 }
 
 // The two writes are rolled back. Catches undoing oldest first, after which the bytes from 16 to 39 would be 171.
-pub fn rollback(bytes: &mut [u8], keys: &mut [u64], order: &mut [u32], words: &mut [u64]) -> bool {
+pub fn rollback(
+    bytes: &mut [u8; BYTES],
+    keys: &mut [u64; KEYS],
+    order: &mut [u32; ORDER],
+    words: &mut [u64; WORDS],
+) -> bool {
     let right = overlap(bytes, keys, order, words);
     let undone = history::rollback(bytes, keys, order, words, 1, 0);
-    let right = report::done(right, b"refusal of the rollback", undone);
+    let right = report::undone(right, undone);
     let right = calls::snapshot(right, bytes, keys, order, words, 1);
     let whole = samples::counting();
     let right = calls::read(right, bytes, keys, order, words, BOOTLOADER, 0, whole);
-    calls::read(
-        right,
-        bytes,
-        keys,
-        order,
-        words,
-        BOOTLOADER,
-        32,
-        samples::zero(),
-    )
+    let zero = samples::zero();
+    calls::read(right, bytes, keys, order, words, BOOTLOADER, 32, zero)
 }

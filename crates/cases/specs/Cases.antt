@@ -6,7 +6,7 @@ use mathlib.Core.List.{List, [], _∷_}
 use Prim.Native.Nat.{ℕ, _+_, _-_, _≤_}
 use lib.Dec.{eqb}
 use Rattle.outcome.specs.Outcome.{Outcome, panicked, done, firstOf}
-use Rattle.page_ids.specs.Decode.{Page, none, page, decoding}
+use Rattle.page_ids.specs.Decode.{layoutFrom, Page, none, page, decoding}
 use Rattle.page_ids.specs.declared.Layout.{Layout}
 use Rattle.fat_pointer.specs.declared.FatPointer.{FatPointer}
 use Rattle.fat_pointer.specs.Pointer.{pointerOf, pointerWord}
@@ -32,19 +32,12 @@ pub data Case : Type 0 where
 
 -- ---- what the rows are of
 -- 'base 64 and stride 8 and fixed ids 1, 4, 5, 6'
-abbrev pub layout : Layout
-layout = record {
-  «static_memory» = record { 0 = 1 };
-  calldata = record { 0 = 4 };
-  «bootloader_heap» = record { 0 = 5 };
-  «bootloader_aux» = record { 0 = 6 };
-  base = record { 0 = 64 };
-  stride = 8;
-}
+abbrev pub tableLayout : Layout
+tableLayout = layoutFrom 1 4 5 6 64 8
 
 -- a setting with that layout; no row reads its counts
-abbrev pub setting : Setting
-setting = record { layout = layout; chunks = 0; pages = 0; journalWords = 0 }
+abbrev pub tableSetting : Setting
+tableSetting = record { layout = tableLayout; chunks = 0; pages = 0; journalWords = 0 }
 
 -- is k a number of the list?
 abbrev pub among : List ℕ → ℕ → Bool
@@ -52,12 +45,12 @@ among [] k = false
 among (n ∷ list) k = eqb k n || among list k
 
 -- a pointer, read back from the number of its word
-abbrev pub pointer : ℕ → ℕ → ℕ → FatPointer
-pointer start length offset = pointerOf (pointerWord (record { offset = offset; «memory_page» = record { 0 = 66 }; start = start; length = length }))
+abbrev pub tablePointer : ℕ → ℕ → ℕ → FatPointer
+tablePointer start length offset = pointerOf (pointerWord (record { offset = offset; «memory_page» = record { 0 = 66 }; start = start; length = length }))
 
 -- a frame with this gas and heap bound
-abbrev pub frame : ℕ → ℕ → Frame
-frame gas bound = record { gas = gas; heap = record { 0 = 66 }; aux = record { 0 = 67 }; «heap_bound» = bound; «aux_bound» = 0; panicked = false }
+abbrev pub tableFrame : ℕ → ℕ → Frame
+tableFrame gas bound = record { gas = gas; heap = record { 0 = 66 }; aux = record { 0 = 67 }; «heap_bound» = bound; «aux_bound» = 0; panicked = false }
 
 abbrev pub gasAndBound : Frame → ℕ × ℕ
 gasAndBound f = (f .gas, f .«heap_bound»)
@@ -72,16 +65,16 @@ access f address =
 -- ---- a row holds
 -- A window is one of page 66, a heap: of the chunks that it held it holds those of the list, and no others. A price is paid from any gas that reaches it.
 abbrev pub Holds : Case → Type 0
-Holds (decodes id p) = decoding layout id ≡ done p
+Holds (decodes id p) = decoding tableLayout id ≡ done p
 Holds (spans address chunks) = touchedCount address 32 ≡ chunks
 Holds (keeps start length chunks) =
-    (v : View) (k : ℕ) → windowed setting 66 start length v .held 66 k ≡ (v .held 66 k && among chunks k)
+    (v : View) (k : ℕ) → windowed tableSetting 66 start length v .held 66 k ≡ (v .held 66 k && among chunks k)
 Holds (reads start length offset addresses) =
-    let p = pointer start length offset in
+    let p = tablePointer start length offset in
     tab (readCount p) (λ i. readFrom p + i) ≡ addresses
 Holds (pays bound address price broke) =
-    ((gas : ℕ) → price ≤ gas → access (frame gas bound) address ≡ done (gas - price, bound + price))
-    × (access (frame 0 bound) address ≡ broke)
+    ((gas : ℕ) → price ≤ gas → access (tableFrame gas bound) address ≡ done (gas - price, bound + price))
+    × (access (tableFrame 0 bound) address ≡ broke)
 
 -- every row of a list holds
 abbrev pub All : List Case → Type 0

@@ -16,7 +16,7 @@ use Rattle.view.specs.Calls.{firstRefusal}
 -- ---- 9, 10, 11
 module _ (s : Setting) (v : View) (p k count w : ℕ) where
   abbrev no-entry : Bool
-  no-entry = not (v .allocated p) && eqb (v .entries) 0
+  no-entry = not (v .allocated p) && eqb (v .entriesLeft) 0
 
   abbrev few-chunks : Bool
   few-chunks = ltb (v .pool) (missing (v .held p) k count)

@@ -55,7 +55,7 @@ words-by s v p w e (suc (suc j)) l q = absurd (omega arith)
 
 -- 9, 10 and 11 of n bytes at address a
 pub record Room (s : Setting) (v : View) (p a n w : ℕ) : Type 0 where
-  pub entry : v .allocated p ≡ false → 0 < v .entries
+  pub entry : v .allocated p ≡ false → 0 < v .entriesLeft
   pub chunks : needs v p a n ≤ v .pool
   pub words : (j : ℕ) → j < journalCount → p ≡ journalPage (s .layout) j → length (v .journal j) + w ≤ s .journalWords
 
@@ -65,10 +65,10 @@ module _ (s : Setting) (v : View) (p a n w : ℕ) where
 
   pub room-passed : firstRefusal (capacityChecksAt s v p a n w) ≡ 0 → Room s v p a n w
   room-passed e =
-      let a₉ = none-first (not (v .allocated p) && eqb (v .entries) 0) 8 ((ltb (v .pool) (needs v p a n), refused 10) ∷ (overfull s v p w journalCount, refused 11) ∷ []) e in
+      let a₉ = none-first (not (v .allocated p) && eqb (v .entriesLeft) 0) 8 ((ltb (v .pool) (needs v p a n), refused 10) ∷ (overfull s v p w journalCount, refused 11) ∷ []) e in
       let a₁₀ = none-first (ltb (v .pool) (needs v p a n)) 9 ((overfull s v p w journalCount, refused 11) ∷ []) (a₉ .1) in
       let a₁₁ = none-first (overfull s v p w journalCount) 10 [] (a₁₀ .1) in
-      record { entry = entry-by (v .allocated p) (v .entries) (a₉ .0); chunks = ltb-false (v .pool) (needs v p a n) (a₁₀ .0); words = words-by s v p w (a₁₁ .0) }
+      record { entry = entry-by (v .allocated p) (v .entriesLeft) (a₉ .0); chunks = ltb-false (v .pool) (needs v p a n) (a₁₀ .0); words = words-by s v p w (a₁₁ .0) }
 
 -- a word write, a byte write, an allocation
 module _ (s : Setting) (v : View) (p a : ℕ) where

@@ -17,7 +17,7 @@ use Rattle.formed.specs.Parts.{entryOf, allocated, entriesLeft, holds, slotOfCh
 use Rattle.formed.specs.WellFormed.{WellFormed}
 use Rattle.formed.proofs.Sizes.{entries-long}
 use Rattle.formed.proofs.Sense.{left-is}
-use Rattle.checks.specs.Refusals.{holdsAt, lacksAt}
+use Rattle.checks.specs.Missing.{holdsAt, lacksAt}
 
 module _ (m : Mem) (f : WellFormed m) where
   -- a page is allocated if its entry is one of the table

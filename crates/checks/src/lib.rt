@@ -1,19 +1,21 @@
 // Which refusal a write or an allocation gets, or 0: the tests in the order of 01's table.
 ghost use mathlib.Core.Path.{_≡_};
-ghost use mathlib.Core.Bool.{not, _&&_};
+ghost use mathlib.Core.Bool.{true, not, _&&_};
 ghost use Prim.Native.Nat.{_+_, _<_, _≤_, _^_};
 ghost use lib.Dec.{eqb, ltb};
+ghost use lib.ListN.{length};
 ghost use Rattle.view.specs.Calls.{nothing, firstRefusal};
 ghost use Rattle.page_ids.specs.Decode.{pageOf, decoded};
 ghost use Rattle.outcome.specs.Outcome.{refusalNumber};
-ghost use Rattle.store.specs.Mem.{mem, layoutOf};
+ghost use Rattle.store.specs.Mem.{mem, headLength, layoutOf};
 ghost use Rattle.store.specs.Hold.{Indexed};
 ghost use Rattle.formed.specs.Pages.{journalCount};
+ghost use Rattle.formed.specs.Formed.{narrow};
 ghost use Rattle.formed.specs.WellFormed.{WellFormed};
 ghost use Rattle.view.specs.View.{settingOf, viewOf};
 ghost use Rattle.view.specs.Steps.{missing, touchedCount, alignedCount};
 ghost use Rattle.view.specs.Checks.{overfull, capacityChecks, onMemory, wordWriteChecks, byteWriteChecks, allocateChecks};
-ghost use Rattle.checks.specs.Refusals.{lacksAt};
+ghost use Rattle.checks.specs.Missing.{lacksAt};
 use page_ids::Address;
 use page_ids::DecodedPage;
 use page_ids::PageId;
@@ -48,18 +50,18 @@ pub fn is_allocated(bytes: &[u8], keys: &[u64], order: &[u32], words: &[u64], pa
     ensures { λ r. ⌜ r ≡ viewOf (mem (now (bytes .entry)) (now (keys .entry)) (now (order .entry)) (now (words .entry))) .allocated (page .0) ⌝ }
 {
     let e = store::entry_of(keys, order, words, page);
-    (e as u64) < words[head::PAGES] + 4
+    (e as u64) < words[head::PAGES] + head::FIXED_PAGES
 }
 
 // 9: the page needs an entry and none is left.
 fn no_entry(bytes: &[u8], keys: &[u64], order: &[u32], words: &[u64], page: PageId) -> bool
     requires { ⌜ WellFormed (mem (now bytes) (now keys) (now order) (now words)) ⌝ }
-    ensures { λ r. ⌜ r ≡ (not (viewOf (mem (now (bytes .entry)) (now (keys .entry)) (now (order .entry)) (now (words .entry))) .allocated (page .0)) && eqb (viewOf (mem (now (bytes .entry)) (now (keys .entry)) (now (order .entry)) (now (words .entry))) .entries) 0) ⌝ }
+    ensures { λ r. ⌜ r ≡ (not (viewOf (mem (now (bytes .entry)) (now (keys .entry)) (now (order .entry)) (now (words .entry))) .allocated (page .0)) && eqb (viewOf (mem (now (bytes .entry)) (now (keys .entry)) (now (order .entry)) (now (words .entry))) .entriesLeft) 0) ⌝ }
 {
     if is_allocated(bytes, keys, order, words, page) {
         return false;
     }
-    words[head::ENTRIES] == words[head::PAGES] + 4
+    words[head::ENTRIES] == words[head::PAGES] + head::FIXED_PAGES
 }
 
 // Whether the page at entry e does not hold chunk k.
@@ -149,8 +151,8 @@ pub fn capacity_refusal(
 }
 
 // What a page id stands for in the memory's layout.
-pub fn decode(bytes: &[u8], keys: &[u64], order: &[u32], words: &[u64], page: PageId) -> DecodedPage
-    requires { ⌜ WellFormed (mem (now bytes) (now keys) (now order) (now words)) ⌝ }
+pub fn decode(words: &[u64], page: PageId) -> DecodedPage
+    requires { ⌜ (headLength ≤ length (now words)) × (narrow (now words) ≡ true) ⌝ }
     ensures { λ r. ⌜ pageOf r ≡ decoded (layoutOf (now (words .entry))) (page .0) ⌝ }
 {
     page_ids::decode_page(formed::head::layout_of(words), page)
@@ -168,7 +170,7 @@ pub fn word_checks(
     requires { ⌜ WellFormed (mem (now bytes) (now keys) (now order) (now words)) ⌝ }
     ensures { λ r. ⌜ r ≡ firstRefusal (wordWriteChecks (settingOf (mem (now (bytes .entry)) (now (keys .entry)) (now (order .entry)) (now (words .entry)))) (viewOf (mem (now (bytes .entry)) (now (keys .entry)) (now (order .entry)) (now (words .entry)))) (page .0) (address .0)) ⌝ }
 {
-    if page_ids::is_undecodable(decode(bytes, keys, order, words, page)) {
+    if page_ids::is_undecodable(decode(words, page)) {
         return 4;
     }
     let count = touched(address, 32);
@@ -213,7 +215,7 @@ fn bytes_checks(
     requires { ⌜ WellFormed (mem (now bytes) (now keys) (now order) (now words)) ⌝ }
     ensures { λ r. ⌜ r ≡ firstRefusal (byteWriteChecks (settingOf (mem (now (bytes .entry)) (now (keys .entry)) (now (order .entry)) (now (words .entry)))) (viewOf (mem (now (bytes .entry)) (now (keys .entry)) (now (order .entry)) (now (words .entry)))) (page .0) (start .0) n) ⌝ }
 {
-    if page_ids::is_undecodable(decode(bytes, keys, order, words, page)) {
+    if page_ids::is_undecodable(decode(words, page)) {
         return 4;
     }
     if (n as u64) > 4294967296 - (start.0 as u64) {
@@ -262,7 +264,7 @@ fn allocate_checks(
     requires { ⌜ WellFormed (mem (now bytes) (now keys) (now order) (now words)) ⌝ }
     ensures { λ r. ⌜ r ≡ firstRefusal (allocateChecks (settingOf (mem (now (bytes .entry)) (now (keys .entry)) (now (order .entry)) (now (words .entry)))) (viewOf (mem (now (bytes .entry)) (now (keys .entry)) (now (order .entry)) (now (words .entry)))) (page .0) n) ⌝ }
 {
-    let decoded = decode(bytes, keys, order, words, page);
+    let decoded = decode(words, page);
     if page_ids::is_undecodable(decoded) {
         return 4;
     }

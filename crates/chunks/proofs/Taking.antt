@@ -16,12 +16,12 @@ use Rattle.index.specs.Index.{indexed, seek, freeCount}
 use Rattle.index.proofs.Logic.{same-or-not, lt-or-ge, lt-by}
 use Rattle.index.proofs.Places.{seek-hit}
 use Rattle.page_ids.specs.declared.Layout.{Layout}
-use Rattle.store.specs.Mem.{Mem, mem, layoutOf, slotCount, pageCount, journalWords, journalLength, heldNow, inUse, dynamicLength, holders, entries, chunks}
+use Rattle.store.specs.Mem.{Mem, mem, layoutOf, slotCount, pageCount, journalWords, journalLength, heldNow, inUse, dynamicLength, holders, entries, chunkBytes}
 use Rattle.store.specs.Hold.{lacks, Indexed, Taken, Held}
 use Rattle.store.proofs.Parts.{take-set, drop-set}
 use Rattle.store.proofs.Holds.{cut-keys}
 use Rattle.formed.specs.Pages.{LayoutRule, dynamic, group, journalCount, journalPlace}
-use Rattle.formed.specs.Parts.{tab, Note, entryOf, allocated, slotOfChunk, holds, byteAt, journal, noteAt, noteAddress, noteFirst, noteLast, oldAt}
+use Rattle.formed.specs.Parts.{tab, Note, entryOf, allocated, slotOfChunk, holds, byteAt, journal, notePlace, noteAddress, noteFirst, noteLast, oldPlace}
 use Rattle.formed.specs.WellFormed.{WellFormed, Lengths, NotedRight, holder, slotByte}
 use Rattle.formed.proofs.Sizes.{holders-long, chunks-long, lengths-kept}
 use Rattle.formed.proofs.Same.{layout-same, tab-same}
@@ -174,11 +174,11 @@ module _ (bytes keys order words keys' order' words' : List ℕ) (f : WellFormed
       (same-or-not (holder m s) 0)
 
   -- number x of word i of journal j
-  note-same : (j i x : ℕ) → getD words' (noteAt m' j i + x) 0 ≡ getD words (noteAt m j i + x) 0
-  note-same j i x = ap (λ (r : ℕ). getD words' (16 + 3 * (r * j + i) + x) 0) room-same ∙ t .head (noteAt m j i + x) (λ e. omega arith)
+  note-same : (j i x : ℕ) → getD words' (notePlace (m' .words) j i + x) 0 ≡ getD words (notePlace (m .words) j i + x) 0
+  note-same j i x = ap (λ (r : ℕ). getD words' (16 + 3 * (r * j + i) + x) 0) room-same ∙ t .head (notePlace (m .words) j i + x) (λ e. omega arith)
 
   address-same : (j i : ℕ) → noteAddress m' j i ≡ noteAddress m j i
-  address-same j i = ap (λ (r : ℕ). getD words' (16 + 3 * (r * j + i)) 0) room-same ∙ t .head (noteAt m j i) (λ e. omega arith)
+  address-same j i = ap (λ (r : ℕ). getD words' (16 + 3 * (r * j + i)) 0) room-same ∙ t .head (notePlace (m .words) j i) (λ e. omega arith)
 
   notes' : (j i : ℕ) → j < journalCount → i < journalLength words' j → NotedRight m' j i
   notes' j i lj li =
@@ -227,7 +227,7 @@ module _ (bytes keys order words keys' order' words' : List ℕ) (f : WellFormed
       (λ (new : (getD (holders m) (seek (holders m') k) 0 ≡ 0) × (length (holders m) ≤ seek (holders m) k)).
       let i = t .grown .inside in
       let past : length (holders m) ≤ seek (holders m) j = subst (λ (x : ℕ). length (holders m) ≤ seek (holders m) x) (sym e) (new .1) in
-      ap (λ (x : ℕ). slotByte m (seek (holders m') x) r) e ∙ facts .pooled (seek (holders m') k) (omega arith) (new .0) r lr ∙ sym (List·getD-eq-default (chunks m) 0 (omega arith)))
+      ap (λ (x : ℕ). slotByte m (seek (holders m') x) r) e ∙ facts .pooled (seek (holders m') k) (omega arith) (new .0) r lr ∙ sym (List·getD-eq-default (chunkBytes m) 0 (omega arith)))
       (t .grown .place))
       (λ (n : j ≡ k → ⊥). ap (λ (x : ℕ). slotByte m x r) (t .grown .others j pj n))
       (same-or-not j k)
@@ -269,9 +269,9 @@ module _ (bytes keys order words keys' order' words' : List ℕ) (f : WellFormed
   took-journal : (j : ℕ) → journal m' j ≡ journal m j
   unfolding journal
   took-journal j =
-      ap (λ (n : ℕ). tab n (λ i. noteOf (noteAddress m' j i) (oldAt m' j i))) (length-same j)
-      ∙ tab-same (journalLength words j) _ (λ i. noteOf (noteAddress m j i) (oldAt m j i))
-      (λ i. ap (λ (x : ℕ). noteOf x (oldAt m' j i)) (address-same j i) ∙ ap (noteOf (noteAddress m j i)) (let c = slots-same in let r = ap (λ (x : ℕ). x * j) room-same in omega arith))
+      ap (λ (n : ℕ). tab n (λ i. noteOf (noteAddress m' j i) (oldPlace (m' .words) j i))) (length-same j)
+      ∙ tab-same (journalLength words j) _ (λ i. noteOf (noteAddress m j i) (oldPlace (m .words) j i))
+      (λ i. ap (λ (x : ℕ). noteOf x (oldPlace (m' .words) j i)) (address-same j i) ∙ ap (noteOf (noteAddress m j i)) (let c = slots-same in let r = ap (λ (x : ℕ). x * j) room-same in omega arith))
 
   -- ---- where the key is that of chunk n of page p
   module _ (p n : ℕ) (listed : allocated m p ≡ true) (near : n ≤ 16777216) (is : k ≡ keyOf (entryOf m p) n) where

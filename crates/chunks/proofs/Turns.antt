@@ -14,7 +14,7 @@ use Rattle.index.specs.Index.{seek}
 use Rattle.index.proofs.Places.{seek-hit}
 use Rattle.store.specs.Mem.{Mem, mem, slotCount, heldNow, holders, entries}
 use Rattle.store.specs.Hold.{lacks, Held}
-use Rattle.store.specs.Find.{slotFor, Learnt}
+use Rattle.store.specs.Find.{slotFor, HintLearnt}
 use Rattle.store.proofs.Holds.{held-was}
 use Rattle.formed.specs.Parts.{entryOf, allocated, holds}
 use Rattle.formed.specs.WellFormed.{WellFormed}
@@ -106,7 +106,7 @@ module _ (m₀ : Mem) (p k count : ℕ) (asks : HoldAsks m₀ p k count) (i : �
 
 -- ---- one after the other: a chunk by itself, and then the next one
 -- with other hints
-pub after-learnt : (m₀ : Mem) (p k n : ℕ) (m : Mem) → After m₀ p k n m → (order' : List ℕ) → Learnt (m .order) (m .words) order' → After m₀ p k n (mem (m .bytes) (m .keys) order' (m .words))
+pub after-learnt : (m₀ : Mem) (p k n : ℕ) (m : Mem) → After m₀ p k n m → (order' : List ℕ) → HintLearnt (m .order) (m .words) order' → After m₀ p k n (mem (m .bytes) (m .keys) order' (m .words))
 after-learnt m₀ p k n m a order' h = record { shows = learnt-shows (settingOf m₀) (holding p k n (viewOf m₀)) m order' (a .shows) h; pages = a .pages }
 
 -- chunk n of page p by itself

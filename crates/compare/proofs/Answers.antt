@@ -7,7 +7,7 @@ use Prim.Native.Nat.{ℕ, zero, suc, _<_}
 use native.Mathlib.Omega.{arith}
 use lib.Dec.{eqb}
 use lib.ListN.{getD}
-use borrow.Author.Tests.{eq-eqb, eqb-true, not-true, not-false}
+use borrow.Author.Tests.{eq-eqb, eqb-true}
 use Rattle.outcome.specs.Outcome.{refused, done}
 use Rattle.index.proofs.Logic.{and-left, and-right}
 use Rattle.store.specs.Mem.{Mem, layoutOf}
@@ -17,13 +17,6 @@ use Rattle.view.specs.View.{viewOf}
 use Rattle.view.specs.Steps.{alike}
 use Rattle.view.specs.Checks.{sameLayout}
 use Rattle.view.specs.Calls.{verdict, comparisonOf}
-
--- a test by a call: `if !call() {..}`
-pub passed : {b x : Bool} → b ≡ x → not b ≡ false → x ≡ true
-passed {b} e q = sym e ∙ not-false b q
-
-pub failed : {b x : Bool} → b ≡ x → not b ≡ true → x ≡ false
-failed {b} e q = sym e ∙ not-true b q
 
 -- ---- the layouts
 module _ (l r : List ℕ) where

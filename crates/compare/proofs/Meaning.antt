@@ -11,7 +11,7 @@ use Rattle.store.specs.Keys.{keyOf, keyEntry, keyChunk}
 use Rattle.index.specs.Index.{seek}
 use Rattle.index.proofs.Logic.{lt-or-ge}
 use Rattle.index.proofs.Places.{seek-hit, seek-upto}
-use Rattle.store.specs.Mem.{Mem, pageCount, holders, entries, chunks}
+use Rattle.store.specs.Mem.{Mem, pageCount, holders, entries, chunkBytes}
 use Rattle.formed.specs.Parts.{entryOf, allocated, slotOfChunk, holds, byteAt}
 use Rattle.formed.specs.WellFormed.{holder, slotByte, HeldAt, WellFormed}
 use Rattle.formed.proofs.Keys.{in-table}
@@ -102,7 +102,7 @@ module _ (m n : Mem) (f : WellFormed m) (g : WellFormed n) where
 
   -- ---- where n has the bytes: h is the entry there of the page at entry e, t the slot of the chunk
   pub beside-is : (s e h t : ℕ) → 0 < holder m s → keyEntry (holder m s) ≡ e → h ≡ entryOf n (getD (entries m) e 0 - 1) → t ≡ seek (holders n) (keyOf h (keyChunk (holder m s))) → (r : ℕ) → r < 256
-      → beside m n s r ≡ getD (chunks n) (256 * t + r) 0
+      → beside m n s r ≡ getD (chunkBytes n) (256 * t + r) 0
   unfolding byteAt
   beside-is s e h t pos ke eh et r lr =
       let k = keyChunk (holder m s) in

@@ -11,7 +11,7 @@ use borrow.Author.Count.{below-more}
 use Rattle.store.specs.Keys.{keyOf, keyEntry, keyChunk}
 use Rattle.index.specs.Index.{seek}
 use Rattle.index.proofs.Logic.{lt-or-ge}
-use Rattle.store.specs.Mem.{Mem, slotCount, pageCount, heldNow, holders, entries, slotOrder, chunks}
+use Rattle.store.specs.Mem.{Mem, slotCount, pageCount, heldNow, holders, entries, slotOrder, chunkBytes}
 use Rattle.formed.specs.WellFormed.{holder, slotByte, WellFormed}
 use Rattle.formed.proofs.Keys.{in-table}
 use Rattle.formed.proofs.Sizes.{holders-long, entries-long}
@@ -153,7 +153,7 @@ module _ (m n : Mem) (f : WellFormed m) (g : WellFormed n) where
       left-byte : slotByte m (ranked m i) j ≡ getD (m .bytes) (256 * ranked m i + j) 0
       left-byte = getD-take (256 * slotCount (m .words)) (m .bytes) (256 * ranked m i + j) 0 (let x = ranked-lt m f i l in omega arith)
 
-      right-byte : beside m n (ranked m i) j ≡ getD (chunks n) (256 * t + j) 0
+      right-byte : beside m n (ranked m i) j ≡ getD (chunkBytes n) (256 * t + j) 0
       right-byte =
           let k = ranked-key m f i l in
           let y = r .next l in
@@ -161,7 +161,7 @@ module _ (m n : Mem) (f : WellFormed m) (g : WellFormed n) where
           let p : getD (m .keys) (slotCount (m .words) + e) 0 - 1 + 1 ≡ getD (entries m) e 0 - 1 + 1 = omega arith in
           beside-is m n f g (ranked m i) e h t (ranked-pos m f i l) (omega arith) (is ∙ ap (seek (entries n)) p) (at ∙ ap (λ (z : ℕ). seek (holders n) (keyOf h (keyChunk z))) (sym k)) j lj
 
-      module _ (x : ℕ) (ex : x ≡ getD (chunks n) (256 * t + j) 0) where
+      module _ (x : ℕ) (ex : x ≡ getD (chunkBytes n) (256 * t + j) 0) where
         pub byte-same : getD (m .bytes) (256 * ranked m i + j) 0 ≡ x → slotByte m (ranked m i) j ≡ beside m n (ranked m i) j
         byte-same q = left-byte ∙ q ∙ ex ∙ sym right-byte
 

@@ -2,8 +2,8 @@
 ghost use mathlib.Core.Path.{_≡_};
 ghost use Prim.Native.Nat.{_+_, _*_, _<_, _≤_};
 ghost use lib.ListN.{length, getD, take};
-ghost use Rattle.store.specs.Keys.{keyOf, keyChunk};
-ghost use Rattle.index.specs.Index.{seek};
+ghost use Rattle.store.specs.Keys.{keyChunk};
+ghost use Rattle.store.specs.Find.{slotAtEntry};
 ghost use Rattle.store.specs.Mem.{mem, layoutOf, slotCount};
 ghost use Rattle.store.specs.Hold.{Indexed};
 ghost use Rattle.formed.specs.WellFormed.{WellFormed};
@@ -28,7 +28,7 @@ fn same_layout(left: &[u64], right: &[u64]) -> bool
     ensures { λ r. ⌜ r ≡ sameLayout (layoutOf (now (left .entry))) (layoutOf (now (right .entry))) ⌝ }
 {
     let mut i = 0;
-    while i < 6 {
+    while i < head::LAYOUT_LENGTH {
         if left[i] != right[i] {
             return false;
         }
@@ -41,7 +41,7 @@ fn same_layout(left: &[u64], right: &[u64]) -> bool
 fn slot_beside(keys: &[u64], order: &[u32], words: &[u64], e: usize, key: u64) -> usize
     requires { ⌜ Indexed (now keys) (now order) (now words) ⌝ }
     requires { ⌜ (e ≤ 4100) × (0 < key) ⌝ }
-    ensures { λ r. ⌜ r ≡ seek (take (slotCount (now (words .entry))) (now (keys .entry))) (keyOf e (keyChunk key)) ⌝ }
+    ensures { λ r. ⌜ r ≡ slotAtEntry (now (keys .entry)) (now (words .entry)) e (keyChunk key) ⌝ }
 {
     store::slot_at_entry(keys, order, words, e, store::key_chunk(key))
 }
@@ -74,10 +74,10 @@ fn covered(
     ensures { λ r. ⌜ r ≡ covers (viewOf (mem (now («left_bytes» .entry)) (now («left_keys» .entry)) (now («left_order» .entry)) (now («left_words» .entry)))) (viewOf (mem (now («right_bytes» .entry)) (now («right_keys» .entry)) (now («right_order» .entry)) (now («right_words» .entry)))) ⌝ }
 {
     let slots = left_words[head::CHUNKS] as usize;
-    let pages = left_words[head::PAGES] as usize + 4;
+    let pages = left_words[head::PAGES] as usize + head::FIXED_ENTRIES;
     let held = left_words[head::HELD] as usize;
     let right_slots = right_words[head::CHUNKS] as usize;
-    let right_pages = right_words[head::PAGES] as usize + 4;
+    let right_pages = right_words[head::PAGES] as usize + head::FIXED_ENTRIES;
     let mut equal = true;
     let mut i = 0;
     let mut e = 0;

@@ -15,7 +15,7 @@ use Rattle.index.proofs.Places.{seek-hit}
 use Rattle.page_ids.specs.declared.Layout.{Layout}
 use Rattle.store.specs.Mem.{Mem, layoutOf, slotCount, journalWords, journalLength, heldNow, inUse, dynamicLength, holders, entries, slotOrder, pageOrder}
 use Rattle.formed.specs.Pages.{LayoutRule, dynamic, group, journalCount, journalPlace}
-use Rattle.formed.specs.Parts.{Note, tab, entryOf, allocated, slotOfChunk, holds, byteAt, journal, noteAt, noteAddress, noteFirst, noteLast, oldAt}
+use Rattle.formed.specs.Parts.{Note, tab, entryOf, allocated, slotOfChunk, holds, byteAt, journal, notePlace, noteAddress, noteFirst, noteLast, oldPlace}
 use Rattle.formed.specs.WellFormed.{WellFormed, Lengths, NotedRight, HeldAt, holder, slotByte}
 use Rattle.formed.proofs.Sizes.{holders-long, lengths-kept}
 use Rattle.formed.proofs.Same.{layout-same, tab-same}
@@ -149,11 +149,11 @@ module _ (P U : ℕ → Bool) (m m' : Mem) (f : WellFormed m) (t : Thinned P U m
       omega arith
 
   -- number x of word i of journal j
-  note-same : (j i x : ℕ) → getD (m' .words) (noteAt m' j i + x) 0 ≡ getD (m .words) (noteAt m j i + x) 0
-  note-same j i x = ap (λ (r : ℕ). getD (m' .words) (16 + 3 * (r * j + i) + x) 0) room-same ∙ t .head (noteAt m j i + x) (λ e. omega arith) (λ e. omega arith)
+  note-same : (j i x : ℕ) → getD (m' .words) (notePlace (m' .words) j i + x) 0 ≡ getD (m .words) (notePlace (m .words) j i + x) 0
+  note-same j i x = ap (λ (r : ℕ). getD (m' .words) (16 + 3 * (r * j + i) + x) 0) room-same ∙ t .head (notePlace (m .words) j i + x) (λ e. omega arith) (λ e. omega arith)
 
   address-same : (j i : ℕ) → noteAddress m' j i ≡ noteAddress m j i
-  address-same j i = ap (λ (r : ℕ). getD (m' .words) (16 + 3 * (r * j + i)) 0) room-same ∙ t .head (noteAt m j i) (λ e. omega arith) (λ e. omega arith)
+  address-same j i = ap (λ (r : ℕ). getD (m' .words) (16 + 3 * (r * j + i)) 0) room-same ∙ t .head (notePlace (m .words) j i) (λ e. omega arith) (λ e. omega arith)
 
   -- a slot of a fixed page is as it was
   fixed-kept : (s j k : ℕ) → j < journalCount → k < 33554432 → holder m s ≡ keyOf (journalPlace j) k → holder m' s ≡ holder m s
@@ -286,7 +286,7 @@ module _ (P U : ℕ → Bool) (m m' : Mem) (f : WellFormed m) (t : Thinned P U m
         go false e false d = unheld-byte m' thinned-formed q a e ∙ either (D q (a / 256)) (byteAt m q a) (unheld-byte m f q a d)
 
     abbrev noteOf : Mem → ℕ → ℕ → Note
-    noteOf n j i = record { address = noteAddress n j i; old = tab 32 (λ x. getD (n .bytes) (oldAt n j i + x) 0) }
+    noteOf n j i = record { address = noteAddress n j i; old = tab 32 (λ x. getD (n .bytes) (oldPlace (n .words) j i + x) 0) }
 
     journal-same : (j : ℕ) → journal m' j ≡ journal m j
     unfolding journal
@@ -294,9 +294,9 @@ module _ (P U : ℕ → Bool) (m m' : Mem) (f : WellFormed m) (t : Thinned P U m
         ap (λ (n : ℕ). tab n (noteOf m' j)) (length-same j)
         ∙ tab-same (journalLength (m .words) j) (noteOf m' j) (noteOf m j)
         (λ i. rw (address-same j i) (ap (λ (o : List ℕ). record { address = noteAddress m j i; old = o })
-        (tab-same 32 _ _ (λ x. ap (λ (y : ℕ). getD (m' .bytes) (y + x) 0) (old-same j i) ∙ t .rest (oldAt m j i + x) (omega arith)))))
+        (tab-same 32 _ _ (λ x. ap (λ (y : ℕ). getD (m' .bytes) (y + x) 0) (old-same j i) ∙ t .rest (oldPlace (m .words) j i + x) (omega arith)))))
       where
-        old-same : (j i : ℕ) → oldAt m' j i ≡ oldAt m j i
+        old-same : (j i : ℕ) → oldPlace (m' .words) j i ≡ oldPlace (m .words) j i
         old-same j i = let c = slots-same in let r = ap (λ (x : ℕ). x * j) room-same in omega arith
 
     pub thinned-shows : (free : ℕ → Bool) → ((q : ℕ) → U (q + 1) ≡ free q) → Shows (settingOf m) (without (settingOf m) D free (viewOf m)) m'

@@ -1,4 +1,5 @@
 // The four buffers of a memory: their lengths, one element by the buffer's number, and a checksum of them all.
+ghost use Prim.Native.Nat.{_≤_};
 use crate::step;
 use crate::step::Got;
 
@@ -46,6 +47,47 @@ const PRIME: u64 = 4294967291;
 
 const FACTOR: u64 = 65599;
 
+// The lengths of a memory's own parts of the buffers, each part a leading one.
+pub struct Lengths {
+    pub bytes: usize,
+    pub keys: usize,
+    pub order: usize,
+    pub words: usize,
+}
+
+// A count that the buffers have space for. A contract has no constants, so it repeats MOST.
+fn small(x: u64) -> usize
+    ensures { λ r. ⌜ r ≤ 16 ⌝ }
+{
+    if (MOST as u64) < x {
+        return MOST;
+    }
+    x as usize
+}
+
+// The lengths that follow from the counts (docs/BUFFERS.md).
+pub fn lengths_of(chunks: u64, pages: u64, room: u64) -> Lengths {
+    let c = small(chunks);
+    let p = small(pages);
+    let j = small(room);
+    Lengths {
+        bytes: CHUNK * c + OLD_BYTES * j,
+        keys: c + p + FIXED_PAGES,
+        order: ORDER_PLACES * c + p + FIXED_PAGES,
+        words: HEAD + NOTES * j,
+    }
+}
+
+// The lesser of a length and what there is.
+pub fn least(length: usize, there: usize) -> usize
+    ensures { λ r. ⌜ r ≤ there ⌝ }
+{
+    if there < length {
+        return there;
+    }
+    length
+}
+
 pub fn peek_byte(bytes: &[u8], i: usize) -> u64 {
     if bytes.len() <= i {
         return 0;
@@ -69,27 +111,23 @@ fn peek_narrow(numbers: &[u32], i: usize) -> u64 {
 
 // Element i of one of the buffers, and 0 past its end.
 pub fn peek(
-    bytes: &[u8],
-    keys: &[u64],
-    order: &[u32],
-    words: &[u64],
+    bytes: &[u8; BYTES_LENGTH],
+    keys: &[u64; KEYS_LENGTH],
+    order: &[u32; ORDER_LENGTH],
+    words: &[u64; WORDS_LENGTH],
     buffer: u64,
     i: usize,
 ) -> u64 {
-    if buffer == BYTES {
-        return peek_byte(bytes, i);
+    match buffer {
+        BYTES => peek_byte(bytes, i),
+        KEYS => peek_wide(keys, i),
+        ORDER => peek_narrow(order, i),
+        _ => peek_wide(words, i),
     }
-    if buffer == KEYS {
-        return peek_wide(keys, i);
-    }
-    if buffer == ORDER {
-        return peek_narrow(order, i);
-    }
-    peek_wide(words, i)
 }
 
-fn poke_byte(bytes: &mut [u8], i: usize, x: u64) {
-    if i < bytes.len() {
+fn poke_byte(bytes: &mut [u8; BYTES_LENGTH], i: usize, x: u64) {
+    if i < BYTES_LENGTH {
         bytes[i] = (x % 256) as u8;
     }
 }
@@ -100,42 +138,36 @@ fn poke_wide(numbers: &mut [u64], i: usize, x: u64) {
     }
 }
 
-fn poke_narrow(numbers: &mut [u32], i: usize, x: u64) {
-    if i < numbers.len() {
-        numbers[i] = step::narrow(x);
+fn poke_narrow(order: &mut [u32; ORDER_LENGTH], i: usize, x: u64) {
+    if i < ORDER_LENGTH {
+        order[i] = step::narrow(x);
     }
-}
-
-// The place of element i in buffer `here`: past every end where the element is one of another buffer.
-fn place(buffer: u64, here: u64, i: usize) -> usize {
-    if buffer == here {
-        return i;
-    }
-    NOWHERE
 }
 
 // Sets element i of one of the buffers.
 pub fn poke(
-    bytes: &mut [u8],
-    keys: &mut [u64],
-    order: &mut [u32],
-    words: &mut [u64],
+    bytes: &mut [u8; BYTES_LENGTH],
+    keys: &mut [u64; KEYS_LENGTH],
+    order: &mut [u32; ORDER_LENGTH],
+    words: &mut [u64; WORDS_LENGTH],
     buffer: u64,
     i: usize,
     x: u64,
 ) {
-    poke_byte(bytes, place(buffer, BYTES, i), x);
-    poke_wide(keys, place(buffer, KEYS, i), x);
-    poke_narrow(order, place(buffer, ORDER, i), x);
-    poke_wide(words, place(buffer, WORDS, i), x);
+    match buffer {
+        BYTES => poke_byte(bytes, i, x),
+        KEYS => poke_wide(keys, i, x),
+        ORDER => poke_narrow(order, i, x),
+        _ => poke_wide(words, i, x),
+    }
 }
 
 // Sets element i of one of the buffers. The value is what it was.
 pub fn set(
-    bytes: &mut [u8],
-    keys: &mut [u64],
-    order: &mut [u32],
-    words: &mut [u64],
+    bytes: &mut [u8; BYTES_LENGTH],
+    keys: &mut [u64; KEYS_LENGTH],
+    order: &mut [u32; ORDER_LENGTH],
+    words: &mut [u64; WORDS_LENGTH],
     buffer: u64,
     i: usize,
     x: u64,
@@ -160,10 +192,10 @@ fn with_number(sum: u64, x: u64) -> u64 {
 
 // A checksum with the first n elements of one of the buffers.
 fn with_buffer(
-    bytes: &[u8],
-    keys: &[u64],
-    order: &[u32],
-    words: &[u64],
+    bytes: &[u8; BYTES_LENGTH],
+    keys: &[u64; KEYS_LENGTH],
+    order: &[u32; ORDER_LENGTH],
+    words: &[u64; WORDS_LENGTH],
     buffer: u64,
     n: usize,
     before: u64,
@@ -178,9 +210,14 @@ fn with_buffer(
 }
 
 // A checksum of all four buffers, to see that a refused call changes none.
-pub fn checksum(bytes: &[u8], keys: &[u64], order: &[u32], words: &[u64]) -> u64 {
-    let b = with_buffer(bytes, keys, order, words, BYTES, bytes.len(), 1);
-    let k = with_buffer(bytes, keys, order, words, KEYS, keys.len(), b);
-    let o = with_buffer(bytes, keys, order, words, ORDER, order.len(), k);
-    with_buffer(bytes, keys, order, words, WORDS, words.len(), o)
+pub fn checksum(
+    bytes: &[u8; BYTES_LENGTH],
+    keys: &[u64; KEYS_LENGTH],
+    order: &[u32; ORDER_LENGTH],
+    words: &[u64; WORDS_LENGTH],
+) -> u64 {
+    let b = with_buffer(bytes, keys, order, words, BYTES, BYTES_LENGTH, 1);
+    let k = with_buffer(bytes, keys, order, words, KEYS, KEYS_LENGTH, b);
+    let o = with_buffer(bytes, keys, order, words, ORDER, ORDER_LENGTH, k);
+    with_buffer(bytes, keys, order, words, WORDS, WORDS_LENGTH, o)
 }

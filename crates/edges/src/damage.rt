@@ -1,5 +1,6 @@
 // Changes one element of a memory's buffers at a time. The memory is then refused, by every call and unchanged; or it is read as its buffers say.
 use crate::buffers;
+use crate::buffers::Lengths;
 use crate::naive;
 use crate::step;
 use crate::step::Got;
@@ -24,6 +25,9 @@ const PAGE: u64 = 66;
 const ZERO: u64 = 1;
 
 const HIGHEST: u64 = 2;
+
+// The elements that a line damages are fewer than this.
+const DAMAGED: u64 = 2000;
 
 // The most elements whose answers are bits of one number.
 const BITS: usize = 64;
@@ -62,15 +66,12 @@ fn top(buffer: u64) -> u64 {
     18446744073709551615
 }
 
-// What a memory got of which a read and another call are refused so, the buffers having these checksums before and after.
-fn judged(read: u32, call: u32, before: u64, after: u64) -> u64 {
+// What a memory got of which a read and another call are refused so.
+fn judged(read: u32, call: u32) -> u64 {
     if read != NOT_WELL_FORMED {
         return WRONG;
     }
     if call != NOT_WELL_FORMED {
-        return WRONG;
-    }
-    if before != after {
         return WRONG;
     }
     REFUSED
@@ -86,28 +87,30 @@ fn accepted(wrong: u64) -> u64 {
 
 // What a damaged memory gets.
 fn verdict(
-    bytes: &mut [u8],
-    keys: &mut [u64],
-    order: &mut [u32],
-    words: &mut [u64],
+    bytes: &mut [u8; buffers::BYTES_LENGTH],
+    keys: &mut [u64; buffers::KEYS_LENGTH],
+    order: &mut [u32; buffers::ORDER_LENGTH],
+    words: &mut [u64; buffers::WORDS_LENGTH],
+    lengths: Lengths,
     call: u8,
 ) -> u64 {
-    let read = step::look(bytes, keys, order, words, b'r', PAGE, 0, 0);
+    let mut numbers = [0u64; step::PLACES];
+    numbers[1] = PAGE;
+    let read = step::look(bytes, keys, order, words, lengths, b'r', numbers);
     if read.refusal == 0 {
-        return accepted(naive::wrong(bytes, keys, order, words));
+        return accepted(naive::wrong(bytes, keys, order, words, lengths));
     }
-    let before = buffers::checksum(bytes, keys, order, words);
-    let got = step::step(bytes, keys, order, words, call, PAGE, 0, 0);
-    let after = buffers::checksum(bytes, keys, order, words);
-    judged(read.refusal, got.refusal, before, after)
+    let got = step::kept(bytes, keys, order, words, lengths, call, numbers);
+    judged(read.refusal, got.refusal)
 }
 
 // What the memory gets with element i changed; the element is put back.
 fn tried(
-    bytes: &mut [u8],
-    keys: &mut [u64],
-    order: &mut [u32],
-    words: &mut [u64],
+    bytes: &mut [u8; buffers::BYTES_LENGTH],
+    keys: &mut [u64; buffers::KEYS_LENGTH],
+    order: &mut [u32; buffers::ORDER_LENGTH],
+    words: &mut [u64; buffers::WORDS_LENGTH],
+    lengths: Lengths,
     buffer: u64,
     mode: u64,
     call: u8,
@@ -116,7 +119,7 @@ fn tried(
     let old = buffers::peek(bytes, keys, order, words, buffer, i);
     let new = changed(old, mode, top(buffer));
     buffers::poke(bytes, keys, order, words, buffer, i, new);
-    let got = verdict(bytes, keys, order, words, call);
+    let got = verdict(bytes, keys, order, words, lengths, call);
     buffers::poke(bytes, keys, order, words, buffer, i, old);
     got
 }
@@ -162,16 +165,14 @@ fn answer(t: Tally, n: usize) -> Got {
     }
 }
 
-// Damages each of the first n elements of a buffer.
-pub fn refused(
-    bytes: &mut [u8],
-    keys: &mut [u64],
-    order: &mut [u32],
-    words: &mut [u64],
-    buffer: u64,
-    mode: u64,
-    call: u8,
-    n: usize,
+// Damages elements as a line says, whose numbers are the buffer's, the mode, how many elements, and the letter of a call.
+pub fn damaged(
+    bytes: &mut [u8; buffers::BYTES_LENGTH],
+    keys: &mut [u64; buffers::KEYS_LENGTH],
+    order: &mut [u32; buffers::ORDER_LENGTH],
+    words: &mut [u64; buffers::WORDS_LENGTH],
+    lengths: Lengths,
+    numbers: [u64; step::PLACES],
 ) -> Got {
     let mut t = Tally {
         bits: 0,
@@ -180,9 +181,13 @@ pub fn refused(
         last: 0,
         wrong: 0,
     };
+    let buffer = numbers[1];
+    let mode = numbers[2];
+    let n = (numbers[3] % DAMAGED) as usize;
+    let call = (numbers[4] % 256) as u8;
     let mut i: usize = 0;
     while i < n {
-        let got = tried(bytes, keys, order, words, buffer, mode, call, i);
+        let got = tried(bytes, keys, order, words, lengths, buffer, mode, call, i);
         t = tallied(t, i as u64, got);
         i += 1;
     }

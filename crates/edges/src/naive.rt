@@ -1,5 +1,6 @@
 // What an accepted memory must answer, by a plain scan of its keys as docs/BUFFERS.md describes them. It shares nothing with the library's lookup.
 use crate::buffers;
+use crate::buffers::Lengths;
 use crate::step;
 use page_ids::Address;
 use page_ids::PageId;
@@ -10,8 +11,8 @@ const CHUNK_NUMBERS: u64 = 33554432;
 // The most chunks, which bounds the products.
 const MOST_CHUNKS: usize = 65536;
 
-// The last chunk whose bytes have addresses of 32 bits.
-const LAST_CHUNK: u32 = 16777215;
+// The last chunk all of whose bytes have addresses of 32 bits. One more chunk follows it.
+const LAST_ADDRESSED: u32 = 16777215;
 
 // The byte of a chunk that is read.
 const BYTE: u32 = 31;
@@ -91,7 +92,7 @@ fn wrong_byte(
     k: u32,
     must: u64,
 ) -> u64 {
-    if LAST_CHUNK < k {
+    if LAST_ADDRESSED < k {
         return 0;
     }
     let r = reads::read_byte(
@@ -132,7 +133,7 @@ fn page_of(q: usize) -> u32 {
 }
 
 fn chunk_of(q: usize) -> u32 {
-    let chunks = [0u32, 1, 0, 1, 0, 1, LAST_CHUNK, LAST_CHUNK + 1];
+    let chunks = [0u32, 1, 0, 1, 0, 1, LAST_ADDRESSED, LAST_ADDRESSED + 1];
     chunks[q % PLACES]
 }
 
@@ -157,8 +158,8 @@ fn wrong_head(bytes: &[u8], keys: &[u64], order: &[u32], words: &[u64]) -> u64 {
     )
 }
 
-// 0 for a memory that answers reads as its buffers say, else 1.
-pub fn wrong(bytes: &[u8], keys: &[u64], order: &[u32], words: &[u64]) -> u64 {
+// 0 for a memory that answers reads as its parts of the buffers say, else 1.
+fn wrong_parts(bytes: &[u8], keys: &[u64], order: &[u32], words: &[u64]) -> u64 {
     let mut wrong = wrong_head(bytes, keys, order, words);
     let mut q: usize = 0;
     while q < PLACES {
@@ -170,4 +171,13 @@ pub fn wrong(bytes: &[u8], keys: &[u64], order: &[u32], words: &[u64]) -> u64 {
         q += 1;
     }
     wrong
+}
+
+// The same for the memory in the leading parts of the buffers.
+pub fn wrong(bytes: &[u8], keys: &[u64], order: &[u32], words: &[u64], lengths: Lengths) -> u64 {
+    let b = buffers::least(lengths.bytes, bytes.len());
+    let k = buffers::least(lengths.keys, keys.len());
+    let o = buffers::least(lengths.order, order.len());
+    let w = buffers::least(lengths.words, words.len());
+    wrong_parts(&bytes[0..b], &keys[0..k], &order[0..o], &words[0..w])
 }

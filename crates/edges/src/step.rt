@@ -1,10 +1,26 @@
 // One call of the library, or the change of one element, named by a letter, with numbers for its arguments.
+// The library is lent a memory's own parts of the buffers.
 ghost use Prim.Native.Nat.{_≤_};
 use crate::buffers;
+use crate::buffers::Lengths;
+use outcome::Answer;
 use page_ids::Address;
+use page_ids::BasePage;
 use page_ids::Layout;
 use page_ids::PageId;
 use word::Word;
+
+// The numbers of a line: those of the call from place 1 on, then the refusal and the value.
+pub const PLACES: usize = 13;
+
+// The places of an opening's counts, and of the length of its calldata.
+pub const CHUNKS: usize = 7;
+
+pub const PAGES: usize = 8;
+
+pub const ROOM: usize = 9;
+
+const CALLDATA: usize = 10;
 
 // The numbers of 32 bits.
 pub const NARROW: u64 = 4294967296;
@@ -15,18 +31,14 @@ pub const THREE_DIGITS: u64 = 1000;
 // The most bytes that a line hands over. A contract has no constants, so the one of `at_most_600` repeats it.
 const SOURCE: usize = 600;
 
-// What each byte of a write, of an allocation's contents and of calldata is.
-const WRITTEN: u8 = 171;
-
-const ALLOCATED: u8 = 205;
-
-const CALLDATA: u8 = 239;
-
 // The bytes of a range that is read.
 const RANGE: usize = 8;
 
 // A looked-up part has a wrong length. No call is refused so.
 const WRONG_LENGTH: u32 = 97;
+
+// A refused call changed a buffer. No call is refused so.
+const CHANGED: u32 = 99;
 
 // What a call returned: the number of its refusal or 0, and a value or 0.
 pub struct Got {
@@ -73,48 +85,34 @@ fn at_most_600(x: u64) -> usize
     x as usize
 }
 
-// Writes n bytes, at most SOURCE.
-fn write_bytes(
-    bytes: &mut [u8],
-    keys: &mut [u64],
-    order: &mut [u32],
-    words: &mut [u64],
-    page: u32,
-    start: u32,
-    n: u64,
-) -> u32 {
-    let source = [WRITTEN; SOURCE];
-    let end = at_most_600(n);
-    outcome::status(writes::write_bytes(
-        bytes,
-        keys,
-        order,
-        words,
-        PageId(page),
-        Address(start),
-        &source[0..end],
-    ))
+// What each byte of a write, of an allocation's contents and of calldata is.
+fn filler(call: u8) -> u8 {
+    match call {
+        b'b' => 171,
+        b'f' => 205,
+        _ => 239,
+    }
 }
 
-// Allocates a page with n bytes of contents, at most SOURCE.
-fn allocate_with(
-    bytes: &mut [u8],
-    keys: &mut [u64],
-    order: &mut [u32],
-    words: &mut [u64],
-    page: u32,
-    n: u64,
-) -> u32 {
-    let source = [ALLOCATED; SOURCE];
-    let end = at_most_600(n);
-    outcome::status(writes::allocate_with_content_at(
-        bytes,
-        keys,
-        order,
-        words,
-        PageId(page),
-        &source[0..end],
-    ))
+// How many bytes a call hands over.
+fn handed(call: u8, n: [u64; PLACES]) -> usize
+    ensures { λ r. ⌜ r ≤ 600 ⌝ }
+{
+    if call == b'o' {
+        return at_most_600(n[CALLDATA]);
+    }
+    at_most_600(n[3])
+}
+
+fn layout_of(n: [u64; PLACES]) -> Layout {
+    Layout {
+        static_memory: PageId(narrow(n[1])),
+        calldata: PageId(narrow(n[2])),
+        bootloader_heap: PageId(narrow(n[3])),
+        bootloader_aux: PageId(narrow(n[4])),
+        base: BasePage(narrow(n[5])),
+        stride: narrow(n[6]),
+    }
 }
 
 // The word that a call writes.
@@ -125,50 +123,64 @@ fn word_of(call: u8, x: u64) -> Word {
     small(x)
 }
 
-// A call that writes.
-fn write(
-    bytes: &mut [u8],
-    keys: &mut [u64],
-    order: &mut [u32],
-    words: &mut [u64],
-    call: u8,
-    page: u32,
-    at: u32,
-    x: u64,
-) -> u32 {
-    if call == b'b' {
-        return write_bytes(bytes, keys, order, words, page, at, x);
-    }
-    outcome::status(writes::write_u256(
-        bytes,
-        keys,
-        order,
-        words,
-        PageId(page),
-        Address(at),
-        word_of(call, x),
-    ))
-}
-
-// A call that changes a memory.
+// A call that opens or changes a memory.
 fn change(
     bytes: &mut [u8],
     keys: &mut [u64],
     order: &mut [u32],
     words: &mut [u64],
     call: u8,
-    a: u64,
-    b: u64,
-    x: u64,
-) -> u32 {
-    let page = narrow(a);
+    n: [u64; PLACES],
+    source: &[u8],
+) -> Answer {
+    let page = PageId(narrow(n[1]));
+    let at = Address(narrow(n[2]));
     match call {
-        b'w' | b'c' | b'b' => write(bytes, keys, order, words, call, page, narrow(b), x),
-        b'a' => outcome::status(writes::allocate_at(bytes, keys, order, words, PageId(page))),
-        b'f' => allocate_with(bytes, keys, order, words, page, x),
-        b'u' => outcome::status(history::rollback(bytes, keys, order, words, a, b)),
-        _ => outcome::status(history::delete_history(bytes, keys, order, words)),
+        b'o' => opening::open(
+            bytes,
+            keys,
+            order,
+            words,
+            layout_of(n),
+            narrow(n[CHUNKS]),
+            narrow(n[PAGES]),
+            narrow(n[ROOM]),
+            source,
+        ),
+        b'b' => writes::write_bytes(bytes, keys, order, words, page, at, source),
+        b'f' => writes::allocate_with_content_at(bytes, keys, order, words, page, source),
+        b'a' => writes::allocate_at(bytes, keys, order, words, page),
+        b'u' => history::rollback(bytes, keys, order, words, n[1], n[2]),
+        b'd' => history::delete_history(bytes, keys, order, words),
+        _ => writes::write_u256(bytes, keys, order, words, page, at, word_of(call, n[3])),
     }
+}
+
+// Opens or changes a memory in its own parts of the buffers. The number of the refusal, or 0.
+fn lent(
+    bytes: &mut [u8],
+    keys: &mut [u64],
+    order: &mut [u32],
+    words: &mut [u64],
+    lengths: Lengths,
+    call: u8,
+    n: [u64; PLACES],
+) -> u32 {
+    let source = [filler(call); SOURCE];
+    let end = handed(call, n);
+    let b = buffers::least(lengths.bytes, bytes.len());
+    let k = buffers::least(lengths.keys, keys.len());
+    let o = buffers::least(lengths.order, order.len());
+    let w = buffers::least(lengths.words, words.len());
+    outcome::status(change(
+        &mut bytes[0..b],
+        &mut keys[0..k],
+        &mut order[0..o],
+        &mut words[0..w],
+        call,
+        n,
+        &source[0..end],
+    ))
 }
 
 // Limb k of a word, the lowest being 0.
@@ -227,7 +239,7 @@ fn told(refusal: u32, length: usize) -> u32 {
     WRONG_LENGTH
 }
 
-// Byte i of a chunk, by a lookup with a zero block. The check beside it must say why the part is empty, where it is.
+// Byte i of a chunk, by a lookup with a block. The check beside it must say why the part is empty, where it is.
 fn chunk<'a>(
     bytes: &'a [u8],
     keys: &[u64],
@@ -253,25 +265,30 @@ fn in_chunk(x: u64) -> usize
     (x % buffers::CHUNK as u64) as usize
 }
 
-// Byte 0 of a chunk, by a lookup with n zeros, at most SOURCE; or with a block of which byte n is 1.
-fn bad_block(
-    bytes: &[u8],
-    keys: &[u64],
-    order: &[u32],
-    words: &[u64],
-    call: u8,
-    page: u32,
-    k: u32,
-    n: u64,
-) -> Got {
-    let zeros = [0u8; SOURCE];
-    let mut block = [0u8; buffers::CHUNK];
-    block[in_chunk(n)] = 1;
-    if call == b'n' {
-        return chunk(bytes, keys, order, words, page, k, 0, &block);
+// How long the block is that a call looks a chunk up with.
+fn block_length(call: u8, x: u64) -> usize
+    ensures { λ r. ⌜ r ≤ 600 ⌝ }
+{
+    if call == b'z' {
+        return at_most_600(x);
     }
-    let end = at_most_600(n);
-    chunk(bytes, keys, order, words, page, k, 0, &zeros[0..end])
+    buffers::CHUNK
+}
+
+// What byte x of that block is.
+fn mark(call: u8) -> u8 {
+    if call == b'n' {
+        return 1;
+    }
+    0
+}
+
+// Which byte of the chunk is looked at.
+fn looked_at(call: u8, x: u64) -> usize {
+    if call == b'k' {
+        return in_chunk(x);
+    }
+    0
 }
 
 // A call that looks a chunk up.
@@ -285,19 +302,11 @@ fn look_up(
     k: u32,
     x: u64,
 ) -> Got {
-    let zeros = [0u8; buffers::CHUNK];
-    if call == b'k' {
-        return chunk(bytes, keys, order, words, page, k, in_chunk(x), &zeros);
-    }
-    bad_block(bytes, keys, order, words, call, page, k, x)
-}
-
-// Whether a call looks a chunk up.
-fn is_lookup(call: u8) -> bool {
-    match call {
-        b'k' | b'z' | b'n' => true,
-        _ => false,
-    }
+    let mut block = [0u8; SOURCE];
+    block[in_chunk(x)] = mark(call);
+    let end = block_length(call, x);
+    let i = looked_at(call, x);
+    chunk(bytes, keys, order, words, page, k, i, &block[0..end])
 }
 
 // A call that looks at a page.
@@ -344,97 +353,124 @@ fn look_at(
     range(bytes, keys, order, words, page, at, narrow(x))
 }
 
+// The dynamic length.
+fn length(bytes: &[u8], keys: &[u64], order: &[u32], words: &[u64]) -> Got {
+    let r = reads::dynamic_len(bytes, keys, order, words);
+    Got {
+        refusal: r.refusal,
+        value: r.length as u64,
+    }
+}
+
+// The lengths of the two journals in one number.
+fn snapshot(bytes: &[u8], keys: &[u64], order: &[u32], words: &[u64]) -> Got {
+    let r = reads::snapshot(bytes, keys, order, words);
+    let heap = r.heap as u64;
+    let aux = r.aux as u64;
+    Got {
+        refusal: r.refusal,
+        value: heap * THREE_DIGITS + aux,
+    }
+}
+
 // A call that looks at a memory.
-pub fn look(
+fn looked(
     bytes: &[u8],
     keys: &[u64],
     order: &[u32],
     words: &[u64],
     call: u8,
-    a: u64,
-    b: u64,
-    x: u64,
+    n: [u64; PLACES],
 ) -> Got {
-    if call == b'l' {
-        let r = reads::dynamic_len(bytes, keys, order, words);
-        return Got {
-            refusal: r.refusal,
-            value: r.length as u64,
-        };
+    let page = narrow(n[1]);
+    match call {
+        b'l' => length(bytes, keys, order, words),
+        b's' => snapshot(bytes, keys, order, words),
+        b'k' | b'z' | b'n' => look_up(bytes, keys, order, words, call, page, narrow(n[2]), n[3]),
+        _ => look_at(bytes, keys, order, words, call, page, narrow(n[2]), n[3]),
     }
-    if call == b's' {
-        let r = reads::snapshot(bytes, keys, order, words);
-        let heap = r.heap as u64;
-        let aux = r.aux as u64;
-        return Got {
-            refusal: r.refusal,
-            value: heap * THREE_DIGITS + aux,
-        };
-    }
-    if is_lookup(call) {
-        return look_up(bytes, keys, order, words, call, narrow(a), narrow(b), x);
-    }
-    look_at(bytes, keys, order, words, call, narrow(a), narrow(b), x)
 }
 
-// Whether a call changes a memory.
+// Looks at a memory in its own parts of the buffers.
+pub fn look(
+    bytes: &[u8],
+    keys: &[u64],
+    order: &[u32],
+    words: &[u64],
+    lengths: Lengths,
+    call: u8,
+    n: [u64; PLACES],
+) -> Got {
+    let b = buffers::least(lengths.bytes, bytes.len());
+    let k = buffers::least(lengths.keys, keys.len());
+    let o = buffers::least(lengths.order, order.len());
+    let w = buffers::least(lengths.words, words.len());
+    looked(
+        &bytes[0..b],
+        &keys[0..k],
+        &order[0..o],
+        &words[0..w],
+        call,
+        n,
+    )
+}
+
+// Whether a call opens or changes a memory.
 fn changes(call: u8) -> bool {
     match call {
-        b'w' | b'c' | b'b' | b'a' | b'f' | b'u' | b'd' => true,
+        b'o' | b'w' | b'c' | b'b' | b'a' | b'f' | b'u' | b'd' => true,
         _ => false,
     }
 }
 
 // The call of a line, or its change of an element.
-pub fn step(
-    bytes: &mut [u8],
-    keys: &mut [u64],
-    order: &mut [u32],
-    words: &mut [u64],
+fn step(
+    bytes: &mut [u8; buffers::BYTES_LENGTH],
+    keys: &mut [u64; buffers::KEYS_LENGTH],
+    order: &mut [u32; buffers::ORDER_LENGTH],
+    words: &mut [u64; buffers::WORDS_LENGTH],
+    lengths: Lengths,
     call: u8,
-    a: u64,
-    b: u64,
-    x: u64,
+    n: [u64; PLACES],
 ) -> Got {
     if call == b'e' {
-        return buffers::set(bytes, keys, order, words, a, b as usize, x);
+        return buffers::set(bytes, keys, order, words, n[1], n[2] as usize, n[3]);
     }
     if changes(call) {
         return Got {
-            refusal: change(bytes, keys, order, words, call, a, b, x),
+            refusal: lent(bytes, keys, order, words, lengths, call, n),
             value: 0,
         };
     }
-    look(bytes, keys, order, words, call, a, b, x)
+    look(bytes, keys, order, words, lengths, call, n)
 }
 
-// Opens a memory with n bytes of calldata, at most SOURCE.
-pub fn open(
-    bytes: &mut [u8],
-    keys: &mut [u64],
-    order: &mut [u32],
-    words: &mut [u64],
-    layout: Layout,
-    chunks: u64,
-    pages: u64,
-    room: u64,
-    n: u64,
+// A refusal, where the buffers are as they were.
+fn unchanged(refusal: u32, before: u64, after: u64) -> u32 {
+    if refusal == 0 {
+        return 0;
+    }
+    if before == after {
+        return refusal;
+    }
+    CHANGED
+}
+
+// What a call returned. A refused call must leave the buffers as they were, those past the memory's own parts too.
+pub fn kept(
+    bytes: &mut [u8; buffers::BYTES_LENGTH],
+    keys: &mut [u64; buffers::KEYS_LENGTH],
+    order: &mut [u32; buffers::ORDER_LENGTH],
+    words: &mut [u64; buffers::WORDS_LENGTH],
+    lengths: Lengths,
+    call: u8,
+    n: [u64; PLACES],
 ) -> Got {
-    let source = [CALLDATA; SOURCE];
-    let end = at_most_600(n);
-    let refusal = outcome::status(opening::open(
-        bytes,
-        keys,
-        order,
-        words,
-        layout,
-        narrow(chunks),
-        narrow(pages),
-        narrow(room),
-        &source[0..end],
-    ));
+    let before = buffers::checksum(bytes, keys, order, words);
+    let got = step(bytes, keys, order, words, lengths, call, n);
+    let after = buffers::checksum(bytes, keys, order, words);
     Got {
-        refusal: refusal,
-        value: 0,
+        refusal: unchanged(got.refusal, before, after),
+        value: got.value,
     }
 }

@@ -1,12 +1,10 @@
 // Walks lines of calls, and counts which answers are right. A memory is opened in the leading parts of larger buffers.
-ghost use Prim.Native.Nat.{_≤_};
 use crate::buffers;
+use crate::buffers::Lengths;
 use crate::damage;
 use crate::step;
 use crate::step::Got;
-use page_ids::BasePage;
-use page_ids::Layout;
-use page_ids::PageId;
+use crate::step::PLACES;
 
 // The places of a line's numbers: from 1 to EQUALS those of the call, and after a '=' the refusal and the value.
 const EQUALS: usize = 10;
@@ -15,25 +13,8 @@ const REFUSAL: usize = 11;
 
 const VALUE: usize = 12;
 
-const PLACES: usize = 13;
-
-// The places of an opening's counts, and of the length of its calldata.
-const CHUNKS: usize = 7;
-
-const PAGES: usize = 8;
-
-const ROOM: usize = 9;
-
-const CALLDATA: usize = 10;
-
-// The elements that a line damages are fewer than this.
-const DAMAGED: u64 = 2000;
-
 // A number that takes another decimal digit is at most this.
 const SHORT: u64 = 1844674407370955160;
-
-// A refused call changed a buffer. No call is refused so.
-const CHANGED: u32 = 99;
 
 // A line: its letter, the place of its next number, and its numbers.
 pub struct Line {
@@ -42,11 +23,9 @@ pub struct Line {
     pub numbers: [u64; PLACES],
 }
 
-// The counts of the open memory; how many answers were right and wrong since the last title.
+// The lengths of the open memory; how many answers were right and wrong since the last title.
 pub struct Run {
-    pub chunks: u64,
-    pub pages: u64,
-    pub room: u64,
+    pub lengths: Lengths,
     pub right: u32,
     pub wrong: u32,
 }
@@ -120,155 +99,30 @@ fn feed(line: Line, byte: u8) -> Line {
     }
 }
 
-// A count that the buffers have space for. A contract has no constants, so it repeats buffers::MOST.
-fn small(x: u64) -> usize
-    ensures { λ r. ⌜ r ≤ 16 ⌝ }
-{
-    if (buffers::MOST as u64) < x {
-        return buffers::MOST;
-    }
-    x as usize
-}
-
-fn layout_of(numbers: [u64; PLACES]) -> Layout {
-    Layout {
-        static_memory: PageId(step::narrow(numbers[1])),
-        calldata: PageId(step::narrow(numbers[2])),
-        bootloader_heap: PageId(step::narrow(numbers[3])),
-        bootloader_aux: PageId(step::narrow(numbers[4])),
-        base: BasePage(step::narrow(numbers[5])),
-        stride: step::narrow(numbers[6]),
-    }
-}
-
-// A refusal, where the buffers are as they were.
-fn unchanged(refusal: u32, before: u64, after: u64) -> u32 {
-    if refusal == 0 {
-        return 0;
-    }
-    if before == after {
-        return refusal;
-    }
-    CHANGED
-}
-
-// The lesser of a length and what there is.
-fn least(length: usize, there: usize) -> usize
-    ensures { λ r. ⌜ r ≤ there ⌝ }
-{
-    if there < length {
-        return there;
-    }
-    length
-}
-
-// Opens a memory, or calls one, in the leading parts of the buffers whose lengths follow from the counts (docs/BUFFERS.md).
-fn lent(
-    bytes: &mut [u8],
-    keys: &mut [u64],
-    order: &mut [u32],
-    words: &mut [u64],
-    run: Run,
-    line: Line,
-) -> Got {
-    let c = small(run.chunks);
-    let p = small(run.pages);
-    let j = small(run.room);
-    let b = least(buffers::CHUNK * c + buffers::OLD_BYTES * j, bytes.len());
-    let k = least(c + p + buffers::FIXED_PAGES, keys.len());
-    let o = least(
-        buffers::ORDER_PLACES * c + p + buffers::FIXED_PAGES,
-        order.len(),
-    );
-    let w = least(buffers::HEAD + buffers::NOTES * j, words.len());
-    called(
-        &mut bytes[0..b],
-        &mut keys[0..k],
-        &mut order[0..o],
-        &mut words[0..w],
-        line,
-    )
-}
-
-// What a line returned. A refused call must leave the buffers as they were, those past the memory's own parts too.
-fn kept(
+// The call of a line.
+fn called(
     bytes: &mut [u8; buffers::BYTES_LENGTH],
     keys: &mut [u64; buffers::KEYS_LENGTH],
     order: &mut [u32; buffers::ORDER_LENGTH],
     words: &mut [u64; buffers::WORDS_LENGTH],
-    run: Run,
+    lengths: Lengths,
     line: Line,
 ) -> Got {
-    let before = buffers::checksum(bytes, keys, order, words);
-    let got = lent(bytes, keys, order, words, run, line);
-    let after = buffers::checksum(bytes, keys, order, words);
-    Got {
-        refusal: unchanged(got.refusal, before, after),
-        value: got.value,
-    }
-}
-
-// Opens a memory as a line says.
-fn opened(
-    bytes: &mut [u8],
-    keys: &mut [u64],
-    order: &mut [u32],
-    words: &mut [u64],
-    n: [u64; PLACES],
-) -> Got {
-    step::open(
-        bytes,
-        keys,
-        order,
-        words,
-        layout_of(n),
-        n[CHUNKS],
-        n[PAGES],
-        n[ROOM],
-        n[CALLDATA],
-    )
-}
-
-// Damages a memory as a line says.
-fn damaged(
-    bytes: &mut [u8],
-    keys: &mut [u64],
-    order: &mut [u32],
-    words: &mut [u64],
-    n: [u64; PLACES],
-) -> Got {
-    let count = (n[3] % DAMAGED) as usize;
-    let letter = (n[4] % 256) as u8;
-    damage::refused(bytes, keys, order, words, n[1], n[2], letter, count)
-}
-
-// The call of a line.
-fn called(
-    bytes: &mut [u8],
-    keys: &mut [u64],
-    order: &mut [u32],
-    words: &mut [u64],
-    line: Line,
-) -> Got {
-    let n = line.numbers;
     let call = line.call;
-    match call {
-        b'o' => opened(bytes, keys, order, words, n),
-        b'x' => damaged(bytes, keys, order, words, n),
-        _ => step::step(bytes, keys, order, words, call, n[1], n[2], n[3]),
+    let n = line.numbers;
+    if call == b'x' {
+        return damage::damaged(bytes, keys, order, words, lengths, n);
     }
+    step::kept(bytes, keys, order, words, lengths, call, n)
 }
 
-// The counts of an opening; any other line keeps those of the open memory.
-fn sized(run: Run, line: Line) -> Run {
+// The lengths of the memory that a line opens; any other line has those of the open memory.
+fn sized(lengths: Lengths, line: Line) -> Lengths {
     let n = line.numbers;
-    let mut next = run;
     if line.call == b'o' {
-        next.chunks = n[CHUNKS];
-        next.pages = n[PAGES];
-        next.room = n[ROOM];
+        return buffers::lengths_of(n[step::CHUNKS], n[step::PAGES], n[step::ROOM]);
     }
-    next
+    lengths
 }
 
 // Prints what a line returned that was wrong.
@@ -355,11 +209,11 @@ fn quiet(state: State, byte: u8) -> State {
     }
 }
 
-// A run after a line that returned this; a refused opening keeps the counts of the open memory.
-fn after(run: Run, line: Line, got: Got) -> State {
+// A run after a line that returned this; a refused opening keeps the lengths of the open memory.
+fn after(run: Run, lengths: Lengths, line: Line, got: Got) -> State {
     let mut next = run;
     if got.refusal == 0 {
-        next = sized(run, line);
+        next.lengths = lengths;
     }
     State {
         run: judged(next, line, got),
@@ -381,16 +235,15 @@ fn take(
     if !ends_call(line.call, byte) {
         return quiet(state, byte);
     }
-    let got = kept(bytes, keys, order, words, sized(run, line), line);
-    after(run, line, got)
+    let lengths = sized(run.lengths, line);
+    let got = called(bytes, keys, order, words, lengths, line);
+    after(run, lengths, line, got)
 }
 
 // No memory is open, and nothing is read.
 fn new_state() -> State {
     let run = Run {
-        chunks: 1,
-        pages: 1,
-        room: 0,
+        lengths: buffers::lengths_of(1, 1, 0),
         right: 0,
         wrong: 0,
     };

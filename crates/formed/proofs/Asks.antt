@@ -16,14 +16,14 @@ module _ (m : Mem) (f : WellFormed m) where
       let k = f .lengths .in-keys in
       let o = f .lengths .in-order in
       let w = f .lengths .in-words in
-      record { head = omega arith; few = f .lengths .slots-hi; in-keys = omega arith; in-order = omega arith; index = slots-index m f }
+      record { head = omega arith; few = f .lengths .chunks-hi; in-keys = omega arith; in-order = omega arith; index = slots-index m f }
 
   pub pages-asked : PagesIndexed (m .keys) (m .order) (m .words)
   pages-asked =
       let k = f .lengths .in-keys in
       let o = f .lengths .in-order in
       let w = f .lengths .in-words in
-      record { head = omega arith; few = f .lengths .slots-hi; in-keys = omega arith; in-order = omega arith; index = pages-index m f }
+      record { head = omega arith; few = f .lengths .chunks-hi; in-keys = omega arith; in-order = omega arith; index = pages-index m f }
 
   -- an entry's number, also where no entry lists the page
   pub entry-few : (p : ℕ) → entryOf m p ≤ 4100

@@ -14,7 +14,7 @@ use Rattle.page_ids.specs.Decode.{badLayout}
 use Rattle.index.specs.Index.{all, indexed}
 use Rattle.index.proofs.Logic.{and-both, same-or-not, lt-or-ge}
 use Rattle.index.proofs.All.{all-intro}
-use Rattle.store.specs.Mem.{Mem, layoutOf, slotCount, journalWords, journalLength, heldNow, inUse, dynamicLength, holders, entries, slotOrder, pageOrder, chunks}
+use Rattle.store.specs.Mem.{Mem, layoutOf, slotCount, journalWords, journalLength, heldNow, inUse, dynamicLength, holders, entries, slotOrder, pageOrder, chunkBytes}
 use Rattle.formed.specs.Pages.{LayoutRule, dynamic, group, journalCount, journalPlace}
 use Rattle.formed.specs.Formed.{chunk, slotAt, sized, narrow, headRight, entryRight, noted, journalRight, contents, wellFormed}
 use Rattle.formed.specs.WellFormed.{holder, slotByte, Lengths, NotedRight}
@@ -69,15 +69,15 @@ module _ (m : Mem) (f : Facts m) where
       (same-or-not (getD (entries m) e 0) 0)))
       (lt-or-ge e 4)
 
-  slot-pass : (s : ℕ) → s < length (holders m) → slotAt (entries m) (holders m) (chunks m) s ≡ true
+  slot-pass : (s : ℕ) → s < length (holders m) → slotAt (entries m) (holders m) (chunkBytes m) s ≡ true
   slot-pass s l =
       let h = holders-long m (f .lengths) in
       ⊎-elim
-      (λ (z : holder m s ≡ 0). sym (slot-pooled (entries m) (holder m s) (chunk (chunks m) s) z) ∙ zero-chunk (chunks m) s (f .pooled s (omega arith) z))
+      (λ (z : holder m s ≡ 0). sym (slot-pooled (entries m) (holder m s) (chunk (chunkBytes m) s) z) ∙ zero-chunk (chunkBytes m) s (f .pooled s (omega arith) z))
       (λ (n : holder m s ≡ 0 → ⊥).
       let r = f .held s (omega arith) in
-      sym (slot-held (entries m) (holder m s) (chunk (chunks m) s) n)
-      ∙ held-test (entries m) (holder m s) (chunk (chunks m) s) (r .entry) (r .top) (λ e. zero-tail (chunks m) s (r .tail e)))
+      sym (slot-held (entries m) (holder m s) (chunk (chunkBytes m) s) n)
+      ∙ held-test (entries m) (holder m s) (chunk (chunkBytes m) s) (r .entry) (r .top) (λ e. zero-tail (chunkBytes m) s (r .tail e)))
       (same-or-not (holder m s) 0)
 
   journal-pass : (j : ℕ) → j < journalCount → journalRight (holders m) (m .words) j ≡ true
@@ -97,5 +97,5 @@ module _ (m : Mem) (f : Facts m) where
       (and-both (indexed (holders m) (slotOrder m) (heldNow (m .words)) && indexed (entries m) (pageOrder m) (inUse (m .words))) _
       (and-both (indexed (holders m) (slotOrder m) (heldNow (m .words))) (indexed (entries m) (pageOrder m) (inUse (m .words))) (f .slots) (f .pages))
       (and-both (all (entryRight (m .words) (entries m)) (length (entries m))) _ (all-intro (entryRight (m .words) (entries m)) (length (entries m)) entry-pass)
-      (and-both (all (slotAt (entries m) (holders m) (chunks m)) (length (holders m))) _ (all-intro (slotAt (entries m) (holders m) (chunks m)) (length (holders m)) slot-pass)
+      (and-both (all (slotAt (entries m) (holders m) (chunkBytes m)) (length (holders m))) _ (all-intro (slotAt (entries m) (holders m) (chunkBytes m)) (length (holders m)) slot-pass)
       (all-intro (journalRight (holders m) (m .words)) journalCount journal-pass)))))

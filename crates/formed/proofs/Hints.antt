@@ -11,7 +11,7 @@ use Rattle.index.proofs.Orders.{index-count}
 use Rattle.index.proofs.Counts.{count-le}
 use Rattle.index.proofs.Meaning.{index-upto}
 use Rattle.store.specs.Mem.{Mem, mem, slotCount, pageCount, heldNow, inUse, holders, entries, slotOrder, pageOrder}
-use Rattle.store.specs.Find.{slotFor, Findable, Learnt}
+use Rattle.store.specs.Find.{slotFor, Findable, HintLearnt}
 use Rattle.formed.specs.Parts.{slotOfChunk}
 use Rattle.formed.specs.WellFormed.{WellFormed}
 use Rattle.formed.proofs.Facts.{Facts}
@@ -24,7 +24,7 @@ module _ (m : Mem) (f : WellFormed m) where
   find-asked =
       let k = f .lengths .in-keys in
       let o = f .lengths .in-order in
-      let c = f .lengths .slots-hi in
+      let c = f .lengths .chunks-hi in
       let p = f .lengths .pages-hi in
       record { slots = slots-asked m f; pages = pages-asked m f; few = omega arith; hints = omega arith }
 
@@ -33,7 +33,7 @@ module _ (m : Mem) (f : WellFormed m) where
   unfolding slotOfChunk
   slot-found p k l = rw (le-leb k 16777216 l)
 
-  module _ (order' : List ℕ) (h : Learnt (m .order) (m .words) order') where
+  module _ (order' : List ℕ) (h : HintLearnt (m .order) (m .words) order') where
     abbrev c : ℕ
     c = slotCount (m .words)
 

@@ -15,7 +15,7 @@ use Rattle.index.proofs.Logic.{and-left, and-right, same-or-not, lt-or-ge}
 use Rattle.index.proofs.All.{all-at}
 use Rattle.index.proofs.Places.{seek-hit, seek-upto}
 use Rattle.index.proofs.Meaning.{index-means, index-test, once}
-use Rattle.store.specs.Mem.{Mem, layoutOf, slotCount, pageCount, journalWords, journalLength, heldNow, inUse, dynamicLength, holders, entries, slotOrder, pageOrder, chunks}
+use Rattle.store.specs.Mem.{Mem, layoutOf, slotCount, pageCount, journalWords, journalLength, heldNow, inUse, dynamicLength, holders, entries, slotOrder, pageOrder, chunkBytes}
 use Rattle.formed.specs.Pages.{LayoutRule, fixedId, dynamic, group, fixed, journalCount, journalPlace, journalPage}
 use Rattle.formed.specs.Parts.{entryOf, slotOfChunk, holds, byteAt, noteAddress, noteFirst, noteLast}
 use Rattle.formed.specs.Formed.{zeros, chunk, slotAt, sized, narrow, headRight, entryRight, noted, journalRight, contents, wellFormed}
@@ -46,7 +46,7 @@ module _ (m : Mem) (f : wellFormed m ≡ true) where
   T₁ = all (entryRight (m .words) (entries m)) (length (entries m))
 
   abbrev T₂ : Bool
-  T₂ = all (slotAt (entries m) (holders m) (chunks m)) (length (holders m))
+  T₂ = all (slotAt (entries m) (holders m) (chunkBytes m)) (length (holders m))
 
   abbrev T₃ : Bool
   T₃ = all (journalRight (holders m) (m .words)) journalCount
@@ -100,18 +100,18 @@ module _ (m : Mem) (f : wellFormed m ≡ true) where
   es-long : length (entries m) ≡ pageCount (m .words) + 4
   es-long = entries-long m len
 
-  bs-long : length (chunks m) ≡ 256 * slotCount (m .words)
+  bs-long : length (chunkBytes m) ≡ 256 * slotCount (m .words)
   bs-long = chunks-long m len
 
   -- the slots
-  slot-right : (s : ℕ) → s < slotCount (m .words) → slotAt (entries m) (holders m) (chunks m) s ≡ true
-  slot-right s l = all-at (slotAt (entries m) (holders m) (chunks m)) (length (holders m)) s t₂ (let h = hs-long in omega arith)
+  slot-right : (s : ℕ) → s < slotCount (m .words) → slotAt (entries m) (holders m) (chunkBytes m) s ≡ true
+  slot-right s l = all-at (slotAt (entries m) (holders m) (chunkBytes m)) (length (holders m)) s t₂ (let h = hs-long in omega arith)
 
   held-in : (s : ℕ) → 0 < holder m s → s < slotCount (m .words)
   held-in s p = let l = in-table (holders m) s p in let h = hs-long in omega arith
 
-  facts : (s : ℕ) → 0 < holder m s → (0 < getD (entries m) (keyEntry (holder m s)) 0) × (keyChunk (holder m s) ≤ 16777216) × (keyChunk (holder m s) ≡ 16777216 → zeros (drop 31 (chunk (chunks m) s)) ≡ true)
-  facts s p = held-means (entries m) (holder m s) (chunk (chunks m) s) (slot-hold (entries m) (holders m) (chunks m) s (slot-right s (held-in s p)) p)
+  facts : (s : ℕ) → 0 < holder m s → (0 < getD (entries m) (keyEntry (holder m s)) 0) × (keyChunk (holder m s) ≤ 16777216) × (keyChunk (holder m s) ≡ 16777216 → zeros (drop 31 (chunk (chunkBytes m) s)) ≡ true)
+  facts s p = held-means (entries m) (holder m s) (chunk (chunkBytes m) s) (slot-hold (entries m) (holders m) (chunkBytes m) s (slot-right s (held-in s p)) p)
 
   each : (s : ℕ) → s < slotCount (m .words) → OnePlace m s ⊎ Pooled m s
   each s l =
@@ -145,19 +145,19 @@ module _ (m : Mem) (f : wellFormed m ≡ true) where
       let hit = seek-hit (holders m) (keyOf (entryOf m p) (a / 256)) l in
       let pos : 0 < holder m (seek (holders m) (keyOf (entryOf m p) (a / 256))) = omega arith in
       let c : keyChunk (holder m (seek (holders m) (keyOf (entryOf m p) (a / 256)))) ≡ 16777216 = ap keyChunk hit ∙ key-chunk (entryOf m p) (a / 256) (omega arith) ∙ t in
-      tail-zero (chunks m) (seek (holders m) (keyOf (entryOf m p) (a / 256))) (facts (seek (holders m) (keyOf (entryOf m p) (a / 256))) pos .2 c) (a % 256) (omega arith) (omega arith))
+      tail-zero (chunkBytes m) (seek (holders m) (keyOf (entryOf m p) (a / 256))) (facts (seek (holders m) (keyOf (entryOf m p) (a / 256))) pos .2 c) (a % 256) (omega arith) (omega arith))
       (λ (l : length (holders m) ≤ seek (holders m) (keyOf (entryOf m p) (a / 256))).
       let h = hs-long in
       let b = bs-long in
-      List·getD-eq-default (chunks m) 0 (omega arith))
+      List·getD-eq-default (chunkBytes m) 0 (omega arith))
       (lt-or-ge (seek (holders m) (keyOf (entryOf m p) (a / 256))) (length (holders m)))))
       (λ (far : 16777216 < a / 256).
       let b = bs-long in
-      rw (lt-leb (a / 256) 16777216 far) (List·getD-eq-default (chunks m) 0 (omega arith)))
+      rw (lt-leb (a / 256) 16777216 far) (List·getD-eq-default (chunkBytes m) 0 (omega arith)))
       (le-or-gt (a / 256) 16777216)
 
   clean : (s r : ℕ) → s < slotCount (m .words) → Pooled m s → r < 256 → slotByte m s r ≡ 0
-  clean s r l z h = chunk-zero (chunks m) s (slot-pool (entries m) (holders m) (chunks m) s (slot-right s l) z) r h
+  clean s r l z h = chunk-zero (chunkBytes m) s (slot-pool (entries m) (holders m) (chunkBytes m) s (slot-right s l) z) r h
 
   -- the pages
   entry-right : (e : ℕ) → e < pageCount (m .words) + 4 → entryRight (m .words) (entries m) e ≡ true
@@ -285,7 +285,7 @@ module _ (m : Mem) (f : WellFormed m) where
         let q : (4294967296 + r) % 256 ≡ r = omega arith in
         let z = f .zero-past (o .page) (4294967296 + r) (omega arith) in
         let i : 256 * s + r ≡ 256 * slotOfChunk m (o .page) ((4294967296 + r) / 256) + (4294967296 + r) % 256 = let g = slot-is e r l in omega arith in
-        ap (λ (x : ℕ). getD (chunks m) x 0) i ∙ z
+        ap (λ (x : ℕ). getD (chunkBytes m) x 0) i ∙ z
 
     held-right : SlotRight m s (holder m s)
     held-right = record {

@@ -15,7 +15,7 @@ use Rattle.index.specs.Index.{all}
 use Rattle.index.proofs.Logic.{and-left, and-right, and-both}
 use Rattle.store.specs.Mem.{Mem, journalWords, holders}
 use Rattle.formed.specs.Pages.{journalCount, journalPlace}
-use Rattle.formed.specs.Parts.{noteAt, noteAddress, noteFirst, noteLast}
+use Rattle.formed.specs.Parts.{notePlace, noteAddress, noteFirst, noteLast}
 use Rattle.formed.specs.Formed.{noted, journalRight}
 use Rattle.formed.specs.WellFormed.{holder, NotedRight}
 
@@ -37,13 +37,13 @@ module _ (m : Mem) (j i : ℕ) (l : i < journalWords (m .words)) where
   ns = take (3 * journalWords (m .words)) (drop (16 + 3 * journalWords (m .words) * j) (m .words))
 
   note-0 : getD ns (3 * i) 0 ≡ noteAddress m j i
-  note-0 = note-at (m .words) (journalWords (m .words)) j i 0 l (omega arith) (3 * i) (noteAt m j i) (omega arith) (omega arith)
+  note-0 = note-at (m .words) (journalWords (m .words)) j i 0 l (omega arith) (3 * i) (notePlace (m .words) j i) (omega arith) (omega arith)
 
   note-1 : getD ns (3 * i + 1) 0 ≡ noteFirst m j i
-  note-1 = note-at (m .words) (journalWords (m .words)) j i 1 l (omega arith) (3 * i + 1) (noteAt m j i + 1) (omega arith) (omega arith)
+  note-1 = note-at (m .words) (journalWords (m .words)) j i 1 l (omega arith) (3 * i + 1) (notePlace (m .words) j i + 1) (omega arith) (omega arith)
 
   note-2 : getD ns (3 * i + 2) 0 ≡ noteLast m j i
-  note-2 = note-at (m .words) (journalWords (m .words)) j i 2 l (omega arith) (3 * i + 2) (noteAt m j i + 2) (omega arith) (omega arith)
+  note-2 = note-at (m .words) (journalWords (m .words)) j i 2 l (omega arith) (3 * i + 2) (notePlace (m .words) j i + 2) (omega arith) (omega arith)
 
   abbrev noteTest : ℕ → ℕ → ℕ → Bool
   noteTest a s t = leb a 4294967295 && (eqb (holder m s) (keyOf (journalPlace j) 0 + a / 256) && eqb (holder m t) (keyOf (journalPlace j) 0 + (a + 31) / 256))

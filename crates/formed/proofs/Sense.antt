@@ -15,7 +15,7 @@ use Rattle.index.proofs.Logic.{lt-or-ge}
 use Rattle.index.proofs.Counts.{used-free}
 use Rattle.index.proofs.Orders.{index-count}
 use Rattle.index.proofs.Places.{seek-hit, seek-upto}
-use Rattle.store.specs.Mem.{Mem, layoutOf, slotCount, pageCount, heldNow, inUse, holders, entries, slotOrder, pageOrder, chunks}
+use Rattle.store.specs.Mem.{Mem, layoutOf, slotCount, pageCount, heldNow, inUse, holders, entries, slotOrder, pageOrder, chunkBytes}
 use Rattle.formed.specs.Pages.{fixed, dynamic}
 use Rattle.formed.specs.Parts.{entryOf, allocated, entriesLeft, slotOfChunk, holds, pool, byteAt}
 use Rattle.formed.specs.WellFormed.{holder, slotByte, HeldAt, OnePlace, ListedPage, WellFormed}
@@ -109,7 +109,7 @@ module _ (m : Mem) (f : WellFormed m) where
   unheld-byte p a h =
       let l = ltb-false (slotOfChunk m p (a / 256)) (slotCount (m .words)) h in
       let b = chunks-long m (f .lengths) in
-      List·getD-eq-default (chunks m) 0 (omega arith)
+      List·getD-eq-default (chunkBytes m) 0 (omega arith)
 
   -- the pages: allocated are the fixed and the listed
   pub allocated-is : (p : ℕ) → allocated m p ≡ true → (fixed (layoutOf (m .words)) p ≡ true) ⊎ ListedPage m p

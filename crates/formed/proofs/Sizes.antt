@@ -10,22 +10,10 @@ use lib.ListN.{length, getD, length-drop}
 use lib.Seq.{length-take-le}
 use borrow.Author.Tests.{le-leb, eq-eqb, leb-true, eqb-true}
 use Rattle.index.proofs.Logic.{and-left, and-right, and-both}
-use Rattle.store.specs.Mem.{Mem, slotCount, pageCount, journalWords, dynamicLength, holders, entries, chunks}
-use Rattle.formed.specs.Buffers.{bytesFor, keysFor, orderFor, wordsFor, lengthsFit}
+use Rattle.store.specs.Mem.{Mem, slotCount, pageCount, journalWords, dynamicLength, holders, entries, chunkBytes}
+use Rattle.formed.specs.Buffers.{bytesFor, keysFor, orderFor, wordsFor, countsFit, lengthsAre, lengthsFit, LengthsFit}
 use Rattle.formed.specs.Formed.{sized, fits, narrow}
 use Rattle.formed.specs.WellFormed.{Lengths}
-
--- what the test of the counts and the lengths means
-pub record Fit (b k o w c p j : ℕ) : Type 0 where
-  pub slots-lo : 1 ≤ c
-  pub slots-hi : c ≤ 65536
-  pub pages-lo : 1 ≤ p
-  pub pages-hi : p ≤ 4096
-  pub journal-hi : j ≤ 65536
-  pub in-bytes : b ≡ bytesFor c j
-  pub in-keys : k ≡ keysFor c p
-  pub in-order : o ≡ orderFor c p
-  pub in-words : w ≡ wordsFor j
 
 -- 01: no buffer is longer; the lower bounds of the counts are not needed
 pub counts-bound : (c p j : ℕ) → c ≤ 65536 → p ≤ 4096 → j ≤ 65536
@@ -33,56 +21,50 @@ pub counts-bound : (c p j : ℕ) → c ≤ 65536 → p ≤ 4096 → j ≤ 65536
 counts-bound c p j x y z = (omega arith, omega arith, omega arith, omega arith)
 
 module _ (b k o w c p j : ℕ) where
-  abbrev S₆ : Bool
-  S₆ = eqb o (orderFor c p) && eqb w (wordsFor j)
-
-  abbrev S₅ : Bool
-  S₅ = eqb k (keysFor c p) && S₆
-
-  abbrev S₄ : Bool
-  S₄ = eqb b (bytesFor c j) && S₅
-
   abbrev S₃ : Bool
-  S₃ = leb j 65536 && S₄
+  S₃ = eqb o (orderFor c p) && eqb w (wordsFor j)
 
-  abbrev P₃ : Bool
-  P₃ = leb 1 p && leb p 4096
+  abbrev S₂ : Bool
+  S₂ = eqb k (keysFor c p) && S₃
 
   abbrev P₂ : Bool
-  P₂ = leb 1 c && leb c 65536
+  P₂ = leb 1 p && leb p 4096
 
-  pub fit-are : lengthsFit b k o w c p j ≡ true → Fit b k o w c p j
+  abbrev P₁ : Bool
+  P₁ = leb 1 c && leb c 65536
+
+  pub fit-are : lengthsFit b k o w c p j ≡ true → LengthsFit b k o w c p j
   fit-are s =
-      let s₂ = and-right P₂ (P₃ && S₃) s in
-      let slots = and-left P₂ (P₃ && S₃) s in
-      let s₃ = and-right P₃ S₃ s₂ in
-      let pages = and-left P₃ S₃ s₂ in
-      let s₄ = and-right (leb j 65536) S₄ s₃ in
-      let s₅ = and-right (eqb b (bytesFor c j)) S₅ s₄ in
-      let s₆ = and-right (eqb k (keysFor c p)) S₆ s₅ in
+      let counts = and-left (countsFit c p j) (lengthsAre b k o w c p j) s in
+      let chunks = and-left P₁ (P₂ && leb j 65536) counts in
+      let rest = and-right P₁ (P₂ && leb j 65536) counts in
+      let pages = and-left P₂ (leb j 65536) rest in
+      let s₁ = and-right (countsFit c p j) (lengthsAre b k o w c p j) s in
+      let s₂ = and-right (eqb b (bytesFor c j)) S₂ s₁ in
+      let s₃ = and-right (eqb k (keysFor c p)) S₃ s₂ in
       record {
-        slots-lo = leb-true 1 c (and-left (leb 1 c) (leb c 65536) slots);
-        slots-hi = leb-true c 65536 (and-right (leb 1 c) (leb c 65536) slots);
+        chunks-lo = leb-true 1 c (and-left (leb 1 c) (leb c 65536) chunks);
+        chunks-hi = leb-true c 65536 (and-right (leb 1 c) (leb c 65536) chunks);
         pages-lo = leb-true 1 p (and-left (leb 1 p) (leb p 4096) pages);
         pages-hi = leb-true p 4096 (and-right (leb 1 p) (leb p 4096) pages);
-        journal-hi = leb-true j 65536 (and-left (leb j 65536) S₄ s₃);
-        in-bytes = eqb-true b (bytesFor c j) (and-left (eqb b (bytesFor c j)) S₅ s₄);
-        in-keys = eqb-true k (keysFor c p) (and-left (eqb k (keysFor c p)) S₆ s₅);
-        in-order = eqb-true o (orderFor c p) (and-left (eqb o (orderFor c p)) (eqb w (wordsFor j)) s₆);
-        in-words = eqb-true w (wordsFor j) (and-right (eqb o (orderFor c p)) (eqb w (wordsFor j)) s₆);
+        journal-hi = leb-true j 65536 (and-right P₂ (leb j 65536) rest);
+        in-bytes = eqb-true b (bytesFor c j) (and-left (eqb b (bytesFor c j)) S₂ s₁);
+        in-keys = eqb-true k (keysFor c p) (and-left (eqb k (keysFor c p)) S₃ s₂);
+        in-order = eqb-true o (orderFor c p) (and-left (eqb o (orderFor c p)) (eqb w (wordsFor j)) s₃);
+        in-words = eqb-true w (wordsFor j) (and-right (eqb o (orderFor c p)) (eqb w (wordsFor j)) s₃);
       }
 
-  pub fit-test : Fit b k o w c p j → lengthsFit b k o w c p j ≡ true
+  pub fit-test : LengthsFit b k o w c p j → lengthsFit b k o w c p j ≡ true
   fit-test r =
-      and-both P₂ (P₃ && S₃) (and-both (leb 1 c) (leb c 65536) (le-leb 1 c (r .slots-lo)) (le-leb c 65536 (r .slots-hi)))
-      (and-both P₃ S₃ (and-both (leb 1 p) (leb p 4096) (le-leb 1 p (r .pages-lo)) (le-leb p 4096 (r .pages-hi)))
-      (and-both (leb j 65536) S₄ (le-leb j 65536 (r .journal-hi))
-      (and-both (eqb b (bytesFor c j)) S₅ (eq-eqb b (bytesFor c j) (r .in-bytes))
-      (and-both (eqb k (keysFor c p)) S₆ (eq-eqb k (keysFor c p) (r .in-keys))
-      (and-both (eqb o (orderFor c p)) (eqb w (wordsFor j)) (eq-eqb o (orderFor c p) (r .in-order)) (eq-eqb w (wordsFor j) (r .in-words)))))))
+      and-both (countsFit c p j) (lengthsAre b k o w c p j)
+      (and-both P₁ (P₂ && leb j 65536) (and-both (leb 1 c) (leb c 65536) (le-leb 1 c (r .chunks-lo)) (le-leb c 65536 (r .chunks-hi)))
+      (and-both P₂ (leb j 65536) (and-both (leb 1 p) (leb p 4096) (le-leb 1 p (r .pages-lo)) (le-leb p 4096 (r .pages-hi))) (le-leb j 65536 (r .journal-hi))))
+      (and-both (eqb b (bytesFor c j)) S₂ (eq-eqb b (bytesFor c j) (r .in-bytes))
+      (and-both (eqb k (keysFor c p)) S₃ (eq-eqb k (keysFor c p) (r .in-keys))
+      (and-both (eqb o (orderFor c p)) (eqb w (wordsFor j)) (eq-eqb o (orderFor c p) (r .in-order)) (eq-eqb w (wordsFor j) (r .in-words)))))
 
   -- the same of a test that passed
-  pub lengths-bound : Fit b k o w c p j → (b ≤ 33554432) × (k ≤ 33554432) × (o ≤ 33554432) × (w ≤ 33554432)
+  pub lengths-bound : LengthsFit b k o w c p j → (b ≤ 33554432) × (k ≤ 33554432) × (o ≤ 33554432) × (w ≤ 33554432)
   lengths-bound r = (omega arith, omega arith, omega arith, omega arith)
 
 -- the counts, and the lengths of the buffers
@@ -90,24 +72,9 @@ module _ (m : Mem) where
   abbrev fits-them : Bool
   fits-them = lengthsFit (length (m .bytes)) (length (m .keys)) (length (m .order)) (length (m .words)) (slotCount (m .words)) (pageCount (m .words)) (journalWords (m .words))
 
-  abbrev Fits-them : Type 0
-  Fits-them = Fit (length (m .bytes)) (length (m .keys)) (length (m .order)) (length (m .words)) (slotCount (m .words)) (pageCount (m .words)) (journalWords (m .words))
-
   pub lengths-are : sized (length (m .bytes)) (length (m .keys)) (length (m .order)) (m .words) ≡ true → Lengths m
   unfolding sized
-  lengths-are s =
-      let r : Fits-them = fit-are _ _ _ _ _ _ _ (and-right (leb 16 (length (m .words))) fits-them s) in
-      record {
-        slots-lo = r .slots-lo;
-        slots-hi = r .slots-hi;
-        pages-lo = r .pages-lo;
-        pages-hi = r .pages-hi;
-        journal-hi = r .journal-hi;
-        in-bytes = r .in-bytes;
-        in-keys = r .in-keys;
-        in-order = r .in-order;
-        in-words = r .in-words;
-      }
+  lengths-are s = fit-are _ _ _ _ _ _ _ (and-right (leb 16 (length (m .words))) fits-them s)
 
   pub sized-long : 16 ≤ length (m .words) → fits-them ≡ sized (length (m .bytes)) (length (m .keys)) (length (m .order)) (m .words)
   unfolding sized
@@ -115,20 +82,7 @@ module _ (m : Mem) where
 
   pub sized-test : Lengths m → sized (length (m .bytes)) (length (m .keys)) (length (m .order)) (m .words) ≡ true
   unfolding sized
-  sized-test r =
-      let long = r .in-words in
-      let f : Fits-them = record {
-        slots-lo = r .slots-lo;
-        slots-hi = r .slots-hi;
-        pages-lo = r .pages-lo;
-        pages-hi = r .pages-hi;
-        journal-hi = r .journal-hi;
-        in-bytes = r .in-bytes;
-        in-keys = r .in-keys;
-        in-order = r .in-order;
-        in-words = r .in-words;
-      } in
-      and-both (leb 16 (length (m .words))) fits-them (le-leb 16 (length (m .words)) (omega arith)) (fit-test _ _ _ _ _ _ _ f)
+  sized-test r = let long = r .in-words in and-both (leb 16 (length (m .words))) fits-them (le-leb 16 (length (m .words)) (omega arith)) (fit-test _ _ _ _ _ _ _ r)
 
 -- the lengths of the parts
 module _ (m : Mem) (r : Lengths m) where
@@ -138,7 +92,7 @@ module _ (m : Mem) (r : Lengths m) where
   pub entries-long : length (entries m) ≡ pageCount (m .words) + 4
   entries-long = let h = r .in-keys in let d = length-drop (slotCount (m .words)) (m .keys) in omega arith
 
-  pub chunks-long : length (chunks m) ≡ 256 * slotCount (m .words)
+  pub chunks-long : length (chunkBytes m) ≡ 256 * slotCount (m .words)
   chunks-long = length-take-le (256 * slotCount (m .words)) (m .bytes) (let h = r .in-bytes in omega arith)
 
 -- the numbers of the head that have 32 bits
@@ -224,8 +178,8 @@ lengths-kept m m' e l =
     let p = e .pages in
     let j = e .journals in
     record {
-      slots-lo = let h = l .slots-lo in omega arith;
-      slots-hi = let h = l .slots-hi in omega arith;
+      chunks-lo = let h = l .chunks-lo in omega arith;
+      chunks-hi = let h = l .chunks-hi in omega arith;
       pages-lo = let h = l .pages-lo in omega arith;
       pages-hi = let h = l .pages-hi in omega arith;
       journal-hi = let h = l .journal-hi in omega arith;

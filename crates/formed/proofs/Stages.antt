@@ -8,7 +8,7 @@ use lib.ListN.{length, take, drop}
 use Rattle.page_ids.specs.Decode.{badLayout}
 use Rattle.index.specs.Index.{all, indexed}
 use Rattle.index.proofs.Logic.{and-left}
-use Rattle.store.specs.Mem.{Mem, layoutOf, slotCount, heldNow, inUse, holders, entries, slotOrder, pageOrder, chunks}
+use Rattle.store.specs.Mem.{Mem, layoutOf, slotCount, heldNow, inUse, holders, entries, slotOrder, pageOrder, chunkBytes}
 use Rattle.store.proofs.Parts.{sub-zero, rest-part}
 use Rattle.formed.specs.Pages.{journalCount}
 use Rattle.formed.specs.Formed.{narrow, headRight, entryRight, slotAt, journalRight, contents, sized, wellFormed}
@@ -27,7 +27,7 @@ module _ (m : Mem) where
   lent-entries = ap (λ (x : List ℕ). all (entryRight (m .words) x) (length x)) (rest-part (m .keys) c)
 
   pub lent-slots : all (slotAt (take (length (m .keys) - c) (drop c (m .keys))) (take (c - 0) (m .keys)) (take (256 * c - 0) (m .bytes))) (length (take (c - 0) (m .keys)))
-      ≡ all (slotAt (entries m) (holders m) (chunks m)) (length (holders m))
+      ≡ all (slotAt (entries m) (holders m) (chunkBytes m)) (length (holders m))
   lent-slots = rw (rest-part (m .keys) c, sub-zero c, sub-zero (256 * c))
 
   pub lent-journals : all (journalRight (take (c - 0) (m .keys)) (m .words)) journalCount ≡ all (journalRight (holders m) (m .words)) journalCount
@@ -41,7 +41,7 @@ module _ (m : Mem) where
   T₁ = all (entryRight (m .words) (entries m)) (length (entries m))
 
   abbrev T₂ : Bool
-  T₂ = all (slotAt (entries m) (holders m) (chunks m)) (length (holders m))
+  T₂ = all (slotAt (entries m) (holders m) (chunkBytes m)) (length (holders m))
 
   abbrev T₃ : Bool
   T₃ = all (journalRight (holders m) (m .words)) journalCount

@@ -9,7 +9,7 @@ use lib.ListN.{length, getD, take, drop}
 use Rattle.store.specs.Keys.{lastChunk, keyOf, keyEntry, keyChunk}
 use Rattle.page_ids.specs.Decode.{badLayout}
 use Rattle.index.specs.Index.{all, indexed}
-use Rattle.store.specs.Mem.{Mem, headLength, layoutOf, slotCount, pageCount, journalWords, heldNow, inUse, dynamicLength, journalLength, holders, entries, slotOrder, pageOrder, chunks}
+use Rattle.store.specs.Mem.{Mem, headLength, fixedCount, layoutOf, slotCount, pageCount, journalWords, heldNow, inUse, dynamicLength, journalLength, holders, entries, slotOrder, pageOrder, chunkBytes}
 use Rattle.formed.specs.Pages.{dynamic, group, journalCount, journalPlace}
 use Rattle.formed.specs.Buffers.{lengthsFit}
 
@@ -29,10 +29,10 @@ narrow w = fits (getD w 0 0) && (fits (getD w 1 0) && (fits (getD w 2 0) && (fit
 unfoldable pub headRight : List ℕ → Bool
 headRight w = narrow w && not (badLayout (layoutOf w))
 
--- entries 0 to 3 are the fixed pages; any other is free, or a dynamic page below the dynamic length, of an id of 32 bits
+-- the first entries are the fixed pages'; any other is free, or a dynamic page below the dynamic length, of an id of 32 bits
 unfoldable pub entryRight : List ℕ → List ℕ → ℕ → Bool
 entryRight w es e =
-    cond (ltb e 4) (eqb (getD es e 0) (getD w e 0 + 1))
+    cond (ltb e fixedCount) (eqb (getD es e 0) (getD w e 0 + 1))
     (eqb (getD es e 0) 0 || (leb (getD es e 0) 4294967296 && (dynamic (layoutOf w) (getD es e 0 - 1) && ltb (group (layoutOf w) (getD es e 0 - 1)) (dynamicLength w))))
 
 -- every element is 0
@@ -72,7 +72,7 @@ journalRight hs w j =
 unfoldable pub contents : Mem → Bool
 contents m =
     all (entryRight (m .words) (entries m)) (length (entries m))
-    && (all (slotAt (entries m) (holders m) (chunks m)) (length (holders m))
+    && (all (slotAt (entries m) (holders m) (chunkBytes m)) (length (holders m))
     && all (journalRight (holders m) (m .words)) journalCount)
 
 -- WELL FORMED: refusal 3 is that this is false

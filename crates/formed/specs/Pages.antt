@@ -6,6 +6,7 @@ use Prim.Native.Nat.{ℕ, zero, suc, _-_, _/_, _<_, _≤_}
 use lib.Dec.{leb, ltb}
 use Rattle.page_ids.specs.Decode.{decoded, isDynamic, isFixed}
 use Rattle.page_ids.specs.declared.Layout.{Layout}
+use Rattle.store.specs.Mem.{fixedCount}
 
 -- the fixed page ids in 01's order: 0 static, 1 calldata, 2 bootloader heap, 3 bootloader aux; past these a number that is no page id
 abbrev pub fixedId : Layout → ℕ → ℕ
@@ -17,7 +18,7 @@ fixedId l (suc (suc (suc (suc i)))) = 4294967296
 
 -- 01's rule of refusal 1, as it holds of a memory: the four fixed page ids are distinct, and the stride is not below 4
 pub record LayoutRule (l : Layout) : Type 0 where
-  pub distinct : (i j : ℕ) → i < j → j < 4 → fixedId l i ≡ fixedId l j → ⊥
+  pub distinct : (i j : ℕ) → i < j → j < fixedCount → fixedId l i ≡ fixedId l j → ⊥
   pub stride : 4 ≤ l .stride
 
 unfoldable pub fixed : Layout → ℕ → Bool
@@ -44,5 +45,6 @@ journalPage l j = fixedId l (journalPlace j)
 
 -- j is the number of page p's journal, or p has none and j is the number of journals
 pub record JournalOf (l : Layout) (p j : ℕ) : Type 0 where
+  pub most : j ≤ journalCount
   pub own : j < journalCount → p ≡ journalPage l j
   pub none : journalCount ≤ j → (i : ℕ) → i < journalCount → p ≡ journalPage l i → ⊥

@@ -7,9 +7,9 @@ use Prim.Native.Nat.{ℕ, _+_, _*_, _/_, _<_, _≤_}
 use lib.ListN.{length, getD}
 use Rattle.store.specs.Keys.{lastChunk, keyOf, keyEntry, keyChunk}
 use Rattle.index.specs.Index.{Index}
-use Rattle.store.specs.Mem.{Mem, layoutOf, slotCount, pageCount, journalWords, heldNow, inUse, dynamicLength, journalLength, holders, entries, slotOrder, pageOrder, chunks}
+use Rattle.store.specs.Mem.{Mem, fixedCount, layoutOf, slotCount, pageCount, journalWords, heldNow, inUse, dynamicLength, journalLength, holders, entries, slotOrder, pageOrder, chunkBytes}
 use Rattle.formed.specs.Pages.{LayoutRule, fixedId, fixed, dynamic, group, journalCount, journalPlace, journalPage}
-use Rattle.formed.specs.Buffers.{bytesFor, keysFor, orderFor, wordsFor}
+use Rattle.formed.specs.Buffers.{LengthsFit}
 use Rattle.formed.specs.Parts.{holds, byteAt, noteAddress, noteFirst, noteLast}
 
 -- ---- chunks by slot, pages by entry: the words in which the sentence speaks of page ids and chunk numbers
@@ -19,7 +19,7 @@ holder m s = getD (holders m) s 0
 
 -- byte r of slot s
 abbrev pub slotByte : Mem → ℕ → ℕ → ℕ
-slotByte m s r = getD (chunks m) (256 * s + r) 0
+slotByte m s r = getD (chunkBytes m) (256 * s + r) 0
 
 abbrev pub Pooled : Mem → ℕ → Type 0
 Pooled m s = holder m s ≡ 0
@@ -37,9 +37,9 @@ pub record OnePlace (m : Mem) (s : ℕ) : Type 0 where
   pub there : HeldAt m s page chunk
   pub only : (p k : ℕ) → HeldAt m s p k → (p ≡ page) × (k ≡ chunk)
 
--- entry e lists page p (entries 0 to 3 are the fixed pages')
+-- entry e lists page p (the first entries are the fixed pages')
 pub record ListedAt (m : Mem) (e p : ℕ) : Type 0 where
-  pub past-fixed : 4 ≤ e
+  pub past-fixed : fixedCount ≤ e
   pub there : getD (entries m) e 0 ≡ p + 1
 
 pub record ListedPage (m : Mem) (p : ℕ) : Type 0 where
@@ -47,16 +47,8 @@ pub record ListedPage (m : Mem) (p : ℕ) : Type 0 where
   pub there : ListedAt m entry p
 
 -- ---- refusal 2: the bounds of the counts, and one length for each buffer
-pub record Lengths (m : Mem) : Type 0 where
-  pub slots-lo : 1 ≤ slotCount (m .words)
-  pub slots-hi : slotCount (m .words) ≤ 65536
-  pub pages-lo : 1 ≤ pageCount (m .words)
-  pub pages-hi : pageCount (m .words) ≤ 4096
-  pub journal-hi : journalWords (m .words) ≤ 65536
-  pub in-bytes : length (m .bytes) ≡ bytesFor (slotCount (m .words)) (journalWords (m .words))
-  pub in-keys : length (m .keys) ≡ keysFor (slotCount (m .words)) (pageCount (m .words))
-  pub in-order : length (m .order) ≡ orderFor (slotCount (m .words)) (pageCount (m .words))
-  pub in-words : length (m .words) ≡ wordsFor (journalWords (m .words))
+abbrev pub Lengths : Mem → Type 0
+Lengths m = LengthsFit (length (m .bytes)) (length (m .keys)) (length (m .order)) (length (m .words)) (slotCount (m .words)) (pageCount (m .words)) (journalWords (m .words))
 
 -- ---- what the encoding itself asks; buffers that break it encode no memory
 -- word i of journal j: the address has 32 bits, and the slots noted hold the word's first and last chunk
@@ -68,7 +60,7 @@ pub record NotedRight (m : Mem) (j i : ℕ) : Type 0 where
 pub record Encoded (m : Mem) : Type 0 where
   pub slots : Index (holders m) (slotOrder m) (heldNow (m .words))
   pub pages : Index (entries m) (pageOrder m) (inUse (m .words))
-  pub fixed-four : (e : ℕ) → e < 4 → getD (entries m) e 0 ≡ fixedId (layoutOf (m .words)) e + 1
+  pub fixed-four : (e : ℕ) → e < fixedCount → getD (entries m) e 0 ≡ fixedId (layoutOf (m .words)) e + 1
   pub notes : (j i : ℕ) → j < journalCount → i < journalLength (m .words) j → NotedRight m j i
   pub layout-width : (i : ℕ) → i < 6 → getD (m .words) i 0 ≤ 4294967295
   pub length-width : dynamicLength (m .words) ≤ 4294967295

@@ -29,7 +29,7 @@ fn entry_ok(entries: &[u64], words: &[u64], layout: Layout, e: usize) -> bool
     ensures { λ r. ⌜ r ≡ entryRight (now (words .entry)) (now (entries .entry)) e ⌝ }
 {
     let x = entries[e];
-    if e < 4 {
+    if e < head::FIXED_ENTRIES {
         if x == 0 {
             return false;
         }

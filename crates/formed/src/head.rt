@@ -11,6 +11,13 @@ use page_ids::Layout;
 use page_ids::PageId;
 use store::head;
 
+// How many numbers the head has, and what a word of each journal takes: 32 bytes and three numbers a journal.
+const HEAD_LENGTH: u64 = head::LENGTH as u64;
+
+const WORD_BYTES: u64 = 32 * head::JOURNAL_COUNT as u64;
+
+const WORD_NUMBERS: u64 = 3 * head::JOURNAL_COUNT as u64;
+
 // Whether the counts of chunks, of pages and of words of a journal are within their bounds, and the four lengths those that they ask for.
 pub fn lengths_ok(
     bytes: usize,
@@ -38,16 +45,16 @@ pub fn lengths_ok(
     if 65536 < j {
         return false;
     }
-    if bytes as u64 != 256 * c + 64 * j {
+    if bytes as u64 != 256 * c + WORD_BYTES * j {
         return false;
     }
-    if keys as u64 != c + p + 4 {
+    if keys as u64 != c + p + head::FIXED_PAGES {
         return false;
     }
-    if order as u64 != 3 * c + p + 4 {
+    if order as u64 != 3 * c + p + head::FIXED_PAGES {
         return false;
     }
-    if words as u64 != 16 + 6 * j {
+    if words as u64 != HEAD_LENGTH + WORD_NUMBERS * j {
         return false;
     }
     true

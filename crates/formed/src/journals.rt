@@ -5,7 +5,7 @@ ghost use Prim.Native.Nat.{_+_, _*_, _/_, _<_, _≤_};
 ghost use lib.Dec.{eqb, leb};
 ghost use lib.ListN.{length, getD, take, drop};
 ghost use Rattle.index.specs.Index.{all};
-ghost use Rattle.store.specs.Mem.{headLength, layoutOf, journalWords};
+ghost use Rattle.store.specs.Mem.{headLength, fixedCount, layoutOf, journalWords};
 ghost use Rattle.formed.specs.Pages.{journalCount, journalPlace, JournalOf};
 ghost use Rattle.formed.specs.Buffers.{wordsFor};
 ghost use Rattle.formed.specs.Formed.{noted, journalRight};
@@ -15,12 +15,12 @@ use store::head;
 // The entry of journal j's page.
 pub fn place(j: usize) -> usize
     requires { ⌜ j < journalCount ⌝ }
-    ensures { λ r. ⌜ (r ≡ journalPlace j) × (r < 4) ⌝ }
+    ensures { λ r. ⌜ (r ≡ journalPlace j) × (r < fixedCount) ⌝ }
 {
     if j == 0 {
-        return 2;
+        return head::BOOTLOADER_HEAP;
     }
-    3
+    head::BOOTLOADER_AUX
 }
 
 // Which journal a page has; how many journals there are, where it has none.

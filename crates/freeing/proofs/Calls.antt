@@ -24,7 +24,7 @@ use Rattle.view.proofs.Counts.{fixed-only}
 use Rattle.checks.proofs.Chosen.{chosen-4, past-4, none-is, fixed-is}
 use Rattle.checks.proofs.Passed.{decodable}
 use Rattle.drops.specs.Drops.{PageAsks}
-use Rattle.freeing.specs.Freeing.{emptied, ShortenAsks}
+use Rattle.free_steps.specs.Freeing.{emptied, ShortenAsks}
 
 -- ---- a free; d is the page as decoded
 module _ (s : Setting) (v : View) (p : ℕ) (d : Page) (is : d ≡ decoded (s .layout) p) where

@@ -13,8 +13,6 @@ use page_ids::Address;
 use page_ids::PageId;
 use store::head;
 
-pub mod steps;
-
 // The number with which a free is refused, or 0.
 fn free_refusal(bytes: &[u8], keys: &[u64], order: &[u32], words: &[u64], page: PageId) -> u32
     ensures { λ r. let m = mem (now (bytes .entry)) (now (keys .entry)) (now (order .entry)) (now (words .entry)) in ⌜ r ≡ refusalNumber (onMemory m (freeChecks (settingOf m) (viewOf m) (page .0)) nothing) ⌝ }
@@ -22,7 +20,7 @@ fn free_refusal(bytes: &[u8], keys: &[u64], order: &[u32], words: &[u64], page: 
     if !formed::well_formed(bytes, keys, order, words) {
         return 3;
     }
-    let decoded = checks::decode(bytes, keys, order, words, page);
+    let decoded = checks::decode(words, page);
     if page_ids::is_undecodable(decoded) {
         return 4;
     }
@@ -58,7 +56,7 @@ fn is_dynamic(bytes: &[u8], keys: &[u64], order: &[u32], words: &[u64], page: Pa
     requires { ⌜ WellFormed (mem (now bytes) (now keys) (now order) (now words)) ⌝ }
     ensures { λ r. let m = mem (now (bytes .entry)) (now (keys .entry)) (now (order .entry)) (now (words .entry)) in ⌜ r ≡ (dynamic (layoutOf (now (words .entry))) (page .0) && viewOf m .allocated (page .0)) ⌝ }
 {
-    let decoded = checks::decode(bytes, keys, order, words, page);
+    let decoded = checks::decode(words, page);
     if page_ids::is_undecodable(decoded) {
         return false;
     }
@@ -86,7 +84,7 @@ pub fn compact_to_window(
     if !is_dynamic(bytes, keys, order, words, page) {
         return Answer::Done;
     }
-    steps::retain_window(bytes, keys, order, words, page, start, length);
+    free_steps::retain_window(bytes, keys, order, words, page, start, length);
     Answer::Done
 }
 
@@ -117,7 +115,7 @@ pub fn truncate_dynamic_to(
     if refusal != 0 {
         return Answer::Refused(refusal);
     }
-    steps::free_groups(bytes, keys, order, words, len);
-    steps::shorten(bytes, keys, order, words, len);
+    free_steps::free_groups(bytes, keys, order, words, len);
+    free_steps::shorten(bytes, keys, order, words, len);
     Answer::Done
 }

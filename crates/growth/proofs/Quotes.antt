@@ -23,7 +23,7 @@ use Rattle.view.specs.Instructions.{Operand, InstructionResult, panic, loaded}
 use Rattle.view.specs.Calls.{Value, instructionResult, Load, answerOf}
 use Rattle.plain.specs.Claim.{Steps}
 use Rattle.growth.specs.Meet.{LoadsAndStoresMeet}
-use Rattle.growth.specs.Quotes.{Loads, none, more, ends, QuoteOfLoads}
+use Rattle.growth.specs.Quotes.{LoadRun, none, more, ends, QuoteOfLoads}
 use Rattle.growth.proofs.Carried.{frameTold, load-paid, growthOf, on-frame, paid-is}
 
 -- ---- what a load tells
@@ -64,7 +64,7 @@ abbrev from : (gas : ℕ) → List ℕ → ℕ → Growth → RunEnd
 from gas list at g = cond (g .paid) (walked gas list (g .gas) (g .bound) (suc at)) (endOf gas (g .gas) (g .bound) at)
 
 module _ (S : Steps) (I : LoadsAndStoresMeet S) {area : Area} where
-  falls : {f g : Frame} {list : List ℕ} {n : ℕ} → Loads S area f list n g → g .gas ≤ f .gas
+  falls : {f g : Frame} {list : List ℕ} {n : ℕ} → LoadRun S area f list n g → g .gas ≤ f .gas
   falls none = omega arith
   falls {f} (more {m} {x = x} {r = r} s rest) =
       let one = accessed-less (f .gas) (boundOf f area) (x .word) (f .gas) (omega arith) (carried-out m area f x r (I .loads s .answer)) in
@@ -74,7 +74,7 @@ module _ (S : Steps) (I : LoadsAndStoresMeet S) {area : Area} where
       let one = accessed-less (f .gas) (boundOf f area) (x .word) (f .gas) (omega arith) (panics m area f x r (I .loads s .answer)) in
       omega (arith, one)
 
-  empties : {f g : Frame} {list : List ℕ} {n : ℕ} → Loads S area f list n g → n < length list → g .gas ≡ 0
+  empties : {f g : Frame} {list : List ℕ} {n : ℕ} → LoadRun S area f list n g → n < length list → g .gas ≡ 0
   empties none l = absurd (omega arith)
   empties (more s rest) l = empties rest (omega arith)
   empties {f} (ends {m} {x = x} {r = r} s) l =
@@ -82,7 +82,7 @@ module _ (S : Steps) (I : LoadsAndStoresMeet S) {area : Area} where
       ap (λ (g : Growth). g .gas) (e ∙ accessed-short (f .gas) (boundOf f area) (x .word) (sym (ap (λ (g : Growth). g .paid) e)))
 
   module _ (gas : ℕ) where
-    walks : {f g : Frame} {list : List ℕ} {n : ℕ} → Loads S area f list n g → (at : ℕ)
+    walks : {f g : Frame} {list : List ℕ} {n : ℕ} → LoadRun S area f list n g → (at : ℕ)
         → walked gas list (f .gas) (boundOf f area) at ≡ endOf gas (g .gas) (boundOf g area) (at + n)
     unfolding walked
     walks {f} none at = let e : at ≡ at + 0 = omega arith in ap (endOf gas (f .gas) (boundOf f area)) e
@@ -94,7 +94,7 @@ module _ (S : Steps) (I : LoadsAndStoresMeet S) {area : Area} where
         let stops : walked gas (x .word ∷ list) (f .gas) (boundOf f area) at ≡ endOf gas (g .gas) (boundOf g area) at = ap (from gas list at) (sym (panics m area f x r (I .loads s .answer))) in
         stops ∙ ap (endOf gas (g .gas) (boundOf g area)) e
 
-  equals : {f g : Frame} {list : List ℕ} {n : ℕ} → length list ≤ 4096 → Loads S area f list n g
+  equals : {f g : Frame} {list : List ℕ} {n : ℕ} → length list ≤ 4096 → LoadRun S area f list n g
       → quoted list (f .gas) (boundOf f area) ≡ done (endOf (f .gas) (g .gas) (boundOf g area) n)
   equals {f} {g} {list} {n} few l =
       let e : 0 + n ≡ n = omega arith in

@@ -7,16 +7,9 @@ use Prim.Native.Nat.{ℕ, _≤_, _<_}
 use lib.ListN.{length, getD, take}
 use Rattle.store.specs.Mem.{Mem}
 use Rattle.trace.specs.Language.{meaning}
-use Rattle.trace.specs.Text.{Reported, textOf, Wrote}
+use Rattle.trace_text.specs.Text.{Reported, textOf, Wrote}
 use Rattle.heaptrace.specs.declared.lines.State.{State}
-use Rattle.heaptrace.specs.Trace.{TraceTells}
-
--- 01: it has space for 128 chunks, 64 pages and 256 journal words. docs/BUFFERS.md states the lengths
-abbrev pub Within : (chunks pages room : ℕ) → Type 0
-Within chunks pages room = (chunks ≤ 128) × (pages ≤ 64) × (room ≤ 256)
-
-abbrev pub Space : (bytes keys order words : List ℕ) → Type 0
-Space bytes keys order words = (length bytes ≡ 49152) × (length keys ≡ 196) × (length order ≡ 452) × (length words ≡ 1552)
+use Rattle.trace_calls.specs.Trace.{TraceTells}
 
 -- the state after the output is written
 abbrev pub outputWritten : State → State
@@ -41,10 +34,10 @@ pub record Gathered (held : ℕ) (piece o d : List ℕ) (n : ℕ) : Type 0 where
 
 -- ---- a line that is answered: what it does, and that the answer's text is what the output has next
 pub record Answers (s : State) (m : Mem) (line out : List ℕ) (s' : State) (m' : Mem) (out' : List ℕ) : Type 0 where
-  pub told : Reported
-  pub tells : TraceTells (s .run) m (meaning (take (s .held) line)) (s' .run) told m'
+  pub reply : Reported
+  pub tells : TraceTells (s .run) m (meaning (take (s .held) line)) (s' .run) reply m'
   -- the text stands after what is gathered, or at the start where that is written first
   pub at : ℕ
   pub after : (at ≡ s .out) ⊎ (at ≡ 0)
-  pub text : Wrote (textOf told ++ (10 ∷ [])) at out out' (s' .out)
+  pub text : Wrote (textOf reply ++ (10 ∷ [])) at out out' (s' .out)
   pub held : s' .held ≡ 0

@@ -1,3 +1,2 @@
--- The definitions that the contracts of this crate cite: Trace says what a line does, Bounds what the program keeps.
-pub mod Trace
+-- The definitions that the contracts of this crate cite: what the program keeps.
 pub mod Bounds

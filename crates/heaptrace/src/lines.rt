@@ -3,12 +3,11 @@ ghost use Prim.Native.Nat.{_≤_, _<_};
 ghost use lib.ListN.{length};
 ghost use mathlib.Core.Path.{_≡_};
 ghost use Rattle.io.specs.Counts.{Counts};
-ghost use Rattle.heaptrace.specs.Bounds.{Bounded, Space, LineEnd, Gathered, outputWritten, Answers};
+ghost use Rattle.heaptrace.specs.Bounds.{Bounded, LineEnd, Gathered, outputWritten, Answers};
+ghost use Rattle.trace_calls.specs.Space.{Space};
 ghost use Rattle.store.specs.Mem.{mem};
 ghost use mathlib.Core.Logic.{_⊎_};
-use crate::step;
-use crate::step::Run;
-use trace::text;
+use trace_calls::Run;
 
 // The open memory's counts; how many bytes of the line and of the output are gathered.
 pub struct State {
@@ -98,12 +97,12 @@ fn answer(
 {
     let s = roomy(output, state);
     let held = s.held;
-    let done = step::take(bytes, keys, order, words, s.run, &line[0..held]);
+    let done = trace_calls::take(bytes, keys, order, words, s.run, &line[0..held]);
     let run = done.run;
     State {
         run: run,
         held: 0,
-        out: text::put_reply(output, s.out, done.reply),
+        out: trace_text::put_reply(output, s.out, done.reply),
     }
 }
 
@@ -173,7 +172,7 @@ fn start() -> State
         begun: false,
         chunks: 0,
         pages: 0,
-        room: 0,
+        journal_words: 0,
     };
     State {
         run: run,

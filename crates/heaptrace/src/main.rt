@@ -1,7 +1,5 @@
 // Reads a trace from standard input and prints an answer to each of its lines. Document 01, 'The trace program'.
 mod lines;
-mod step;
-
 // Space for 128 chunks, 64 pages and 256 words of each journal, of the lengths that docs/BUFFERS.md states.
 fn main() {
     let mut bytes = [0u8; 49152];

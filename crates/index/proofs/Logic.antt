@@ -1,12 +1,13 @@
 -- Facts on tests and numbers that the laws share.
 -- Assumes nothing.
-use mathlib.Core.Path.{_≡_, refl, sym}
+use mathlib.Core.Path.{_≡_, refl, sym, _∙_}
 use mathlib.Core.Logic.{_⊎_, inl, inr}
-use mathlib.Core.Bool.{Bool, true, false, _&&_, false≢true, and-false}
+use mathlib.Core.Bool.{Bool, true, false, not, _&&_, false≢true, and-false}
 use Prim.Native.Nat.{ℕ, _≤_, _<_}
 use native.Mathlib.Nat.{le-of-suc-le-suc, lt-of-not-le}
 use native.Mathlib.Decide.{ℕ-discrete, decLt}
 use native.Mathlib.Omega.{arith}
+use borrow.Author.Tests.{not-true, not-false}
 
 pub and-left : (a b : Bool) → a && b ≡ true → a ≡ true
 and-left true b e = refl
@@ -52,3 +53,10 @@ both-ways false false f g = refl
 pub not-held : (b : Bool) → (b ≡ true → ⊥) → b ≡ false
 not-held true h = absurd (h refl)
 not-held false h = refl
+
+-- a test by a call: `if !call() {..}`
+pub passed : {b x : Bool} → b ≡ x → not b ≡ false → x ≡ true
+passed {b} e q = sym e ∙ not-false b q
+
+pub failed : {b x : Bool} → b ≡ x → not b ≡ true → x ≡ false
+failed {b} e q = sym e ∙ not-true b q

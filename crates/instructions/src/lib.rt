@@ -3,41 +3,15 @@
 ghost use Rattle.word.specs.Value.{value};
 ghost use Rattle.store.specs.Mem.{mem};
 ghost use Rattle.view.specs.Calls.{Call};
-ghost use Rattle.instructions.specs.Executions.{operandOf, hookOf, Runs};
+ghost use Rattle.execution.specs.Executions.{operandOf, hookOf, Runs};
+use execution::Execution;
+use execution::ExecutionStatus;
+use execution::Hook;
+use execution::Operand;
 use page_ids::Address;
 use state::Area;
 use state::Frame;
 use word::Word;
-
-mod parts;
-
-// A word, and whether it is tagged as a pointer.
-pub struct Operand {
-    pub word: Word,
-    pub tagged: bool,
-}
-
-// Whether hooking is on, and the hook address.
-pub struct Hook {
-    pub on: bool,
-    pub address: Address,
-}
-
-// How an instruction ended. The run goes on, or stops on the hook with a value: vm2's `ExecutionStatus`, with the stop reason that a store has.
-pub enum ExecutionStatus {
-    Running,
-    SuspendedOnHook(u32),
-    Panicked,
-    Refused(u32),
-}
-
-// What an instruction gives: the word that it read, the operand plus 32, and the frame. A panic gives the frame alone, and a refusal the frame as it was.
-pub struct Execution {
-    pub status: ExecutionStatus,
-    pub word: Word,
-    pub operand: Operand,
-    pub frame: Frame,
-}
 
 // Reads the word at the operand, in the page of an area, and pays for the area's growth.
 pub fn load(
@@ -52,11 +26,11 @@ pub fn load(
     ensures { λ r. ⌜ Runs (mem (now (bytes .entry)) (now (keys .entry)) (now (order .entry)) (now (words .entry))) (Call.Load area frame (operandOf operand)) frame r (mem (now (bytes .entry)) (now (keys .entry)) (now (order .entry)) (now (words .entry))) ⌝ }
 {
     if !formed::well_formed(bytes, keys, order, words) {
-        return parts::refused(3, frame);
+        return execution::refused(3, frame);
     }
-    let page = parts::page_of(frame, area);
-    let step = parts::reach(frame, area, operand.word);
-    parts::load_at(bytes, keys, order, words, page, operand, step)
+    let page = execution::page_of(frame, area);
+    let step = execution::reach(frame, area, operand.word);
+    execution::load_at(bytes, keys, order, words, page, operand, step)
 }
 
 // Writes a word at the operand, in the page of an area, and pays for the area's growth; stops on the hook.
@@ -74,11 +48,11 @@ pub fn store(
     ensures { λ r. ⌜ Runs (mem (now (bytes .entry)) (now (keys .entry)) (now (order .entry)) (now (words .entry))) (Call.Store area frame (operandOf operand) (value (word .limbs)) (hookOf hook)) frame r (mem (now (bytes .exit)) (now (keys .exit)) (now (order .exit)) (now (words .exit))) ⌝ }
 {
     if !formed::well_formed(bytes, keys, order, words) {
-        return parts::refused(3, frame);
+        return execution::refused(3, frame);
     }
-    let page = parts::page_of(frame, area);
-    let step = parts::reach(frame, area, operand.word);
-    parts::store_at(
+    let page = execution::page_of(frame, area);
+    let step = execution::reach(frame, area, operand.word);
+    execution::store_at(
         bytes,
         keys,
         order,
@@ -104,26 +78,26 @@ pub fn load_pointer(
     ensures { λ r. ⌜ Runs (mem (now (bytes .entry)) (now (keys .entry)) (now (order .entry)) (now (words .entry))) (Call.LoadPointer frame (operandOf operand)) frame r (mem (now (bytes .entry)) (now (keys .entry)) (now (order .entry)) (now (words .entry))) ⌝ }
 {
     if !formed::well_formed(bytes, keys, order, words) {
-        return parts::refused(3, frame);
+        return execution::refused(3, frame);
     }
     if !operand.tagged {
-        return parts::panicked(frame);
+        return execution::panicked(frame);
     }
     let pointer = fat_pointer::from_u256(operand.word);
     if pointer.offset > word::LAST_ADDRESS {
-        return parts::panicked(frame);
+        return execution::panicked(frame);
     }
     if pointer.length > 4294967295 - pointer.start {
-        return parts::refused(14, frame);
+        return execution::refused(14, frame);
     }
     let end = pointer.start + pointer.length;
-    let first = pointer.start + parts::lesser(pointer.offset, pointer.length);
-    let n = parts::count(first, end);
+    let first = pointer.start + execution::lesser(pointer.offset, pointer.length);
+    let n = execution::count(first, end);
     let page = pointer.memory_page;
     let start = Address(first);
-    let read = reads::steps::read_padded(bytes, keys, order, words, page, start, n);
+    let read = read_steps::read_padded(bytes, keys, order, words, page, start, n);
     let word = word::from_big_endian(read);
-    parts::carried_out(ExecutionStatus::Running, word, operand, true, frame)
+    execution::carried_out(ExecutionStatus::Running, word, operand, true, frame)
 }
 
 // Reads the word at the operand in the static page.
@@ -138,11 +112,11 @@ pub fn load_static(
     ensures { λ r. ⌜ Runs (mem (now (bytes .entry)) (now (keys .entry)) (now (order .entry)) (now (words .entry))) (Call.LoadStatic frame (operandOf operand)) frame r (mem (now (bytes .entry)) (now (keys .entry)) (now (order .entry)) (now (words .entry))) ⌝ }
 {
     if !formed::well_formed(bytes, keys, order, words) {
-        return parts::refused(3, frame);
+        return execution::refused(3, frame);
     }
-    let page = parts::static_page(words);
-    let step = parts::reach_static(frame, operand.word);
-    parts::load_at(bytes, keys, order, words, page, operand, step)
+    let page = execution::static_page(words);
+    let step = execution::reach_static(frame, operand.word);
+    execution::load_at(bytes, keys, order, words, page, operand, step)
 }
 
 // Writes a word at the operand in the static page.
@@ -158,15 +132,15 @@ pub fn store_static(
     ensures { λ r. ⌜ Runs (mem (now (bytes .entry)) (now (keys .entry)) (now (order .entry)) (now (words .entry))) (Call.StoreStatic frame (operandOf operand) (value (word .limbs))) frame r (mem (now (bytes .exit)) (now (keys .exit)) (now (order .exit)) (now (words .exit))) ⌝ }
 {
     if !formed::well_formed(bytes, keys, order, words) {
-        return parts::refused(3, frame);
+        return execution::refused(3, frame);
     }
-    let page = parts::static_page(words);
-    let step = parts::reach_static(frame, operand.word);
+    let page = execution::static_page(words);
+    let step = execution::reach_static(frame, operand.word);
     let off = Hook {
         on: false,
         address: Address(0),
     };
-    parts::store_at(
+    execution::store_at(
         bytes,
         keys,
         order,

@@ -18,7 +18,8 @@ use Rattle.view.specs.View.{View, Setting, settingOf, viewOf}
 use Rattle.view.specs.Does.{Shows}
 use Rattle.view.specs.Inner.{noting, NoteAsks}
 use Rattle.view.proofs.Equal.{view-by}
-use Rattle.journal.specs.Steps.{wordNow, alignedFrom, AlignedAsks}
+use Rattle.view.specs.Steps.{wordNow}
+use Rattle.journal.specs.Steps.{alignedFrom, AlignedAsks}
 use Rattle.journal.proofs.Lists.{tab-snoc}
 use Rattle.journal.proofs.Shown.{shows-then, shows-same}
 

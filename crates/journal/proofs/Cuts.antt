@@ -13,7 +13,7 @@ use borrow.Author.Tests.{eq-eqb, ne-eqb}
 use Rattle.index.proofs.Logic.{same-or-not, lt-or-ge}
 use Rattle.store.specs.Mem.{Mem, mem, slotCount, journalWords, journalLength}
 use Rattle.formed.specs.Pages.{journalCount}
-use Rattle.formed.specs.Parts.{tab, journal, noteAddress, noteFirst, noteLast}
+use Rattle.formed.specs.Parts.{tab, journal, noteAddress, noteFirst, noteLast, notePlace}
 use Rattle.formed.specs.WellFormed.{WellFormed, NotedRight}
 use Rattle.formed.proofs.Facts.{Facts}
 use Rattle.formed.proofs.Meaning.{facts-of, formed-by}
@@ -21,7 +21,6 @@ use Rattle.view.specs.View.{settingOf, viewOf}
 use Rattle.view.specs.Steps.{forgotten}
 use Rattle.view.specs.Does.{Shows}
 use Rattle.view.proofs.Equal.{view-by}
-use Rattle.journal.specs.Words.{notePlace}
 use Rattle.journal.specs.Steps.{cutting}
 use Rattle.formed.proofs.Same.{tab-upto}
 use Rattle.journal.proofs.Lists.{tab-take}

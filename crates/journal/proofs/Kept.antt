@@ -12,14 +12,13 @@ use Rattle.formed.proofs.Sizes.{lengths-kept}
 use Rattle.store.specs.Keys.{keyOf, keyEntry}
 use Rattle.page_ids.specs.declared.Layout.{Layout}
 use Rattle.index.specs.Index.{indexed, seek, freeCount}
-use Rattle.store.specs.Mem.{Mem, mem, layoutOf, slotCount, journalWords, journalLength, heldNow, inUse, dynamicLength, holders, entries, slotOrder, pageOrder, chunks}
+use Rattle.store.specs.Mem.{Mem, mem, layoutOf, slotCount, journalWords, journalLength, heldNow, inUse, dynamicLength, holders, entries, slotOrder, pageOrder, chunkBytes}
 use Rattle.formed.specs.Pages.{LayoutRule, dynamic, group, journalCount, journalPlace}
-use Rattle.formed.specs.Parts.{tab, Note, byteAt, slotOfChunk, holds, pool, allocated, entriesLeft, journal, noteAddress, noteFirst, noteLast}
+use Rattle.formed.specs.Parts.{tab, Note, byteAt, slotOfChunk, holds, pool, allocated, entriesLeft, journal, noteAddress, noteFirst, noteLast, notePlace}
 use Rattle.formed.specs.WellFormed.{holder, Lengths, NotedRight}
 use Rattle.formed.proofs.Facts.{Facts, SlotRight, PageRight}
 use Rattle.view.specs.View.{View, settingOf, viewOf}
 use Rattle.view.proofs.Equal.{view-by}
-use Rattle.journal.specs.Words.{notePlace}
 use Rattle.formed.proofs.Same.{tab-upto}
 
 -- word i of journal j, of a memory with c slots and room for r words in each journal
@@ -57,7 +56,7 @@ module _ (bytes keys order words bytes' words' : List ℕ) (f : Facts (mem bytes
       ext-getD 0 (take (256 * slotCount words) bytes') (take (256 * slotCount words) bytes) (l ∙ sym k)
       (λ i li. getD-take (256 * slotCount words) bytes' i 0 (omega arith) ∙ body i (omega arith) ∙ sym (getD-take (256 * slotCount words) bytes i 0 (omega arith)))
 
-  same-chunks : chunks m' ≡ chunks m
+  same-chunks : chunkBytes m' ≡ chunkBytes m
   same-chunks = ap (λ (x : ℕ). take (256 * x) bytes') c ∙ same-body
 
   same-holders : holders m' ≡ holders m
@@ -96,7 +95,7 @@ module _ (bytes keys order words bytes' words' : List ℕ) (f : Facts (mem bytes
 
   -- a view that has these parts, and the journals told
   pub same-view : (v : View) → ((p a : ℕ) → byteAt m p a ≡ v .bytes p a) → ((p k : ℕ) → holds m p k ≡ v .held p k) → pool m ≡ v .pool → ((p : ℕ) → allocated m p ≡ v .allocated p)
-      → entriesLeft m ≡ v .entries → dynamicLength words ≡ v .dynamicLength → ((j : ℕ) → viewOf m' .journal j ≡ v .journal j) → viewOf m' ≡ v
+      → entriesLeft m ≡ v .entriesLeft → dynamicLength words ≡ v .dynamicLength → ((j : ℕ) → viewOf m' .journal j ≡ v .journal j) → viewOf m' ≡ v
   same-view v b h p a e d j =
       view-by (viewOf m') v (λ q x. same-byte q x ∙ b q x) (λ q k. same-holds q k ∙ h q k) (ap freeCount same-holders ∙ p) (λ q. same-allocated q ∙ a q) (ap freeCount same-entries ∙ e) (head 11 (omega arith) ∙ d) j
 

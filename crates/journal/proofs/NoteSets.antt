@@ -8,9 +8,9 @@ use lib.ListN.{length, getD, set, length-set}
 use lib.Seq.{getD-set-same, getD-set-other}
 use Rattle.formed.proofs.Same.{tab-at}
 use Rattle.store.specs.Mem.{slotCount, journalLength}
-use Rattle.formed.specs.Parts.{tab}
+use Rattle.formed.specs.Parts.{tab, wordNumber, oldPlace}
 use Rattle.bodies.specs.Words.{placeIn, Spread}
-use Rattle.journal.specs.Words.{wordNumber, oldPlace, noteSet, NotedAt}
+use Rattle.journal.specs.Words.{noteSet, NotedAt}
 use Rattle.bodies.proofs.Copies.{spread-same}
 
 module _ (w : List ℕ) (l n a s t : ℕ) (small : l < 16) (inside : 16 + 3 * n + 2 < length w) where

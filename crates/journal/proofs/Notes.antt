@@ -14,7 +14,7 @@ use Rattle.index.specs.Index.{seek}
 use Rattle.index.proofs.Logic.{same-or-not, lt-or-ge}
 use Rattle.store.specs.Mem.{Mem, mem, layoutOf, slotCount, journalWords, journalLength}
 use Rattle.formed.specs.Pages.{journalCount, journalPlace, journalPage}
-use Rattle.formed.specs.Parts.{Note, tab, holds, journal, noteAddress, noteFirst, noteLast}
+use Rattle.formed.specs.Parts.{Note, tab, holds, journal, noteAddress, noteFirst, noteLast, wordNumber, oldPlace}
 use Rattle.formed.specs.WellFormed.{WellFormed, NotedRight}
 use Rattle.formed.proofs.Facts.{Facts}
 use Rattle.formed.proofs.Meaning.{facts-of, formed-by}
@@ -23,8 +23,9 @@ use Rattle.view.specs.Does.{Shows}
 use Rattle.view.specs.Inner.{noting, NoteAsks}
 use Rattle.bodies.specs.Words.{placeIn, Spread}
 use Rattle.bodies.proofs.WordBytes.{word-byte}
-use Rattle.journal.specs.Words.{wordNumber, oldPlace, noteSet, NoteRoom, NotedAt}
-use Rattle.journal.specs.Steps.{wordNow, NoteSlots}
+use Rattle.journal.specs.Words.{noteSet, NoteRoom, NotedAt}
+use Rattle.view.specs.Steps.{wordNow}
+use Rattle.journal.specs.Steps.{NoteSlots}
 use Rattle.formed.proofs.Same.{tab-upto}
 use Rattle.journal.proofs.Lists.{tab-snoc}
 use Rattle.journal.proofs.Numbers.{number-lt, number-apart}
@@ -82,7 +83,7 @@ module _ (bytes keys order words : List ℕ) (j a : ℕ) (asks : NoteAsks (mem b
   -- what `note_at` asks
   pub note-room : NoteRoom bytes words j s t
   note-room = record {
-    long = record { in-bytes = w .lengths .in-bytes; in-words = w .lengths .in-words; slots-hi = w .lengths .slots-hi; journal-hi = w .lengths .journal-hi };
+    long = record { in-bytes = w .lengths .in-bytes; in-words = w .lengths .in-words; chunks-hi = w .lengths .chunks-hi; journal-hi = w .lengths .journal-hi };
     which = asks .which;
     room = room;
     first = ls;

@@ -24,7 +24,7 @@ use Rattle.formed.proofs.Sense.{slot-near}
 pub slots-indexed : (bytes keys order words : List ℕ) → WellFormed (mem bytes keys order words) → Indexed keys order words
 slots-indexed bytes keys order words w = record {
   head = let h = w .lengths .in-words in omega arith;
-  few = w .lengths .slots-hi;
+  few = w .lengths .chunks-hi;
   in-keys = let h = w .lengths .in-keys in omega arith;
   in-order = let h = w .lengths .in-order in omega arith;
   index = slots-index (mem bytes keys order words) w;

@@ -8,7 +8,7 @@ use borrow.Author.Tests.{lt-ltb, le-ltb}
 use Rattle.formed.proofs.Same.{tab-long}
 use Rattle.store.specs.Mem.{Mem, journalLength}
 use Rattle.formed.specs.Pages.{journalCount}
-use Rattle.formed.specs.Parts.{journal, noteAddress, oldAt, tab}
+use Rattle.formed.specs.Parts.{journal, noteAddress, oldPlace, tab}
 use Rattle.view.specs.View.{View, Setting, settingOf, viewOf}
 use Rattle.view.specs.Does.{Shows}
 
@@ -29,4 +29,4 @@ module _ (m : Mem) (j : ℕ) where
 
   pub journal-long : j < journalCount → length (viewOf m .journal j) ≡ journalLength (m .words) j
   unfolding journal
-  journal-long l = ap length (journal-at l) ∙ tab-long (journalLength (m .words) j) (λ i. record { address = noteAddress m j i; old = tab 32 (λ k. getD (m .bytes) (oldAt m j i + k) 0) })
+  journal-long l = ap length (journal-at l) ∙ tab-long (journalLength (m .words) j) (λ i. record { address = noteAddress m j i; old = tab 32 (λ k. getD (m .bytes) (oldPlace (m .words) j i + k) 0) })

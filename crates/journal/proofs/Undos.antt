@@ -12,7 +12,7 @@ use borrow.Author.Tests.{ne-eqb, le-ltb}
 use Rattle.page_ids.specs.declared.Layout.{Layout}
 use Rattle.store.specs.Mem.{Mem, mem, layoutOf, slotCount, journalWords, journalLength, holders}
 use Rattle.formed.specs.Pages.{journalCount, journalPage}
-use Rattle.formed.specs.Parts.{Note, journal, noteAddress, noteFirst, noteLast}
+use Rattle.formed.specs.Parts.{Note, journal, noteAddress, noteFirst, noteLast, wordNumber, notePlace, oldPlace}
 use Rattle.formed.specs.WellFormed.{WellFormed}
 use Rattle.formed.proofs.Sizes.{holders-long}
 use Rattle.formed.proofs.Keys.{in-table}
@@ -22,7 +22,7 @@ use Rattle.view.specs.Does.{Shows}
 use Rattle.view.specs.Inner.{putting}
 use Rattle.view.proofs.Equal.{view-by}
 use Rattle.bodies.specs.Words.{placeIn, Spread, InSlots}
-use Rattle.journal.specs.Words.{wordNumber, notePlace, oldPlace, BackAsks, PutBack}
+use Rattle.journal.specs.Words.{BackAsks, PutBack}
 use Rattle.journal.specs.Steps.{cutting, restoring, undoing, UndoAsks, RollBackAsks}
 use Rattle.journal.proofs.Lists.{tab-drop, tab-end}
 use Rattle.bodies.proofs.Copies.{spread-same}
@@ -39,7 +39,7 @@ back-slots bytes words j i n asks e =
     let f = asks .first in
     let g = asks .last in
     let b = asks .long .in-bytes in
-    let c = asks .long .slots-hi in
+    let c = asks .long .chunks-hi in
     subst (λ (x : ℕ). InSlots bytes (getD words (16 + 3 * x + 1) 0) (getD words (16 + 3 * x + 2) 0) (getD words (16 + 3 * x) 0 % 256)) (sym e)
     record { offset = omega arith; first-few = omega arith; last-few = omega arith; first = omega arith; last = omega arith }
 
@@ -69,7 +69,7 @@ module _ (bytes keys order words : List ℕ) (w : WellFormed (mem bytes keys ord
       let g = r .last in
       let h = holders-long m (w .lengths) in
       record {
-        long = record { in-bytes = w .lengths .in-bytes; in-words = w .lengths .in-words; slots-hi = w .lengths .slots-hi; journal-hi = w .lengths .journal-hi };
+        long = record { in-bytes = w .lengths .in-bytes; in-words = w .lengths .in-words; chunks-hi = w .lengths .chunks-hi; journal-hi = w .lengths .journal-hi };
         which = which;
         inside = let c = w .in-capacity j which in omega arith;
         first = let l = in-table (holders m) (noteFirst m j i) (omega arith) in omega arith;

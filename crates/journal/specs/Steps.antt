@@ -12,13 +12,9 @@ use Rattle.formed.specs.Pages.{journalCount, journalPage}
 use Rattle.formed.specs.Parts.{Note, tab, slotOfChunk}
 use Rattle.formed.specs.WellFormed.{WellFormed}
 use Rattle.view.specs.View.{View, viewOf, withBytes, withJournal}
-use Rattle.view.specs.Steps.{run, undone}
+use Rattle.view.specs.Steps.{wordNow, undone}
 
 -- ---- words noted
--- the word at address a of page p, as it is now
-abbrev pub wordNow : View → ℕ → ℕ → Note
-wordNow v p a = record { address = a; old = run v p a 32 }
-
 -- the slots s and t hold the first and the last chunk of the word at address a of journal j's page
 pub record NoteSlots (m : Mem) (j a s t : ℕ) : Type 0 where
   pub first : slotOfChunk m (journalPage (layoutOf (m .words)) j) (a / 256) ≡ s

@@ -4,27 +4,17 @@ use mathlib.Core.Path.{_≡_}
 use mathlib.Core.List.{List}
 use Prim.Native.Nat.{ℕ, _+_, _*_, _%_, _<_, _≤_}
 use lib.ListN.{length, getD, set}
-use Rattle.store.specs.Mem.{headLength, slotCount, journalWords, journalLength}
+use Rattle.store.specs.Mem.{headLength, journalsPlace, slotCount, journalWords, journalLength}
 use Rattle.formed.specs.Pages.{journalCount}
 use Rattle.formed.specs.Buffers.{bytesFor, wordsFor}
+use Rattle.formed.specs.Parts.{wordNumber, notePlace, oldPlace}
 use Rattle.bodies.specs.Words.{placeIn, Spread}
-
--- the number of word i of journal j among those of all journals
-abbrev pub wordNumber : List ℕ → ℕ → ℕ → ℕ
-wordNumber w j i = journalWords w * j + i
-
--- where its three numbers and its 32 bytes stand
-abbrev pub notePlace : List ℕ → ℕ → ℕ → ℕ
-notePlace w j i = headLength + 3 * wordNumber w j i
-
-abbrev pub oldPlace : List ℕ → ℕ → ℕ → ℕ
-oldPlace w j i = 256 * slotCount w + 32 * wordNumber w j i
 
 -- bytes and words have the lengths of a memory
 pub record Long (bytes words : List ℕ) : Type 0 where
   pub in-bytes : length bytes ≡ bytesFor (slotCount words) (journalWords words)
   pub in-words : length words ≡ wordsFor (journalWords words)
-  pub slots-hi : slotCount words ≤ 65536
+  pub chunks-hi : slotCount words ≤ 65536
   pub journal-hi : journalWords words ≤ 65536
 
 -- word i of journal j has a place
@@ -48,7 +38,7 @@ noteSet w l n a s t = set (set (set (set w (headLength + 3 * n) a) (headLength +
 
 -- bytes', words' are bytes, words after the word at address a was noted so
 pub record NotedAt (bytes words : List ℕ) (j a s t : ℕ) (bytes' words' : List ℕ) : Type 0 where
-  pub words-are : words' ≡ noteSet words (12 + j) (wordNumber words j (journalLength words j)) a s t
+  pub words-are : words' ≡ noteSet words (journalsPlace + j) (wordNumber words j (journalLength words j)) a s t
   pub old : Spread (λ k. oldPlace words j (journalLength words j) + k) (λ k. getD bytes (placeIn s t (a % 256) k) 0) 32 bytes bytes'
 
 -- word i of journal j can be put back at the slots noted

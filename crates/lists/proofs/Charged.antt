@@ -22,11 +22,11 @@ use Rattle.view.specs.Instructions.{panic}
 use Rattle.view.specs.Calls.{Load, answerOf}
 use Rattle.plain.proofs.Good.{never}
 use Rattle.growth.specs.Meet.{LoadsAndStoresMeet}
-use Rattle.growth.specs.Quotes.{Loads, none, more, ends, QuoteOfLoads}
+use Rattle.growth.specs.Quotes.{LoadRun, none, more, ends, QuoteOfLoads}
 use Rattle.growth.proofs.Quotes.{quote-of-loads}
 use Rattle.growth.proofs.Charges.{growth-adds-up}
 use Rattle.lists.specs.Steps.{Step}
-use Rattle.lists.specs.Worked.{at}
+use Rattle.lists.specs.Worked.{operandAt}
 use Rattle.lists.specs.Charged.{Quote, listOf, gasOf, firstBound, LoadsExist, QuoteExists, Charged}
 use Rattle.lists.proofs.Contracts.{does}
 use Rattle.lists.proofs.Inhabited.{ref}
@@ -44,7 +44,7 @@ defined = quote-of-loads Step meet
 
 -- ---- the code's quote
 quote-equals : (q : Quote) → length (listOf q) ≤ 4096 → {area : Area} {f g : Frame} {n : ℕ} → gasOf q ≡ f .gas → firstBound q ≡ boundOf f area
-    → Loads Step area f (listOf q) n g → quoteOutcome (q .result) ≡ done (endOf (f .gas) (g .gas) (boundOf g area) n)
+    → LoadRun Step area f (listOf q) n g → quoteOutcome (q .result) ≡ done (endOf (f .gas) (g .gas) (boundOf g area) n)
 quote-equals q few {area} {f} {g} {n} d e l =
     q .ensures ∙ (λ i. quoted (listOf q) (d i) (e i)) ∙ defined .equals {area = area} few l
 
@@ -54,9 +54,9 @@ module _ (m : Mem) (w : wellFormed m ≡ true) (area : Area) where
   can-run f [] = record { position = 0; last = f; loads = none }
   can-run f (a ∷ list) = go (frameAccessed f area a .paid) (load-is m w area f a) (can-run (frameAccessed f area a .frame) list)
     where
-      go : (p : Bool) → answerOf m (Load area f (at a)) ≡ answer m w area f a p → LoadsExist area (frameAccessed f area a .frame) list → LoadsExist area f (a ∷ list)
-      go false e rest = record { position = 0; last = panic (frameAccessed f area a .frame) .frame; loads = ends {x = at a} (load-step m w area f a e) }
-      go true e rest = record { position = suc (rest .position); last = rest .last; loads = more {x = at a} (load-step m w area f a e) (rest .loads) }
+      go : (p : Bool) → answerOf m (Load area f (operandAt a)) ≡ answer m w area f a p → LoadsExist area (frameAccessed f area a .frame) list → LoadsExist area f (a ∷ list)
+      go false e rest = record { position = 0; last = panic (frameAccessed f area a .frame) .frame; loads = ends {x = operandAt a} (load-step m w area f a e) }
+      go true e rest = record { position = suc (rest .position); last = rest .last; loads = more {x = operandAt a} (load-step m w area f a e) (rest .loads) }
 
 -- ---- there are such quotes
 module _ (list : List ℕ) (gas bound : ℕ) where

@@ -15,7 +15,7 @@ use Rattle.view.specs.View.{settingOf, viewOf}
 use Rattle.view.specs.Steps.{touches, fromGroup, freed, windowed, truncated}
 use Rattle.view.specs.Checks.{freeChecks, truncateChecks}
 use Rattle.view.specs.Calls.{Free, Window, Truncate, answerOf, firstRefusal}
-use Rattle.freeing.proofs.Groups.{shortened-shows}
+use Rattle.free_steps.proofs.Groups.{shortened-shows}
 use Rattle.freeing.proofs.Calls.{free-refusals, free-passed, truncate-refusals, truncate-passed, shorten-asked, truncated-shows}
 use Rattle.lists.proofs.Reach.{Reached}
 use Rattle.lists.proofs.Thins.{without-there}

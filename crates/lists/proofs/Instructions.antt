@@ -23,12 +23,12 @@ use Rattle.view.specs.Instructions.{InstructionResult, Stop, running, onHook, h
 use Rattle.view.specs.Calls.{Call, Value, Load, Store, LoadPointer, LoadStatic, StoreStatic, instructionResult, outcomeOf, nextOf, answerOf, CallDoes, firstRefusal}
 use Rattle.reads.proofs.Calls.{only-reads}
 use Rattle.plain.proofs.Tests.{Clear, clear}
-use Rattle.instructions.specs.declared.Operand.{Operand}
-use Rattle.instructions.specs.declared.Hook.{Hook}
-use Rattle.instructions.specs.declared.Execution.{Execution}
-use Rattle.instructions.specs.declared.ExecutionStatus.{ExecutionStatus}
-use Rattle.instructions.specs.declared.ExecutionStatus.the-variants.{Running, SuspendedOnHook, Panicked, Refused}
-use Rattle.instructions.specs.Executions.{operandOf, hookOf, stopOf, resultOf, statusOutcome, executionOutcome, Runs}
+use Rattle.execution.specs.declared.Operand.{Operand}
+use Rattle.execution.specs.declared.Hook.{Hook}
+use Rattle.execution.specs.declared.Execution.{Execution}
+use Rattle.execution.specs.declared.ExecutionStatus.{ExecutionStatus}
+use Rattle.execution.specs.declared.ExecutionStatus.the-variants.{Running, SuspendedOnHook, Panicked, Refused}
+use Rattle.execution.specs.Executions.{operandOf, hookOf, stopOf, resultOf, statusOutcome, executionOutcome, Runs}
 use Rattle.lists.specs.Steps.{Step, did-load, did-store, did-load-pointer, did-load-static, did-store-static}
 use Rattle.lists.proofs.Reach.{Reached}
 use Rattle.lists.proofs.Writing.{word-there}

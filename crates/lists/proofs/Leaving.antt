@@ -18,22 +18,22 @@ use Rattle.growth.specs.Charges.{LoadOrStore, by-load, by-store}
 use Rattle.growth.proofs.Carried.{is-done}
 use Rattle.lists.specs.Steps.{Step}
 use Rattle.lists.specs.Goes.{Goes}
-use Rattle.lists.specs.Worked.{Leaves, at}
+use Rattle.lists.specs.Worked.{Leaves, operandAt}
 use Rattle.lists.proofs.Instructions.{can-load, can-store}
 
 module _ (m : Mem) (w : wellFormed m ≡ true) (area : Area) where
   -- a load's answer, by whether its access is paid
   abbrev pub answer : Frame → ℕ → Bool → Outcome Value
-  answer f x p = cond (not p) (panicked (instructionResult (panic (frameAccessed f area x .frame)))) (done (instructionResult (loaded (viewOf m) area f (at x))))
+  answer f x p = cond (not p) (panicked (instructionResult (panic (frameAccessed f area x .frame)))) (done (instructionResult (loaded (viewOf m) area f (operandAt x))))
 
-  pub load-is : (f : Frame) (x : ℕ) → answerOf m (Load area f (at x)) ≡ answer f x (frameAccessed f area x .paid)
+  pub load-is : (f : Frame) (x : ℕ) → answerOf m (Load area f (operandAt x)) ≡ answer f x (frameAccessed f area x .paid)
   load-is f x = ap (λ (b : Bool). cond (not b) (refused 3) (answer f x (frameAccessed f area x .paid))) w
 
-  pub load-step : (f : Frame) (x : ℕ) {o : Outcome Value} → answerOf m (Load area f (at x)) ≡ o → Step m (Load area f (at x)) o m
-  load-step f x e = subst (λ (o : Outcome Value). Step m (Load area f (at x)) o m) e (can-load area f (at x) m)
+  pub load-step : (f : Frame) (x : ℕ) {o : Outcome Value} → answerOf m (Load area f (operandAt x)) ≡ o → Step m (Load area f (operandAt x)) o m
+  load-step f x e = subst (λ (o : Outcome Value). Step m (Load area f (operandAt x)) o m) e (can-load area f (operandAt x) m)
 
-  pub load-leaves : (f : Frame) (x : ℕ) → frameAccessed f area x .paid ≡ true → Leaves m (Load area f (at x)) (frameAccessed f area x .frame) m
-  load-leaves f x p = record { result = loaded (viewOf m) area f (at x); step = load-step f x (load-is f x ∙ ap (answer f x) p); frame = refl }
+  pub load-leaves : (f : Frame) (x : ℕ) → frameAccessed f area x .paid ≡ true → Leaves m (Load area f (operandAt x)) (frameAccessed f area x .frame) m
+  load-leaves f x p = record { result = loaded (viewOf m) area f (operandAt x); step = load-step f x (load-is f x ∙ ap (answer f x) p); frame = refl }
 
 pub store-goes : (m : Mem) (area : Area) (f : Frame) (x : Operand) (n : ℕ) (h : Hook) → heapOf f area ≤ 4294967295
     → carriedOut (answerOf m (Store area f x n h)) ≡ true → Goes m (Store area f x n h) (done (instructionResult (stored area f x n h)))

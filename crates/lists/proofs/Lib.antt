@@ -1,6 +1,7 @@
--- Contracts: what the contracts say of a step. Next: lists begin and go on, by Inhabited, Frees, Comparing and Instructions: every call has a step.
--- Theorem: the demand, with no hypothesis left. Charged: that a quote is what its loads pay and that
--- growth adds up, likewise, by Leaving and Worked: loads and stores that are carried out have steps.
+-- Contracts: what the contracts say of a step.
+-- Next: lists begin and go on. Inhabited, Frees, Comparing and Instructions: every call has a step.
+-- Theorem: the demand, with no hypothesis left.
+-- Charged: a quote is what its loads pay, and growth adds up. Leaving and Worked: loads and stores that are carried out have steps.
 
 pub mod Compares
 pub mod Contracts

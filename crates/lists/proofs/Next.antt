@@ -15,7 +15,8 @@ use Rattle.view.specs.View.{View, Setting, settingOf, viewOf}
 use Rattle.view.specs.Checks.{openingChecks, lengthsRight, bytesLength, keysLength, orderLength, wordsLength}
 use Rattle.view.specs.Does.{Shows}
 use Rattle.view.specs.Calls.{Call, Value, Open, Allocate, ReadWord, ReadPartial, ReadRange, ReadByte, DynamicLength, WriteWord, WriteBytes, Lookup, LookupCheck, Free, Window, Truncate, CompareLeft, CompareRight, CompareBoth, Snapshot, Rollback, DeleteHistory, nothing, bytes, shown, sameLengths, outcomeOf, answerOf, Load, Store, LoadPointer, LoadStatic, StoreStatic}
-use Rattle.opening.specs.Opening.{OpenAsks, layoutFrom, setting}
+use Rattle.page_ids.specs.Decode.{layoutFrom}
+use Rattle.opening.specs.Opening.{OpenAsks, settingFrom}
 use Rattle.opening.proofs.Refusals.{sizes-test, refused-not}
 use Rattle.plain.specs.Claim.{by-opening}
 use Rattle.plain.proofs.Theorem.{claim}
@@ -90,7 +91,7 @@ begins {m} {s} {calldata} narrow asks room =
 
 -- a small memory, of two chunks and two pages beside the fixed ones
 abbrev pub small : Setting
-small = setting (layoutFrom 0 1 2 3 4 4) 2 2 0
+small = settingFrom (layoutFrom 0 1 2 3 4 4) 2 2 0
 
 abbrev buffers : Mem
 buffers = mem (replicate (bytesLength small) 0) (replicate (keysLength small) 0) (replicate (orderLength small) 0) (replicate (wordsLength small) 0)

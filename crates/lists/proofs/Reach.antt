@@ -19,7 +19,7 @@ use Rattle.store.specs.Find.{slotFor, slotAtEntry}
 use Rattle.store.proofs.Holds.{part-room, insertable, taken, lacking, held-new, held-was}
 use Rattle.store.proofs.Parts.{rest-part}
 use Rattle.formed.specs.Pages.{group, journalCount, journalPlace, journalPage}
-use Rattle.formed.specs.Parts.{entryOf, tab}
+use Rattle.formed.specs.Parts.{entryOf, tab, wordNumber, oldPlace}
 use Rattle.view.specs.View.{View, Setting, settingOf, viewOf}
 use Rattle.view.specs.Steps.{wordNotes, marks, rolledBack, emptyView, opened}
 use Rattle.view.specs.Does.{Shows}
@@ -30,7 +30,7 @@ use Rattle.bodies.proofs.Puts.{put-none, put-slot, put-in, put-more, put-done}
 use Rattle.chunks.proofs.Turns.{After, after-none, turn-room, turn-after}
 use Rattle.pages.proofs.Taking as taking
 use Rattle.pages.proofs.Listing.{listed-already, entry-asks, listed-now}
-use Rattle.journal.specs.Words.{wordNumber, oldPlace, noteSet}
+use Rattle.journal.specs.Words.{noteSet}
 use Rattle.journal.specs.Steps.{alignedFrom, AlignedAsks, restoring, undoing, UndoAsks, RollBackAsks}
 use Rattle.journal.proofs.Numbers.{number-lt}
 use Rattle.journal.proofs.Notes.{note-slots, note-room, note-shows}

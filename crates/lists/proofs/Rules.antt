@@ -6,7 +6,6 @@ use mathlib.Core.Logic.{⊎-elim}
 use Prim.Native.Nat.{ℕ}
 use borrow.Fn.Args.{argsV}
 use Rattle.state.proofs.Laws as state-laws
-use Rattle.instructions.proofs.Laws as instruction-laws
 use Rattle.store.specs.Mem.{Mem}
 use Rattle.formed.specs.Parts.{allocated}
 use Rattle.formed.specs.WellFormed.{WellFormed}
@@ -16,6 +15,7 @@ use Rattle.formed.proofs.Sense.{unlisted-byte, undecodable-unlisted}
 use Rattle.view.specs.View.{settingOf}
 use Rattle.view.specs.Checks.{undecodable}
 use Rattle.view.proofs.Lookup.{lookup-rule}
+use Rattle.view.proofs.Operands as operands
 use Rattle.lists.specs.Rules.{Rules}
 
 absent : (m : Mem) → WellFormed m → (p : ℕ) → undecodable (settingOf m) p ≡ true → allocated m p ≡ false
@@ -33,7 +33,7 @@ rules = record {
       (λ (n : allocated m p ≡ false). unlisted-byte m f p a n);
   lookup = lookup-rule;
   no-wrap = state-laws.no-wrap;
-  no-carry = instruction-laws.no-carry;
+  no-carry = operands.no-carry;
   calls-are-steps = λ {n} {ps} {r} {P} {Q} {Γ} {ar} {u} c asked. record {
     went = record {
       lifetimes = c .lifetimes;

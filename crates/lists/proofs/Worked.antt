@@ -26,7 +26,7 @@ use Rattle.plain.proofs.Good.{never}
 use Rattle.growth.specs.Charges as growth
 use Rattle.lists.specs.Steps.{Step}
 use Rattle.lists.specs.Goes.{Goes}
-use Rattle.lists.specs.Worked.{Leaves, at, noHook, hookAt, frame, Worked}
+use Rattle.lists.specs.Worked.{Leaves, operandAt, noHook, hookAt, workedFrame, Worked}
 use Rattle.lists.proofs.Leaving.{load-leaves, store-goes, leaves-load, leaves-store}
 use Rattle.lists.proofs.Next.{answer-is, small, small-begins}
 use Rattle.lists.proofs.Theorem.{theorem}
@@ -48,19 +48,19 @@ module _ {m : Mem} {p : Plain} (r : Run Step Any small m₀ p₀ m p) where
   pub formed : wellFormed m ≡ true
   formed = well-formed-passes m (shows .formed)
 
-  loads : (area : Area) (f : Frame) (x : ℕ) → frameAccessed f area x .paid ≡ true → Leaves m (Load area f (at x)) (frameAccessed f area x .frame) m
+  loads : (area : Area) (f : Frame) (x : ℕ) → frameAccessed f area x .paid ≡ true → Leaves m (Load area f (operandAt x)) (frameAccessed f area x .frame) m
   loads area f x e = load-leaves m formed area f x e
 
-  stores : (area : Area) (f : Frame) (x : ℕ) (h : Hook) → heapOf f area ≤ 4294967295 → carriedOut (outcomeOf small (Store area f (at x) 7 h) (seen small p)) ≡ true
-      → Goes m (Store area f (at x) 7 h) (done (instructionResult (stored area f (at x) 7 h)))
-  stores area f x h page e = store-goes m area f (at x) 7 h page (ap carriedOut (answer-is shows (Store area f (at x) 7 h)) ∙ e)
+  stores : (area : Area) (f : Frame) (x : ℕ) (h : Hook) → heapOf f area ≤ 4294967295 → carriedOut (outcomeOf small (Store area f (operandAt x) 7 h) (seen small p)) ≡ true
+      → Goes m (Store area f (operandAt x) 7 h) (done (instructionResult (stored area f (operandAt x) 7 h)))
+  stores area f x h page e = store-goes m area f (operandAt x) 7 h page (ap carriedOut (answer-is shows (Store area f (operandAt x) 7 h)) ∙ e)
 
 abbrev leaves : {m : Mem} {c : Call} {r : InstructionResult} (g : Goes m c (done (instructionResult r))) → Leaves m c (r .frame) (g .after)
 leaves {r = r} g = record { result = r; step = g .step; frame = refl }
 
 -- ---- the first store
 abbrev store-0 : Call
-store-0 = Store Aux (frame 1000 4096 0) (at 0) 7 noHook
+store-0 = Store Aux (workedFrame 1000 4096 0) (operandAt 0) 7 noHook
 
 abbrev p₁ : Plain
 p₁ = follow (small .layout) store-0 p₀
@@ -69,22 +69,22 @@ room-0 : carriedOut (outcomeOf small store-0 (seen small p₀)) ≡ true
 unfolding fixed dynamic missing undecodable overfull has hold member
 room-0 = refl
 
-stored-0 : Goes m₀ store-0 (done (instructionResult (stored Aux (frame 1000 4096 0) (at 0) 7 noHook)))
-stored-0 = stores begun Aux (frame 1000 4096 0) 0 noHook (omega arith) room-0
+stored-0 : Goes m₀ store-0 (done (instructionResult (stored Aux (workedFrame 1000 4096 0) (operandAt 0) 7 noHook)))
+stored-0 = stores begun Aux (workedFrame 1000 4096 0) 0 noHook (omega arith) room-0
 
 after-0 : Run Step Any small m₀ p₀ (stored-0 .after) p₁
 after-0 = more begun (stored-0 .step) (λ t calldata e. absurd (never (cc))) tt
 
 -- ---- the second store
 abbrev store-10 : Call
-store-10 = Store Heap (frame 967 4097 32) (at 10) 7 (hookAt 10)
+store-10 = Store Heap (workedFrame 967 4097 32) (operandAt 10) 7 (hookAt 10)
 
 room-10 : carriedOut (outcomeOf small store-10 (seen small p₁)) ≡ true
 unfolding digits fixed dynamic missing undecodable overfull has hold member
 room-10 = refl
 
-stored-10 : Goes (stored-0 .after) store-10 (done (instructionResult (stored Heap (frame 967 4097 32) (at 10) 7 (hookAt 10))))
-stored-10 = stores after-0 Heap (frame 967 4097 32) 10 (hookAt 10) (omega arith) room-10
+stored-10 : Goes (stored-0 .after) store-10 (done (instructionResult (stored Heap (workedFrame 967 4097 32) (operandAt 10) 7 (hookAt 10))))
+stored-10 = stores after-0 Heap (workedFrame 967 4097 32) 10 (hookAt 10) (omega arith) room-10
 
 after-10 : Run Step Any small m₀ p₀ (stored-10 .after) (follow (small .layout) store-10 p₁)
 after-10 = more after-0 (stored-10 .step) (λ t calldata e. absurd (never (cc))) tt
@@ -92,12 +92,12 @@ after-10 = more after-0 (stored-10 .step) (λ t calldata e. absurd (never (cc)))
 -- ---- the run
 pub worked : Worked
 worked =
-    let load-4064 = loads begun Heap (frame 1000 4096 0) 4064 refl in
+    let load-4064 = loads begun Heap (workedFrame 1000 4096 0) 4064 refl in
     let store-0 = leaves stored-0 in
-    let load-4065 = loads after-0 Heap (frame 968 4096 32) 4065 refl in
+    let load-4065 = loads after-0 Heap (workedFrame 968 4096 32) 4065 refl in
     let store-10 = leaves stored-10 in
-    let load-100 = loads after-10 Aux (frame 967 4097 32) 100 refl in
-    let load-50 = loads after-10 Aux (frame 867 4097 132) 50 refl in
+    let load-100 = loads after-10 Aux (workedFrame 967 4097 32) 100 refl in
+    let load-50 = loads after-10 Aux (workedFrame 867 4097 132) 50 refl in
     record {
       m₀ = m₀;
       m₁ = stored-0 .after;

@@ -21,11 +21,11 @@ use Rattle.store.specs.Mem.{Mem}
 use Rattle.formed.specs.Formed.{wellFormed}
 use Rattle.view.specs.Instructions.{Operand, Hook, heapOf, stored}
 use Rattle.view.specs.Calls.{Load, Store, instructionResult, answerOf}
-use Rattle.growth.specs.Quotes.{Loads, QuoteOfLoads}
+use Rattle.growth.specs.Quotes.{LoadRun, QuoteOfLoads}
 use Rattle.growth.specs.Charges.{GrowthAddsUp}
 use Rattle.lists.specs.Steps.{Went, Step}
 use Rattle.lists.specs.Goes.{Goes}
-use Rattle.lists.specs.Worked.{Leaves, at, Worked}
+use Rattle.lists.specs.Worked.{Leaves, operandAt, Worked}
 
 -- a call of `quote`, as its contract tells it: its list, gas and bound
 abbrev pub Quote : Type 0
@@ -44,7 +44,7 @@ firstBound q = q .args .1 .1 .0
 pub record LoadsExist (area : Area) (f : Frame) (list : List ℕ) : Type 0 where
   pub position : ℕ
   pub last : Frame
-  pub loads : Loads Step area f list position last
+  pub loads : LoadRun Step area f list position last
 
 -- there is a quote of a list, with this gas and bound
 pub record QuoteExists (list : List ℕ) (gas bound : ℕ) : Type 0 where
@@ -63,7 +63,7 @@ pub record Charged : Type 2 where
   -- A call of the code's `quote` of at most 4,096 addresses, with the gas and the area's bound of f, answers what loads from f on spend, the bound that
   -- they reach, and where they end
   pub equals : (q : Quote) → length (listOf q) ≤ 4096 → {area : Area} {f g : Frame} {n : ℕ} → gasOf q ≡ f .gas → firstBound q ≡ boundOf f area
-      → Loads Step area f (listOf q) n g → quoteOutcome (q .result) ≡ done (endOf (f .gas) (g .gas) (boundOf g area) n)
+      → LoadRun Step area f (listOf q) n g → quoteOutcome (q .result) ≡ done (endOf (f .gas) (g .gas) (boundOf g area) n)
   -- there are such loads, of every area, frame and list
   pub loaded : (area : Area) (f : Frame) (list : List ℕ) → LoadsExist area f list
   -- there are such quotes
@@ -72,7 +72,7 @@ pub record Charged : Type 2 where
   pub adds-up : GrowthAddsUp Step
   -- there are such runs: on every well-formed memory a load whose access is paid can come next
   pub load-next : (m : Mem) → wellFormed m ≡ true → (area : Area) (f : Frame) (x : ℕ) → frameAccessed f area x .paid ≡ true
-      → Leaves m (Load area f (at x)) (frameAccessed f area x .frame) m
+      → Leaves m (Load area f (operandAt x)) (frameAccessed f area x .frame) m
   -- and so can every store that the definition carries out, to a page whose number has 32 bits
   pub store-next : (m : Mem) (area : Area) (f : Frame) (x : Operand) (n : ℕ) (h : Hook) → heapOf f area ≤ 4294967295
       → carriedOut (answerOf m (Store area f x n h)) ≡ true → Goes m (Store area f x n h) (done (instructionResult (stored area f x n h)))

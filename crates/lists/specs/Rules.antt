@@ -18,7 +18,7 @@ use Rattle.formed.specs.Buffers.{bytesFor, keysFor, orderFor, wordsFor}
 use Rattle.formed.specs.Parts.{allocated, byteAt}
 use Rattle.formed.specs.Formed.{wellFormed}
 use Rattle.formed.specs.WellFormed.{WellFormed}
-use Rattle.view.specs.View.{View, settingOf}
+use Rattle.view.specs.View.{settingOf}
 use Rattle.view.specs.Checks.{undecodable}
 use Rattle.view.specs.Calls.{LookupRule}
 use Rattle.view.specs.Instructions.{incremented}
@@ -36,8 +36,8 @@ pub record Rules : Type 3 where
   -- a page that is undecodable or not allocated reads zero at every address
   pub reads-zero : (m : Mem) → WellFormed m → (p a : ℕ) → (undecodable (settingOf m) p ≡ true) ⊎ (allocated m p ≡ false) → byteAt m p a ≡ 0
   -- ---- the calls
-  -- a lookup shows an empty part exactly where its check is refused with 8
-  pub lookup : (v : View) (p k : ℕ) (z : List ℕ) → LookupRule v p k z
+  -- a lookup shows an empty part exactly where its check is refused
+  pub lookup : (m : Mem) (p k : ℕ) (z : List ℕ) → LookupRule m p k z
   -- within the operand limit the new bound, a wrapping sum, is the address plus 32
   pub no-wrap : (x : ℕ) → x ≤ lastAddress → newBound x ≡ x + 32
   -- and the incremented operand is the whole word plus 32; the low 32 bits are the address, a pointer's its offset

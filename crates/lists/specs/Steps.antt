@@ -1,5 +1,5 @@
 -- One call of each public function, as the function's proved contract tells it to whoever calls it. Nothing here restates a contract:
--- `Asked` and `Learnt` are what `rattle check` reads in the function's own clauses, and `met` (Demand) is its theorem.
+-- `Asked` and `Learnt` are what the checker reads in the function's own clauses.
 -- Assumes nothing.
 use mathlib.Core.Path.{_≡_}
 use mathlib.Core.List.{List, []}
@@ -19,7 +19,7 @@ use Rattle.outcome.specs.Outcome.{Outcome, done, mapped, answerOutcome, unitOut
 use Rattle.store.specs.Mem.{Mem, mem}
 use Rattle.word.specs.Value.{value}
 use Rattle.view.specs.Calls.{Call, Value, Open, Allocate, WriteWord, WriteBytes, ReadWord, ReadPartial, ReadRange, ReadByte, DynamicLength, Lookup, LookupCheck, Free, Window, Truncate, CompareLeft, CompareRight, CompareBoth, Snapshot, Rollback, DeleteHistory, nothing, number, bytes, Load, Store, LoadPointer, LoadStatic, StoreStatic}
-use Rattle.opening.specs.Opening.{setting}
+use Rattle.opening.specs.Opening.{settingFrom}
 use Rattle.reads.specs.Calls.{byteOutcome, lengthOutcome, snapshotOutcome, lengthsValue}
 use Rattle.reads.specs.Calls as reads
 use Rattle.compare.specs.Verdict as compares
@@ -61,8 +61,8 @@ use Rattle.history.proofs.rollback.Kinds as rollback-kinds
 use Rattle.history.proofs.rollback.Reads as rollback-reads
 use Rattle.history.proofs.delete_history.Kinds as delete-kinds
 use Rattle.history.proofs.delete_history.Reads as delete-reads
-use Rattle.instructions.specs.Executions as executions
-use Rattle.instructions.specs.Executions.{operandOf, hookOf}
+use Rattle.execution.specs.Executions as executions
+use Rattle.execution.specs.Executions.{operandOf, hookOf}
 use Rattle.instructions.proofs.load.Kinds as load-kinds
 use Rattle.instructions.proofs.load.Reads as load-reads
 use Rattle.instructions.proofs.store.Kinds as store-kinds
@@ -117,7 +117,7 @@ pub data Step : Mem → Call → Outcome Value → Mem → Type 0 where
       (w : Went open-kinds.ps open-kinds.r open-reads.Asked open-reads.Learnt) →
       Step
       (lent (w .args))
-      (Open (setting (rest (w .args) .0) (rest (w .args) .1 .0) (rest (w .args) .1 .1 .0) (rest (w .args) .1 .1 .1 .0)) (now (rest (w .args) .1 .1 .1 .1 .0)))
+      (Open (settingFrom (rest (w .args) .0) (rest (w .args) .1 .0) (rest (w .args) .1 .1 .0) (rest (w .args) .1 .1 .1 .0)) (now (rest (w .args) .1 .1 .1 .1 .0)))
       (answerOutcome nothing (w .result))
       (lent (exits w))
   did-read-word :

@@ -20,8 +20,8 @@ pub record Leaves (m : Mem) (c : Call) (g : Frame) (m' : Mem) : Type 0 where
   pub frame : result .frame ≡ g
 
 -- an operand without a tag
-abbrev pub at : ℕ → Operand
-at address = record { word = address; tag = false }
+abbrev pub operandAt : ℕ → Operand
+operandAt address = record { word = address; tag = false }
 
 abbrev pub noHook : Hook
 noHook = record { on = false; address = 0 }
@@ -30,8 +30,8 @@ abbrev pub hookAt : ℕ → Hook
 hookAt address = record { on = true; address = address }
 
 -- the heap is page 6, and the aux heap page 7
-abbrev pub frame : (gas heap aux : ℕ) → Frame
-frame gas heap aux = record { gas = gas; heap = record { 0 = 6 }; aux = record { 0 = 7 }; «heap_bound» = heap; «aux_bound» = aux; panicked = false }
+abbrev pub workedFrame : (gas heap aux : ℕ) → Frame
+workedFrame gas heap aux = record { gas = gas; heap = record { 0 = 6 }; aux = record { 0 = 7 }; «heap_bound» = heap; «aux_bound» = aux; panicked = false }
 
 -- their charges
 abbrev pub charges : List Charge
@@ -50,13 +50,13 @@ pub record Worked : Type 0 where
   pub m₁ : Mem
   pub m₂ : Mem
   -- the calls
-  pub load-4064 : Leaves m₀ (Load Heap (frame 1000 4096 0) (at 4064)) (frame 1000 4096 0) m₀
-  pub store-0 : Leaves m₀ (Store Aux (frame 1000 4096 0) (at 0) 7 noHook) (frame 968 4096 32) m₁
-  pub load-4065 : Leaves m₁ (Load Heap (frame 968 4096 32) (at 4065)) (frame 967 4097 32) m₁
-  pub store-10 : Leaves m₁ (Store Heap (frame 967 4097 32) (at 10) 7 (hookAt 10)) (frame 967 4097 32) m₂
-  pub load-100 : Leaves m₂ (Load Aux (frame 967 4097 32) (at 100)) (frame 867 4097 132) m₂
-  pub load-50 : Leaves m₂ (Load Aux (frame 867 4097 132) (at 50)) (frame 867 4097 132) m₂
+  pub load-4064 : Leaves m₀ (Load Heap (workedFrame 1000 4096 0) (operandAt 4064)) (workedFrame 1000 4096 0) m₀
+  pub store-0 : Leaves m₀ (Store Aux (workedFrame 1000 4096 0) (operandAt 0) 7 noHook) (workedFrame 968 4096 32) m₁
+  pub load-4065 : Leaves m₁ (Load Heap (workedFrame 968 4096 32) (operandAt 4065)) (workedFrame 967 4097 32) m₁
+  pub store-10 : Leaves m₁ (Store Heap (workedFrame 967 4097 32) (operandAt 10) 7 (hookAt 10)) (workedFrame 967 4097 32) m₂
+  pub load-100 : Leaves m₂ (Load Aux (workedFrame 967 4097 32) (operandAt 100)) (workedFrame 867 4097 132) m₂
+  pub load-50 : Leaves m₂ (Load Aux (workedFrame 867 4097 132) (operandAt 50)) (workedFrame 867 4097 132) m₂
   -- the store at 10 stops on the hook
   pub stops : store-10 .result .stop ≡ onHook 7
   -- there is a run with these charges, from the first frame to the last
-  pub run : LoadsAndStores Step (frame 1000 4096 0) charges (frame 867 4097 132)
+  pub run : LoadsAndStores Step (workedFrame 1000 4096 0) charges (workedFrame 867 4097 132)

@@ -81,7 +81,7 @@ calldata-plain l r (suc (suc j)) h e = omega arith
 
 module _ (m : Mem) (p n : ℕ) (asks : CalldataAsks m p n) where
   few : slotCount (m .words) ≤ 65536
-  few = asks .started .formed .lengths .slots-hi
+  few = asks .started .formed .lengths .chunks-hi
 
   is-fixed-page : fixed (layoutOf (m .words)) p ≡ true
   is-fixed-page = is-fixed (layoutOf (m .words)) p 1 (omega arith) (asks .page)

@@ -20,45 +20,12 @@ use Rattle.view.specs.Does.{Shows, Does}
 use Rattle.opening.specs.Opening.{sizesRight, Sizes, OpenAsks, CalldataAsks}
 
 -- ---- refusal 2
-grouped : (a b c d : Bool) → ((a && (b && c)) && d) ≡ (a && (b && (c && d)))
-grouped true true c d = refl
-grouped true false c d = refl
-grouped false b c d = refl
-
 module _ (s : Setting) (m : Mem) where
-  pub sizes-fit : sizesRight s m ≡ lengthsFit (length (m .bytes)) (length (m .keys)) (length (m .order)) (length (m .words)) (s .chunks) (s .pages) (s .journalWords)
-  sizes-fit = grouped (leb 1 (s .chunks) && leb (s .chunks) 65536) (leb 1 (s .pages) && leb (s .pages) 4096) (leb (s .journalWords) 65536) (lengthsRight s m)
-
   pub sizes-are : sizesRight s m ≡ true → Sizes s m
-  sizes-are y =
-      let r = fit-are (length (m .bytes)) (length (m .keys)) (length (m .order)) (length (m .words)) (s .chunks) (s .pages) (s .journalWords) (sym sizes-fit ∙ y) in
-      record {
-        chunks-lo = r .slots-lo;
-        chunks-hi = r .slots-hi;
-        pages-lo = r .pages-lo;
-        pages-hi = r .pages-hi;
-        journal-hi = r .journal-hi;
-        in-bytes = r .in-bytes;
-        in-keys = r .in-keys;
-        in-order = r .in-order;
-        in-words = r .in-words;
-      }
+  sizes-are = fit-are (length (m .bytes)) (length (m .keys)) (length (m .order)) (length (m .words)) (s .chunks) (s .pages) (s .journalWords)
 
   pub sizes-test : Sizes s m → sizesRight s m ≡ true
-  sizes-test z =
-      sizes-fit
-      ∙ fit-test (length (m .bytes)) (length (m .keys)) (length (m .order)) (length (m .words)) (s .chunks) (s .pages) (s .journalWords)
-      (record {
-        slots-lo = z .chunks-lo;
-        slots-hi = z .chunks-hi;
-        pages-lo = z .pages-lo;
-        pages-hi = z .pages-hi;
-        journal-hi = z .journal-hi;
-        in-bytes = z .in-bytes;
-        in-keys = z .in-keys;
-        in-order = z .in-order;
-        in-words = z .in-words;
-      })
+  sizes-test = fit-test (length (m .bytes)) (length (m .keys)) (length (m .order)) (length (m .words)) (s .chunks) (s .pages) (s .journalWords)
 
 -- ---- refusal 10: the chunks that n bytes from address 0 on touch
 pub touched-is : (n : ℕ) → (n + 255) / 256 ≡ touchedCount 0 n

@@ -69,8 +69,8 @@ module _ (s : Setting) (b k o w : List ℕ) (asks : OpenAsks s (mem b k o w)) (w
   facts : Facts m
   facts = record {
     lengths = record {
-      slots-lo = asks .sizes .chunks-lo;
-      slots-hi = asks .sizes .chunks-hi;
+      chunks-lo = asks .sizes .chunks-lo;
+      chunks-hi = asks .sizes .chunks-hi;
       pages-lo = asks .sizes .pages-lo;
       pages-hi = asks .sizes .pages-hi;
       journal-hi = asks .sizes .journal-hi;

@@ -3,13 +3,14 @@ ghost use mathlib.Core.Path.{_≡_};
 ghost use Prim.Native.Nat.{_≤_};
 ghost use lib.ListN.{length, replicate};
 ghost use Rattle.outcome.specs.Outcome.{answered, answerOutcome};
-ghost use Rattle.store.specs.Mem.{mem, headLength};
+ghost use Rattle.store.specs.Mem.{mem, headLength, fixedCount};
 ghost use Rattle.view.specs.View.{settingOf};
 ghost use Rattle.view.specs.Steps.{emptyView, opened};
 ghost use Rattle.view.specs.Calls.{nothing, OpenDoes};
 ghost use Rattle.view.specs.Does.{Shows};
 ghost use Rattle.page_ids.specs.declared.Layout.{Layout};
-ghost use Rattle.opening.specs.Opening.{layoutFrom, setting, headed, sizesRight, OpenAsks, FixedAsks, FirstPages, openingOutcome, CalldataAsks};
+ghost use Rattle.page_ids.specs.Decode.{layoutFrom};
+ghost use Rattle.opening.specs.Opening.{settingFrom, headed, sizesRight, OpenAsks, FixedAsks, FirstPages, openingOutcome, CalldataAsks};
 use outcome::Answer;
 use page_ids::Address;
 use page_ids::BasePage;
@@ -50,10 +51,10 @@ fn write_head(
     stride: u32,
     chunks: u32,
     pages: u32,
-    room: u32,
+    journal_words: u32,
 )
     requires { ⌜ headLength ≤ length (now words) ⌝ }
-    ensures { λ _. ⌜ now (words .exit) ≡ headed (setting (layoutFrom (statics .0) (calldata .0) (heap .0) (aux .0) (base .0) stride) chunks pages room) (now (words .entry)) ⌝ }
+    ensures { λ _. ⌜ now (words .exit) ≡ headed (settingFrom (layoutFrom (statics .0) (calldata .0) (heap .0) (aux .0) (base .0) stride) chunks pages «journal_words») (now (words .entry)) ⌝ }
 {
     words[head::STATIC_MEMORY] = statics.0 as u64;
     words[head::CALLDATA] = calldata.0 as u64;
@@ -63,9 +64,9 @@ fn write_head(
     words[head::STRIDE] = stride as u64;
     words[head::CHUNKS] = chunks as u64;
     words[head::PAGES] = pages as u64;
-    words[head::JOURNAL_WORDS] = room as u64;
+    words[head::JOURNAL_WORDS] = journal_words as u64;
     words[head::HELD] = 0;
-    words[head::ENTRIES] = 4;
+    words[head::ENTRIES] = head::FIXED_PAGES;
     words[head::DYNAMIC_LENGTH] = 0;
     words[head::HEAP_JOURNAL] = 0;
     words[head::AUX_JOURNAL] = 0;
@@ -74,10 +75,10 @@ fn write_head(
 // Lists the four fixed pages, whose ids the head has, as entries 0 to 3.
 fn list_fixed(entries: &mut [u64], order: &mut [u32], words: &[u64])
     requires { ⌜ FixedAsks (now entries) (now order) (now words) ⌝ }
-    ensures { λ _. ⌜ FirstPages (now (words .entry)) (now (entries .exit)) (now (order .exit)) 4 ⌝ }
+    ensures { λ _. ⌜ FirstPages (now (words .entry)) (now (entries .exit)) (now (order .exit)) fixedCount ⌝ }
 {
     let mut i: usize = 0;
-    while i < 4 {
+    while i < head::FIXED_ENTRIES {
         index::insert(entries, order, i, i as u32, words[i] + 1);
         i += 1;
     }
@@ -97,10 +98,10 @@ fn start_with(
     stride: u32,
     chunks: u32,
     pages: u32,
-    room: u32,
+    journal_words: u32,
 )
-    requires { ⌜ OpenAsks (setting (layoutFrom (statics .0) (calldata .0) (heap .0) (aux .0) (base .0) stride) chunks pages room) (mem (now bytes) (now keys) (now order) (now words)) ⌝ }
-    ensures { λ _. let s = setting (layoutFrom (statics .0) (calldata .0) (heap .0) (aux .0) (base .0) stride) chunks pages room in ⌜ Shows s (emptyView s) (mem (now (bytes .exit)) (now (keys .exit)) (now (order .exit)) (now (words .exit))) ⌝ }
+    requires { ⌜ OpenAsks (settingFrom (layoutFrom (statics .0) (calldata .0) (heap .0) (aux .0) (base .0) stride) chunks pages «journal_words») (mem (now bytes) (now keys) (now order) (now words)) ⌝ }
+    ensures { λ _. let s = settingFrom (layoutFrom (statics .0) (calldata .0) (heap .0) (aux .0) (base .0) stride) chunks pages «journal_words» in ⌜ Shows s (emptyView s) (mem (now (bytes .exit)) (now (keys .exit)) (now (order .exit)) (now (words .exit))) ⌝ }
 {
     let c = chunks as usize;
     let end = 256 * c;
@@ -116,13 +117,13 @@ fn start_with(
         stride,
         chunks,
         pages,
-        room,
+        journal_words,
     );
     list_fixed(&mut keys[c..], &mut order[c..], words);
 }
 
 // Makes the buffers a memory in which all is zero and every chunk pooled. The journals' old bytes and numbers stay: nothing reads them.
-pub fn start(
+fn start(
     bytes: &mut [u8],
     keys: &mut [u64],
     order: &mut [u32],
@@ -130,10 +131,10 @@ pub fn start(
     layout: Layout,
     chunks: u32,
     pages: u32,
-    room: u32,
+    journal_words: u32,
 )
-    requires { ⌜ OpenAsks (setting layout chunks pages room) (mem (now bytes) (now keys) (now order) (now words)) ⌝ }
-    ensures { λ _. let s = setting layout chunks pages room in ⌜ Shows s (emptyView s) (mem (now (bytes .exit)) (now (keys .exit)) (now (order .exit)) (now (words .exit))) ⌝ }
+    requires { ⌜ OpenAsks (settingFrom layout chunks pages «journal_words») (mem (now bytes) (now keys) (now order) (now words)) ⌝ }
+    ensures { λ _. let s = settingFrom layout chunks pages «journal_words» in ⌜ Shows s (emptyView s) (mem (now (bytes .exit)) (now (keys .exit)) (now (order .exit)) (now (words .exit))) ⌝ }
 {
     let statics = layout.static_memory;
     let calldata = layout.calldata;
@@ -154,7 +155,7 @@ pub fn start(
         stride,
         chunks,
         pages,
-        room,
+        journal_words,
     );
 }
 
@@ -166,9 +167,9 @@ fn sizes_right(
     words: &[u64],
     chunks: u32,
     pages: u32,
-    room: u32,
+    journal_words: u32,
 ) -> bool
-    ensures { λ r. ⌜ ((l : Layout) → r ≡ sizesRight (setting l chunks pages room) (mem (now (bytes .entry)) (now (keys .entry)) (now (order .entry)) (now (words .entry)))) ⌝ }
+    ensures { λ r. ⌜ ((l : Layout) → r ≡ sizesRight (settingFrom l chunks pages «journal_words») (mem (now (bytes .entry)) (now (keys .entry)) (now (order .entry)) (now (words .entry)))) ⌝ }
 {
     formed::head::lengths_ok(
         bytes.len(),
@@ -177,7 +178,7 @@ fn sizes_right(
         words.len(),
         chunks as u64,
         pages as u64,
-        room as u64,
+        journal_words as u64,
     )
 }
 
@@ -190,15 +191,15 @@ fn open_refusal(
     layout: Layout,
     chunks: u32,
     pages: u32,
-    room: u32,
+    journal_words: u32,
     calldata: &[u8],
 ) -> u32
-    ensures { λ r. let s = setting layout chunks pages room in ⌜ answered r nothing ≡ openingOutcome s (mem (now (bytes .entry)) (now (keys .entry)) (now (order .entry)) (now (words .entry))) (length (now (calldata .entry))) ⌝ }
+    ensures { λ r. let s = settingFrom layout chunks pages «journal_words» in ⌜ answered r nothing ≡ openingOutcome s (mem (now (bytes .entry)) (now (keys .entry)) (now (order .entry)) (now (words .entry))) (length (now (calldata .entry))) ⌝ }
 {
     if page_ids::bad_layout(layout) {
         return 1;
     }
-    if !sizes_right(bytes, keys, order, words, chunks, pages, room) {
+    if !sizes_right(bytes, keys, order, words, chunks, pages, journal_words) {
         return 2;
     }
     let c = chunks as usize;
@@ -234,10 +235,10 @@ pub fn open(
     layout: Layout,
     chunks: u32,
     pages: u32,
-    room: u32,
+    journal_words: u32,
     calldata: &[u8],
 ) -> Answer
-    ensures { λ r. let s = setting layout chunks pages room in let m = mem (now (bytes .entry)) (now (keys .entry)) (now (order .entry)) (now (words .entry)) in ⌜ OpenDoes m s (now (calldata .entry)) (answerOutcome nothing r) (mem (now (bytes .exit)) (now (keys .exit)) (now (order .exit)) (now (words .exit))) ⌝ }
+    ensures { λ r. let s = settingFrom layout chunks pages «journal_words» in let m = mem (now (bytes .entry)) (now (keys .entry)) (now (order .entry)) (now (words .entry)) in ⌜ OpenDoes m s (now (calldata .entry)) (answerOutcome nothing r) (mem (now (bytes .exit)) (now (keys .exit)) (now (order .exit)) (now (words .exit))) ⌝ }
 {
     let n = open_refusal(
         bytes,
@@ -247,13 +248,22 @@ pub fn open(
         layout,
         chunks,
         pages,
-        room,
+        journal_words,
         calldata,
     );
     if n != 0 {
         return Answer::Refused(n);
     }
-    start(bytes, keys, order, words, layout, chunks, pages, room);
+    start(
+        bytes,
+        keys,
+        order,
+        words,
+        layout,
+        chunks,
+        pages,
+        journal_words,
+    );
     let page = layout.calldata;
     put_calldata(bytes, keys, order, words, page, calldata);
     Answer::Done

@@ -12,6 +12,17 @@ use Rattle.page_ids.specs.declared.DecodedPage.the-variants.{Static, Boo
 use Rattle.page_ids.specs.declared.Decoding.{Decoding}
 use Rattle.page_ids.specs.declared.Decoding.the-variants.{Refused, Decoded}
 
+-- the layout of six numbers
+abbrev pub layoutFrom : (static calldata heap aux base stride : ℕ) → Layout
+layoutFrom static calldata heap aux base stride = record {
+  «static_memory» = record { 0 = static };
+  calldata = record { 0 = calldata };
+  «bootloader_heap» = record { 0 = heap };
+  «bootloader_aux» = record { 0 = aux };
+  base = record { 0 = base };
+  stride = stride;
+}
+
 -- 01, refusal 1: the four fixed page ids are not distinct, or the stride is below 4
 abbrev pub badLayout : Layout → Bool
 badLayout l =

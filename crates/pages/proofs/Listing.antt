@@ -18,9 +18,9 @@ use Rattle.index.proofs.Logic.{same-or-not, lt-or-ge}
 use Rattle.index.proofs.Counts.{used-free, count-fill}
 use Rattle.index.proofs.Places.{seek-hit, seek-le, seek-other}
 use Rattle.index.proofs.Meaning.{once}
-use Rattle.store.specs.Mem.{Mem, mem, layoutOf, slotCount, pageCount, journalWords, journalLength, inUse, dynamicLength, holders, entries, slotOrder, pageOrder, chunks}
+use Rattle.store.specs.Mem.{Mem, mem, layoutOf, slotCount, pageCount, journalWords, journalLength, inUse, dynamicLength, holders, entries, slotOrder, pageOrder, chunkBytes}
 use Rattle.formed.specs.Pages.{LayoutRule, fixed, dynamic, group, journalPlace}
-use Rattle.formed.specs.Parts.{Note, tab, entryOf, allocated, entriesLeft, slotOfChunk, holds, byteAt, noteAt, noteAddress, noteFirst, noteLast, oldAt, journal}
+use Rattle.formed.specs.Parts.{Note, tab, entryOf, allocated, entriesLeft, slotOfChunk, holds, byteAt, notePlace, noteAddress, noteFirst, noteLast, oldPlace, journal}
 use Rattle.formed.specs.WellFormed.{WellFormed, Lengths, ListedPage, NotedRight, holder}
 use Rattle.formed.proofs.Bools.{refute, or-off}
 use Rattle.formed.proofs.Keys.{le-or-gt, seek-is, key-entry}
@@ -53,7 +53,7 @@ max-same d g l = omega arith
 
 -- word i of journal j
 abbrev noteOf : Mem → ℕ → ℕ → Note
-noteOf m j i = record { address = noteAddress m j i; old = tab 32 (λ k. getD (m .bytes) (oldAt m j i + k) 0) }
+noteOf m j i = record { address = noteAddress m j i; old = tab 32 (λ k. getD (m .bytes) (oldPlace (m .words) j i + k) 0) }
 
 -- ---- no slot has a key of an entry that is free or past the table
 module _ (m : Mem) (f : WellFormed m) where
@@ -175,7 +175,7 @@ module _ (m : Mem) (p : ℕ) (a : ListAsks m p) where
       holders-kept : holders m' ≡ holders m
       holders-kept = ap (λ (x : ℕ). take x keys') six ∙ t .holders-are
 
-      chunks-kept : chunks m' ≡ chunks m
+      chunks-kept : chunkBytes m' ≡ chunkBytes m
       chunks-kept = ap (λ (x : ℕ). take (256 * x) (m .bytes)) six
 
       order-kept : slotOrder m' ≡ slotOrder m
@@ -230,14 +230,14 @@ module _ (m : Mem) (p : ℕ) (a : ListAsks m p) where
           let o = entry-used (keyEntry (holder m s)) g in
           subst (SlotRight m' s) (sym q) record { entry = omega arith; top = r .top; tail = λ e b lo hi. ap (λ (x : List ℕ). getD x (256 * s + b) 0) chunks-kept ∙ r .tail e b lo hi }
 
-      note-place : (j i : ℕ) → noteAt m' j i ≡ noteAt m j i
+      note-place : (j i : ℕ) → notePlace (m' .words) j i ≡ notePlace (m .words) j i
       note-place j i = ap (λ (r : ℕ). 16 + 3 * (r * j + i)) eight
 
       note-number : (j i : ℕ) → noteAddress m' j i ≡ noteAddress m j i
-      note-number j i = ap (λ (x : ℕ). getD words' x 0) (note-place j i) ∙ past (noteAt m j i) (omega arith)
+      note-number j i = ap (λ (x : ℕ). getD words' x 0) (note-place j i) ∙ past (notePlace (m .words) j i) (omega arith)
 
-      note-slot : (j i x : ℕ) → getD words' (noteAt m' j i + x) 0 ≡ getD (m .words) (noteAt m j i + x) 0
-      note-slot j i x = ap (λ (y : ℕ). getD words' (y + x) 0) (note-place j i) ∙ past (noteAt m j i + x) (omega arith)
+      note-slot : (j i x : ℕ) → getD words' (notePlace (m' .words) j i + x) 0 ≡ getD (m .words) (notePlace (m .words) j i + x) 0
+      note-slot j i x = ap (λ (y : ℕ). getD words' (y + x) 0) (note-place j i) ∙ past (notePlace (m .words) j i + x) (omega arith)
 
       held-note : (s s' k k' : ℕ) → s' ≡ s → k' ≡ k → holder m s ≡ k → holder m' s' ≡ k'
       held-note s s' k k' q e h = ap (λ (x : List ℕ). getD x s' 0) holders-kept ∙ ap (holder m) q ∙ h ∙ sym e
@@ -307,7 +307,7 @@ module _ (m : Mem) (p : ℕ) (a : ListAsks m p) where
 
       bytes-kept : (q b : ℕ) → byteAt m' q b ≡ byteAt m q b
       unfolding byteAt
-      bytes-kept q b = ap (λ (y : List ℕ). getD y (256 * slotOfChunk m' q (b / 256) + b % 256) 0) chunks-kept ∙ ap (λ (y : ℕ). getD (chunks m) (256 * y + b % 256) 0) (slot-kept q (b / 256))
+      bytes-kept q b = ap (λ (y : List ℕ). getD y (256 * slotOfChunk m' q (b / 256) + b % 256) 0) chunks-kept ∙ ap (λ (y : ℕ). getD (chunkBytes m) (256 * y + b % 256) 0) (slot-kept q (b / 256))
 
       holds-kept : (q k : ℕ) → holds m' q k ≡ holds m q k
       unfolding holds

@@ -37,7 +37,7 @@ module _ (l : Layout) (p : ℕ) (v : View) where
 
   -- w has the bytes, chunks and journals of v
   module _ (w : View) (bytes : (q a : ℕ) → w .bytes q a ≡ v .bytes q a) (held : (q k : ℕ) → w .held q k ≡ v .held q k) (pool : w .pool ≡ v .pool)
-      (allocated : (q : ℕ) → w .allocated q ≡ (eqb q p || v .allocated q)) (entries : w .entries ≡ cond (v .allocated p) (v .entries) (v .entries - 1))
+      (allocated : (q : ℕ) → w .allocated q ≡ (eqb q p || v .allocated q)) (entries : w .entriesLeft ≡ cond (v .allocated p) (v .entriesLeft) (v .entriesLeft - 1))
       (high : w .dynamicLength ≡ cond (dynamic l p) (max (v .dynamicLength) (group l p + 1)) (v .dynamicLength)) (journal : (j : ℕ) → w .journal j ≡ v .journal j) where
     pub listing-by : w ≡ written l p 0 [] [] v
     listing-by =

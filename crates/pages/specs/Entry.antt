@@ -6,7 +6,7 @@ use mathlib.Core.List.{List}
 use Prim.Native.Nat.{ℕ, _+_, _≤_, _<_, max}
 use lib.ListN.{length, getD, set, take, drop}
 use Rattle.index.specs.Index.{indexed, seek}
-use Rattle.store.specs.Mem.{layoutOf, slotCount, inUse, dynamicLength}
+use Rattle.store.specs.Mem.{inUsePlace, dynamicLengthPlace, layoutOf, slotCount, inUse, dynamicLength}
 use Rattle.store.specs.Hold.{PagesIndexed}
 use Rattle.formed.specs.Pages.{group}
 
@@ -29,4 +29,4 @@ pub record EntryTaken (p : ℕ) (keys order words keys' order' words' : List ℕ
   pub entries-are : drop (slotCount words) keys' ≡ set (drop (slotCount words) keys) entry (p + 1)
   pub slots-order : take (slotCount words) order' ≡ take (slotCount words) order
   pub index : indexed (drop (slotCount words) keys') (drop (slotCount words) order') (inUse words + 1) ≡ true
-  pub words-are : words' ≡ set (set words 10 (inUse words + 1)) 11 (max (dynamicLength words) (group (layoutOf words) p + 1))
+  pub words-are : words' ≡ set (set words inUsePlace (inUse words + 1)) dynamicLengthPlace (max (dynamicLength words) (group (layoutOf words) p + 1))

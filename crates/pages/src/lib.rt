@@ -2,7 +2,7 @@
 ghost use mathlib.Core.Path.{_≡_};
 ghost use Prim.Native.Nat.{_≤_, max};
 ghost use lib.ListN.{length, set};
-ghost use Rattle.store.specs.Mem.{mem, headLength, dynamicLength};
+ghost use Rattle.store.specs.Mem.{mem, headLength, dynamicLengthPlace, dynamicLength};
 ghost use Rattle.view.specs.View.{settingOf};
 ghost use Rattle.view.specs.Does.{Shows};
 ghost use Rattle.view.specs.Inner.{listing, ListAsks};
@@ -13,7 +13,7 @@ use store::head;
 // Raises the dynamic length to `least`, if it is below.
 fn raise(words: &mut [u64], least: u64)
     requires { ⌜ headLength ≤ length (now words) ⌝ }
-    ensures { λ _. ⌜ now (words .exit) ≡ set (now (words .entry)) 11 (max (dynamicLength (now (words .entry))) least) ⌝ }
+    ensures { λ _. ⌜ now (words .exit) ≡ set (now (words .entry)) dynamicLengthPlace (max (dynamicLength (now (words .entry))) least) ⌝ }
 {
     if least < words[head::DYNAMIC_LENGTH] {
         return;
@@ -47,7 +47,7 @@ pub fn list_page(bytes: &[u8], keys: &mut [u64], order: &mut [u32], words: &mut 
     ensures { λ _. ⌜ Shows (settingOf (mem (now (bytes .entry)) (now (keys .entry)) (now (order .entry)) (now (words .entry)))) (listing (mem (now (bytes .entry)) (now (keys .entry)) (now (order .entry)) (now (words .entry))) (page .0)) (mem (now (bytes .entry)) (now (keys .exit)) (now (order .exit)) (now (words .exit))) ⌝ }
 {
     let e = store::entry_of(keys, order, words, page);
-    if (e as u64) < words[head::PAGES] + 4 {
+    if (e as u64) < words[head::PAGES] + head::FIXED_PAGES {
         return;
     }
     take_entry(keys, order, words, page);

@@ -18,7 +18,7 @@ use Rattle.view.specs.Does.{Shows, Does}
 use Rattle.view.specs.Calls.{Call, Value, Open, Allocate, ReadWord, ReadPartial, ReadRange, ReadByte, DynamicLength, WriteWord, WriteBytes, Lookup, LookupCheck, Free, Window, Truncate, CompareLeft, CompareRight, CompareBoth, Snapshot, Rollback, DeleteHistory, Load, Store, LoadPointer, LoadStatic, StoreStatic, nothing, sameLengths, outcomeOf, nextOf}
 use Rattle.view.proofs.Counts.{pool-pairs, entries-pages}
 use Rattle.plain.specs.Plain.{Plain, follow, feed, seen}
-use Rattle.plain.specs.Claim.{Steps, Contracts, Started, by-opening, Listed, Run, none, more, Kept}
+use Rattle.plain.specs.Claim.{Steps, Contracts, Started, by-opening, Allowed, Run, none, more, Kept}
 use Rattle.plain.proofs.Tests.{clear}
 use Rattle.plain.proofs.Seen.{Fits, Counted, seen-follow, fits-follow, seen-fresh, fits-fresh}
 
@@ -33,7 +33,7 @@ abbrev PoolCounts : Setting → View → Type 0
 PoolCounts s v = v .pool + pairs (v .held) ≡ s .chunks
 
 abbrev EntriesCount : Setting → View → Type 0
-EntriesCount s v = v .entries + count (λ q. v .allocated q && dynamic (s .layout) q) 4294967296 ≡ s .pages
+EntriesCount s v = v .entriesLeft + count (λ q. v .allocated q && dynamic (s .layout) q) 4294967296 ≡ s .pages
 
 module _ {s : Setting} {m : Mem} {p : Plain} (g : Good s m p) where
   pub rule : LayoutRule (s .layout)
@@ -70,7 +70,7 @@ module _ (S : Steps) (C : Contracts S) where
       let d = rw (same-lengths g t) at (C .opens x) in
       record { answer = d .answer; kept = d .kept; changed = λ e. absurd (true≢false (sym e ∙ ap carriedOut (sym (d .answer)) ∙ l)) }
 
-  pub does : {s : Setting} {m m' : Mem} {p : Plain} {o : Outcome Value} (c : Call) → S m c o m' → Listed c o → Good s m p
+  pub does : {s : Setting} {m m' : Mem} {p : Plain} {o : Outcome Value} (c : Call) → S m c o m' → Allowed c o → Good s m p
       → Does m (outcomeOf s c (seen s p)) s (nextOf s c (seen s p)) o m'
   does (Open t calldata) x l g = refused-opening x (l t calldata refl) g
   does (Allocate p bs) x l g = C .calls (λ t d e. never (cc)) x (g .shows)
@@ -99,7 +99,7 @@ module _ (S : Steps) (C : Contracts S) where
   does (StoreStatic f i n) x l g = C .calls (λ t d e. never (cc)) x (g .shows)
 
   -- ---- every call keeps the invariant
-  pub keep : {s : Setting} {m m' : Mem} {p : Plain} {c : Call} {o : Outcome Value} → S m c o m' → Listed c o → Good s m p
+  pub keep : {s : Setting} {m m' : Mem} {p : Plain} {c : Call} {o : Outcome Value} → S m c o m' → Allowed c o → Good s m p
       → Good s m' (feed (s .layout) c o p)
   keep {s} {m} {m'} {p} {c} {o} x l g = go (carriedOut o) refl
     where

@@ -25,7 +25,7 @@ use Rattle.view.specs.Checks.{Check, undecodable, wordWriteChecks, byteWriteChe
 use Rattle.view.specs.Instructions.{Operand, Hook, heapOf, staticOf, hooked, storeChecks, stored, staticStoreChecks, staticStored}
 use Rattle.view.specs.Calls.{Call, Open, Allocate, ReadWord, ReadPartial, ReadRange, ReadByte, DynamicLength, WriteWord, WriteBytes, Lookup, LookupCheck, Free, Window, Truncate, CompareLeft, CompareRight, CompareBoth, Snapshot, Rollback, DeleteHistory, Load, Store, LoadPointer, LoadStatic, StoreStatic, Value, nothing, instructionResult, outcomeOf, nextOf}
 use Rattle.view.proofs.Counts.{fixed-only}
-use Rattle.plain.specs.Plain.{Plain, has, member, put, putWord, dropping, follow, freshPlain, seen}
+use Rattle.plain.specs.Plain.{Plain, has, member, put, putWord, plainWithout, follow, freshPlain, seen}
 use Rattle.plain.proofs.Tests.{Clear, clear}
 use Rattle.plain.proofs.Held.{has-hold, length-hold, missing-le, has-list, length-list, list-fits}
 use Rattle.plain.proofs.Others.{length-others, has-others, allocated-others, pairs-left, listedDynamic, pages-left}
@@ -87,14 +87,14 @@ module _ (s : Setting) (p a : ℕ) (bs : List ℕ) (notes : List Note) (m : Plai
         held = λ q j. has-hold p (a / 256) (touchedCount a (length bs)) (m .held) q j i;
         pool = pool i;
         allocated = λ q. has-list (s .layout) p (m .pages) k q i;
-        entries = length-list (s .layout) p (m .pages) k (s .pages) i;
+        entriesLeft = length-list (s .layout) p (m .pages) k (s .pages) i;
         dynamicLength = (put (s .layout) p a bs notes m) .dynamicLength;
         journal = (put (s .layout) p a bs notes m) .journal;
       }
 
   -- its checks keep it within the room
   fits-put : Fits s m → undecodable s p ≡ false → needs (seen s m) p a (length bs) ≤ (seen s m) .pool
-      → ((seen s m) .allocated p ≡ false → 0 < (seen s m) .entries) → Fits s (put (s .layout) p a bs notes m)
+      → ((seen s m) .allocated p ≡ false → 0 < (seen s m) .entriesLeft) → Fits s (put (s .layout) p a bs notes m)
   fits-put f e r n = record {
     chunks = let h = length-hold p (a / 256) (touchedCount a (length bs)) (m .held) in let c = f .chunks in omega arith;
     pages = list-fits (s .layout) p (m .pages) (decodable s p e) (s .pages) (f .pages) n;
@@ -108,18 +108,18 @@ pub record Counted (s : Setting) (m : Plain) : Type 0 where
 
 module _ (s : Setting) (m : Plain) (d : ℕ → ℕ → Bool) (u : ℕ → Bool) (n : ℕ) where
   -- one that names no fixed page
-  seen-drop : Counted s m → ((q : ℕ) → fixed (s .layout) q ≡ true → u q ≡ false) → seen s (dropping d u n m) ≡ shortened n (without s d u (seen s m))
+  seen-drop : Counted s m → ((q : ℕ) → fixed (s .layout) q ≡ true → u q ≡ false) → seen s (plainWithout d u n m) ≡ shortened n (without s d u (seen s m))
   seen-drop c loose = λ i. record {
-    bytes = (dropping d u n m) .bytes;
+    bytes = (plainWithout d u n m) .bytes;
     held = λ q k. has-others d (m .held) q k i;
     pool = s .chunks - pairs-left d (m .held) (c .chunks) i;
     allocated = λ q. allocated-others (s .layout) u (m .pages) q (loose q) i;
-    entries = s .pages - pages-left (s .layout) u (m .pages) 4294967296 (c .pages) i;
+    entriesLeft = s .pages - pages-left (s .layout) u (m .pages) 4294967296 (c .pages) i;
     dynamicLength = n;
     journal = m .journal;
   }
 
-  fits-drop : Fits s m → Fits s (dropping d u n m)
+  fits-drop : Fits s m → Fits s (plainWithout d u n m)
   fits-drop f = record {
     chunks = let h = length-others (λ pair. d (pair .0) (pair .1)) (m .held) in let c = f .chunks in omega arith;
     pages = let h = length-others u (m .pages) in let c = f .pages in omega arith;
@@ -129,7 +129,7 @@ module _ (s : Setting) (m : Plain) (d : ℕ → ℕ → Bool) (u : ℕ → Bool)
 record Written (s : Setting) (v : View) (p a n : ℕ) : Type 0 where
   known : undecodable s p ≡ false
   room : needs v p a n ≤ v .pool
-  entry : v .allocated p ≡ false → 0 < v .entries
+  entry : v .allocated p ≡ false → 0 < v .entriesLeft
 
 entry-left : (a : Bool) (n : ℕ) → (not a && eqb n 0) ≡ false → a ≡ false → 0 < n
 entry-left true n e z = absurd (true≢false z)
@@ -139,17 +139,17 @@ module _ (s : Setting) (v : View) (p : ℕ) where
   word-passed : (a n : ℕ) → carriedOut (outcomeOf s (WriteWord p a n) v) ≡ true → Written s v p a 32
   word-passed a n e =
       let c = clear (wordWriteChecks s v p a) nothing e in
-      record { known = c .0; room = ltb-false (v .pool) (needs v p a 32) (c .1 .1 .0); entry = entry-left (v .allocated p) (v .entries) (c .1 .0) }
+      record { known = c .0; room = ltb-false (v .pool) (needs v p a 32) (c .1 .1 .0); entry = entry-left (v .allocated p) (v .entriesLeft) (c .1 .0) }
 
   bytes-passed : (a : ℕ) (bs : List ℕ) → carriedOut (outcomeOf s (WriteBytes p a bs) v) ≡ true → Written s v p a (length bs)
   bytes-passed a bs e =
       let c = clear (byteWriteChecks s v p a (length bs)) nothing e in
-      record { known = c .0; room = ltb-false (v .pool) (needs v p a (length bs)) (c .1 .1 .1 .0); entry = entry-left (v .allocated p) (v .entries) (c .1 .1 .0) }
+      record { known = c .0; room = ltb-false (v .pool) (needs v p a (length bs)) (c .1 .1 .1 .0); entry = entry-left (v .allocated p) (v .entriesLeft) (c .1 .1 .0) }
 
   allocate-passed : (bs : List ℕ) → carriedOut (outcomeOf s (Allocate p bs) v) ≡ true → Written s v p 0 (length bs)
   allocate-passed bs e =
       let c = clear (allocateChecks s v p (length bs)) nothing e in
-      record { known = c .0; room = ltb-false (v .pool) (needs v p 0 (length bs)) (c .1 .1 .1 .1 .0); entry = entry-left (v .allocated p) (v .entries) (c .1 .1 .1 .0) }
+      record { known = c .0; room = ltb-false (v .pool) (needs v p 0 (length bs)) (c .1 .1 .1 .1 .0); entry = entry-left (v .allocated p) (v .entriesLeft) (c .1 .1 .1 .0) }
 
   pub allocate-dynamic : (bs : List ℕ) → carriedOut (outcomeOf s (Allocate p bs) v) ≡ true → fixed (s .layout) p ≡ false
   allocate-dynamic bs e = clear (allocateChecks s v p (length bs)) nothing e .1 .0
@@ -161,7 +161,7 @@ module _ (s : Setting) (v : View) (p : ℕ) where
 -- a store that is carried out has passed the checks of a word write
 module _ (s : Setting) (v : View) where
   write-clear : (p a : ℕ) (rest : List (Check Value)) → Clear (wordWriteChecks s v p a ++ rest) → Written s v p a 32
-  write-clear p a rest c = record { known = c .0; room = ltb-false (v .pool) (needs v p a 32) (c .1 .1 .0); entry = entry-left (v .allocated p) (v .entries) (c .1 .0) }
+  write-clear p a rest c = record { known = c .0; room = ltb-false (v .pool) (needs v p a 32) (c .1 .1 .0); entry = entry-left (v .allocated p) (v .entriesLeft) (c .1 .0) }
 
   store-passed : (area : Area) (f : Frame) (x : Operand) (n : ℕ) (h : Hook) → carriedOut (outcomeOf s (Store area f x n h) v) ≡ true → Written s v (heapOf f area) (x .word) 32
   store-passed area f x n h e =
@@ -257,7 +257,7 @@ seen-empty s =
       held = λ p k. false;
       pool = pool i;
       allocated = λ p. or-false (fixed (s .layout) p) i;
-      entries = entries i;
+      entriesLeft = entries i;
       dynamicLength = 0;
       journal = λ j. [];
     }

@@ -22,7 +22,7 @@ use Rattle.view.specs.View.{Setting}
 use Rattle.view.specs.Steps.{over, touches, undone, rolledCount, rolledBytes, marks, alignedCount}
 use Rattle.view.specs.Instructions.{heapOf, staticOf}
 use Rattle.view.specs.Calls.{Call, Value, Open, Allocate, ReadWord, ReadPartial, ReadRange, ReadByte, DynamicLength, WriteWord, WriteBytes, Lookup, LookupCheck, Free, Window, Truncate, CompareLeft, CompareRight, CompareBoth, Snapshot, Rollback, DeleteHistory, Load, Store, LoadPointer, LoadStatic, StoreStatic, outcomeOf}
-use Rattle.plain.specs.Plain.{Plain, put, putWord, dropping, follow, seen}
+use Rattle.plain.specs.Plain.{Plain, put, putWord, plainWithout, follow, seen}
 use Rattle.plain.specs.Claim.{Keeps}
 use Rattle.plain.proofs.Undone.{over-page, undone-at, undone-append, undone-write, word-covered, aligned-covered, rolled-own, drop-cut}
 use Rattle.formed.proofs.Pages.{place-lt}
@@ -110,11 +110,11 @@ module _ (l : Layout) (r : LayoutRule l) (to : ℕ → ℕ) where
 
     -- ---- a drop that names no chunk of a fixed page, as the journals' are
     since-drop : (d : ℕ → ℕ → Bool) (u : ℕ → Bool) (n : ℕ) (p : Plain) → ((q k : ℕ) → fixed l q ≡ true → d q k ≡ false) → Since l to f p
-        → Since l to f (dropping d u n p)
+        → Since l to f (plainWithout d u n p)
     since-drop d u n p loose h =
-        since-own p (dropping d u n p) (h .long)
+        since-own p (plainWithout d u n p) (h .long)
         (λ j b k.
-        undone-at (journalPage l j) (drop (to j) (p .journal j)) ((dropping d u n p) .bytes) (p .bytes) (journalPage l j) b
+        undone-at (journalPage l j) (drop (to j) (p .journal j)) ((plainWithout d u n p) .bytes) (p .bytes) (journalPage l j) b
         (ap (λ (t : Bool). cond t 0 (p .bytes (journalPage l j) b)) (loose (journalPage l j) (b / 256) (fixed-id l (journalPlace j) (place-lt j k)))))
         h
 

@@ -18,7 +18,7 @@ use Rattle.view.specs.Checks.{sameLayout, compareChecks}
 use Rattle.view.specs.Does.{Shows, Does}
 use Rattle.view.specs.Calls.{Call, Value, CompareLeft, CompareRight, Snapshot, Rollback, nothing, lengths, verdict, outcomeOf}
 use Rattle.plain.specs.Plain.{Plain, follow, feed, seen}
-use Rattle.plain.specs.Claim.{Steps, Contracts, Listed, Run, none, more, Keeps, Restored, compared, Claim}
+use Rattle.plain.specs.Claim.{Steps, Contracts, Allowed, Run, none, more, Keeps, Restored, compared, Claim}
 use Rattle.plain.proofs.Tests.{or-neither}
 use Rattle.plain.proofs.Undone.{rolled-others}
 use Rattle.plain.proofs.Good.{Good, rule, kept, never, does, start, run-good}
@@ -29,7 +29,7 @@ byte e p a = ap (λ (v : View). v .bytes p a) e
 
 module _ (S : Steps) (C : Contracts S) where
   -- every call in between keeps the snapshot's invariant, beside the other
-  since : {s : Setting} {m m' : Mem} {p : Plain} {c : Call} {o : Outcome Value} (heap aux : ℕ) (f : ℕ → ℕ → ℕ) → S m c o m' → Listed c o → Keeps heap aux c o
+  since : {s : Setting} {m m' : Mem} {p : Plain} {c : Call} {o : Outcome Value} (heap aux : ℕ) (f : ℕ → ℕ → ℕ) → S m c o m' → Allowed c o → Keeps heap aux c o
       → Good s m p → Since (s .layout) (marks heap aux) f p → Since (s .layout) (marks heap aux) f (feed (s .layout) c o p)
   since {s} {p = p} {c = c} {o = o} heap aux f x l k g h = go (carriedOut o) refl
     where

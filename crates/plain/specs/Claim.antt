@@ -8,11 +8,11 @@ use Prim.Native.Nat.{ℕ, _+_, _≤_, _<_}
 use lib.ListN.{length}
 use Rattle.outcome.specs.Outcome.{Outcome, refused, done, carriedOut, firstOf}
 use Rattle.store.specs.Mem.{Mem, slotCount}
-use Rattle.formed.specs.Pages.{journalCount, journalPage}
+use Rattle.formed.specs.Pages.{journalPage}
 use Rattle.formed.specs.Parts.{byteAt, holds, allocated, pool}
 use Rattle.formed.specs.WellFormed.{Pooled, slotByte}
 use Rattle.view.specs.View.{View, Setting}
-use Rattle.view.specs.Steps.{alike}
+use Rattle.view.specs.Steps.{alike, rolledCount}
 use Rattle.view.specs.Checks.{sameLayout}
 use Rattle.view.specs.Does.{Shows, Does}
 use Rattle.view.specs.Calls.{Call, Value, Open, CompareLeft, CompareRight, Snapshot, Rollback, DeleteHistory, nothing, lengths, verdict, outcomeOf, nextOf, OpenDoes}
@@ -36,14 +36,14 @@ pub data Started (S : Steps) : Setting → Mem → Plain → Type 0 where
   by-opening : {before start : Mem} {s : Setting} {calldata : List ℕ} → S before (Open s calldata) (done nothing) start → Started S s start (freshPlain s calldata)
 
 -- which calls a list may have: all, an opening only where it is refused
-abbrev pub Listed : Call → Outcome Value → Type 0
-Listed c o = (t : Setting) (calldata : List ℕ) → c ≡ Open t calldata → carriedOut o ≡ false
+abbrev pub Allowed : Call → Outcome Value → Type 0
+Allowed c o = (t : Setting) (calldata : List ℕ) → c ≡ Open t calldata → carriedOut o ≡ false
 
 -- calls, each lent the memory that the last one left, with the plain map fed beside them; `Ok` may limit them further
 pub data Run (S : Steps) (Ok : Call → Outcome Value → Type 0) (s : Setting) : Mem → Plain → Mem → Plain → Type 0 where
   none : {m : Mem} {p : Plain} → Run S Ok s m p m p
   more : {m m₁ m₂ : Mem} {p p₁ : Plain} {c : Call} {o : Outcome Value}
-      → Run S Ok s m p m₁ p₁ → S m₁ c o m₂ → Listed c o → Ok c o → Run S Ok s m p m₂ (feed (s .layout) c o p₁)
+      → Run S Ok s m p m₁ p₁ → S m₁ c o m₂ → Allowed c o → Ok c o → Run S Ok s m p m₂ (feed (s .layout) c o p₁)
 
 abbrev pub Any : Call → Outcome Value → Type 0
 Any c o = Unit {0}
@@ -66,9 +66,9 @@ pub record Kept (s : Setting) (m : Mem) (p : Plain) : Type 0 where
 -- after a rollback that left m', m being the memory just before it and snap that of the snapshot
 pub record Restored (s : Setting) (snap m m' : Mem) : Type 0 where
   -- both bootloader pages read in every byte as at the snapshot
-  pub pages : (j a : ℕ) → j < journalCount → byteAt m' (journalPage (s .layout) j) a ≡ byteAt snap (journalPage (s .layout) j) a
+  pub pages : (j a : ℕ) → j < rolledCount → byteAt m' (journalPage (s .layout) j) a ≡ byteAt snap (journalPage (s .layout) j) a
   -- all other pages are as just before it in bytes, held chunk numbers and allocation
-  pub others : (q : ℕ) → ((j : ℕ) → j < journalCount → q ≡ journalPage (s .layout) j → ⊥)
+  pub others : (q : ℕ) → ((j : ℕ) → j < rolledCount → q ≡ journalPage (s .layout) j → ⊥)
       → ((a : ℕ) → byteAt m' q a ≡ byteAt m q a) × ((k : ℕ) → holds m' q k ≡ holds m q k) × (allocated m' q ≡ allocated m q)
 
 -- what a comparison answers of two settings, a left view and a right one: refusal 1 where the layouts differ, else the verdict
@@ -80,7 +80,7 @@ pub record Claim (S : Steps) : Type 0 where
   pub lists : {s : Setting} {start m : Mem} {p₀ p : Plain} → Started S s start p₀ → Run S Any s start p₀ m p → Kept s m p
   -- every call's outcome, value and refusal number alike, is the one computed from the setting and the plain map
   pub answers : {s : Setting} {start m m' : Mem} {p₀ p : Plain} {c : Call} {o : Outcome Value}
-      → Started S s start p₀ → Run S Any s start p₀ m p → S m c o m' → Listed c o → o ≡ outcomeOf s c (seen s p)
+      → Started S s start p₀ → Run S Any s start p₀ m p → S m c o m' → Allowed c o → o ≡ outcomeOf s c (seen s p)
   -- a comparison with another memory that comes from a list: the two plain maps decide it, whichever memory stands on the left
   pub compares-left : {s t : Setting} {start m m' other n : Mem} {p₀ p q₀ q : Plain} {o : Outcome Value}
       → Started S s start p₀ → Run S Any s start p₀ m p → Started S t other q₀ → Run S Any t other q₀ n q

@@ -25,20 +25,20 @@ pub record Plain : Type 0 where
   pub journal : ℕ → List Note
 
 -- a map with another value of one of its parts
-abbrev pub withBytes : (ℕ → ℕ → ℕ) → Plain → Plain
-withBytes x m = record { bytes = x; held = m .held; pages = m .pages; dynamicLength = m .dynamicLength; journal = m .journal }
+abbrev pub withPlainBytes : (ℕ → ℕ → ℕ) → Plain → Plain
+withPlainBytes x m = record { bytes = x; held = m .held; pages = m .pages; dynamicLength = m .dynamicLength; journal = m .journal }
 
-abbrev pub withHeld : List (ℕ × ℕ) → Plain → Plain
-withHeld x m = record { bytes = m .bytes; held = x; pages = m .pages; dynamicLength = m .dynamicLength; journal = m .journal }
+abbrev pub withPlainHeld : List (ℕ × ℕ) → Plain → Plain
+withPlainHeld x m = record { bytes = m .bytes; held = x; pages = m .pages; dynamicLength = m .dynamicLength; journal = m .journal }
 
 abbrev pub withPages : List ℕ → Plain → Plain
 withPages x m = record { bytes = m .bytes; held = m .held; pages = x; dynamicLength = m .dynamicLength; journal = m .journal }
 
-abbrev pub withDynamicLength : ℕ → Plain → Plain
-withDynamicLength x m = record { bytes = m .bytes; held = m .held; pages = m .pages; dynamicLength = x; journal = m .journal }
+abbrev pub withPlainDynamicLength : ℕ → Plain → Plain
+withPlainDynamicLength x m = record { bytes = m .bytes; held = m .held; pages = m .pages; dynamicLength = x; journal = m .journal }
 
-abbrev pub withJournal : (ℕ → List Note) → Plain → Plain
-withJournal x m = record { bytes = m .bytes; held = m .held; pages = m .pages; dynamicLength = m .dynamicLength; journal = x }
+abbrev pub withPlainJournal : (ℕ → List Note) → Plain → Plain
+withPlainJournal x m = record { bytes = m .bytes; held = m .held; pages = m .pages; dynamicLength = m .dynamicLength; journal = x }
 
 -- ---- pairs and pages
 unfoldable pub has : List (ℕ × ℕ) → ℕ → ℕ → Bool
@@ -83,10 +83,10 @@ abbrev pub putWord : Layout → ℕ → ℕ → ℕ → Plain → Plain
 putWord l p a n m = put l p a (wordBytes n) (oldWord m p a ∷ []) m
 
 -- a chunk that `dropped` names is zero and no longer held, a page that `free` names no longer allocated; the dynamic length becomes n
-abbrev pub dropping : (ℕ → ℕ → Bool) → (ℕ → Bool) → ℕ → Plain → Plain
-dropping dropped free n m =
-    withBytes (λ p a. cond (dropped p (a / 256)) 0 (m .bytes p a))
-    (withHeld (others (λ pair. dropped (pair .0) (pair .1)) (m .held)) (withPages (others free (m .pages)) (withDynamicLength n m)))
+abbrev pub plainWithout : (ℕ → ℕ → Bool) → (ℕ → Bool) → ℕ → Plain → Plain
+plainWithout dropped free n m =
+    withPlainBytes (λ p a. cond (dropped p (a / 256)) 0 (m .bytes p a))
+    (withPlainHeld (others (λ pair. dropped (pair .0) (pair .1)) (m .held)) (withPages (others free (m .pages)) (withPlainDynamicLength n m)))
 
 abbrev pub follow : Layout → Call → Plain → Plain
 follow l (Open t calldata) m = m
@@ -101,16 +101,16 @@ follow l (WriteBytes p a bs) m = put l p a bs (tab (alignedCount a (length bs)) 
 follow l (Lookup p k z) m = m
 follow l (LookupCheck p k z) m = m
 -- free drops its page's chunks, a window those of its dynamic page that it does not overlap, truncation to n those of dynamic pages of groups from n up
-follow l (Free p) m = dropping (λ q k. eqb q p) (λ q. eqb q p) (m .dynamicLength) m
-follow l (Window p start n) m = dropping (λ q k. (eqb q p && dynamic l p) && not (touches start n k)) (λ q. false) (m .dynamicLength) m
-follow l (Truncate n) m = dropping (λ q k. fromGroup l n q) (fromGroup l n) n m
+follow l (Free p) m = plainWithout (λ q k. eqb q p) (λ q. eqb q p) (m .dynamicLength) m
+follow l (Window p start n) m = plainWithout (λ q k. (eqb q p && dynamic l p) && not (touches start n k)) (λ q. false) (m .dynamicLength) m
+follow l (Truncate n) m = plainWithout (λ q k. fromGroup l n q) (fromGroup l n) n m
 follow l (CompareLeft other) m = m
 follow l (CompareRight other) m = m
 follow l CompareBoth m = m
 follow l Snapshot m = m
 follow l (Rollback heap aux) m =
-    withBytes (rolledBytes l (marks heap aux) (m .journal) rolledCount (m .bytes)) (withJournal (cut (marks heap aux) (m .journal)) m)
-follow l DeleteHistory m = withJournal (λ j. []) m
+    withPlainBytes (rolledBytes l (marks heap aux) (m .journal) rolledCount (m .bytes)) (withPlainJournal (cut (marks heap aux) (m .journal)) m)
+follow l DeleteHistory m = withPlainJournal (λ j. []) m
 follow l (Load area f x) m = m
 -- stores are word writes
 follow l (Store area f x n h) m = putWord l (heapOf f area) (x .word) n m
@@ -133,7 +133,7 @@ seen s m = record {
   held = has (m .held);
   pool = s .chunks - length (m .held);
   allocated = λ p. fixed (s .layout) p || member (m .pages) p;
-  entries = s .pages - length (m .pages);
+  entriesLeft = s .pages - length (m .pages);
   dynamicLength = m .dynamicLength;
   journal = m .journal;
 }

@@ -1,6 +1,6 @@
 // The loads of a list, one after another.
-use instructions::ExecutionStatus;
-use instructions::Operand;
+use execution::ExecutionStatus;
+use execution::Operand;
 use page_ids::PageId;
 use state::Area;
 use state::Frame;

@@ -2,18 +2,15 @@
 -- Assumes nothing.
 use mathlib.Core.Path.{_≡_, refl, sym, ap, _∙_}
 use mathlib.Core.Bool.{Bool, true, false, cond, not, _&&_, false≢true}
-use mathlib.Core.List.{List, [], _++_}
+use mathlib.Core.List.{List, []}
 use Prim.Native.Nat.{ℕ, zero, suc, _+_, _*_, _-_, _≤_, _<_}
 use native.Mathlib.Omega.{arith}
 use lib.Dec.{eqb}
-use lib.ListN.{length, getD, take, drop, replicate}
-use lib.Seq.{length-take-le}
-use borrow.Author.Tests.{lt-ltb, le-ltb, eq-eqb, ne-eqb, eqb-true, not-true, not-false}
+use lib.ListN.{length, getD}
+use borrow.Author.Tests.{lt-ltb, le-ltb, eq-eqb, ne-eqb, eqb-true}
 use Rattle.formed.proofs.Same.{tab-long}
-use Rattle.store.proofs.Parts.{sub-zero}
 use Rattle.index.proofs.Logic.{and-left, and-right}
 use Rattle.outcome.specs.Outcome.{Outcome, refused, done, carriedOut, firstOf}
-use Rattle.word.specs.Value.{value}
 use Rattle.store.specs.Mem.{Mem, dynamicLength, journalLength}
 use Rattle.formed.specs.Formed.{zeros, wellFormed}
 use Rattle.formed.specs.Pages.{journalCount}
@@ -24,13 +21,6 @@ use Rattle.view.specs.Steps.{run, padded}
 use Rattle.view.specs.Checks.{Check, onMemory, partialChecks, rangeChecks, lookupChecks}
 use Rattle.view.specs.Calls.{shown}
 use Rattle.reads.specs.Calls.{ReadDoes, RangeDoes}
-
--- a test by a call: `if !call() {..}`
-pub passed : {b x : Bool} → b ≡ x → not b ≡ false → x ≡ true
-passed {b} e q = sym e ∙ not-false b q
-
-pub failed : {b x : Bool} → b ≡ x → not b ≡ true → x ≡ false
-failed {b} e q = sym e ∙ not-true b q
 
 -- ---- 3 is tested first
 module _ {A : Type 0} (m : Mem) (checks : List (Check A)) (a : A) where
@@ -80,28 +70,6 @@ module _ {A : Type 0} (o t : Outcome A) where
 
   pub range-done : (a : A) (bs l d : List ℕ) → t ≡ done a → o ≡ done a → d ≡ bs → RangeDoes o t bs l d
   range-done a bs l d e f q = record { answer = e ∙ sym f; kept = λ r. absurd (not-refused a f r); read = λ _. q }
-
--- ---- values
-pub no-limbs : value (replicate 4 0) ≡ 0
-unfolding value
-no-limbs = refl
-
-abbrev nulls : ℕ → List ℕ
-nulls n = replicate n 0
-
-drop-nulls : (n k : ℕ) → drop n (nulls k) ≡ nulls (k - n)
-drop-nulls zero k = let e : k ≡ k - 0 = omega arith in ap nulls e
-drop-nulls (suc n) zero = let e : 0 ≡ 0 - suc n = omega arith in ap nulls e
-drop-nulls (suc n) (suc k) = let e : k - n ≡ suc k - suc n = omega arith in drop-nulls n k ∙ ap nulls e
-
--- n bytes laid over 32 zeros, as `&mut out[0..n]` leaves them
-pub padded-is : (v : View) (p a n : ℕ) (e : List ℕ) → n ≤ 32 → e ≡ run v p a (length (take (n - 0) (nulls 32))) → e ++ drop (n - 0) (nulls 32) ≡ padded (run v p a n)
-padded-is v p a n e h r =
-    let q : length (take (n - 0) (nulls 32)) ≡ n = ap (λ (x : ℕ). length (take x (nulls 32))) (sub-zero n) ∙ length-take-le n (nulls 32) h in
-    let s : e ≡ run v p a n = r ∙ ap (run v p a) q in
-    let l : n ≡ length (run v p a n) = sym (tab-long n (λ i. v .bytes p (a + i))) in
-    let d : drop (n - 0) (nulls 32) ≡ nulls (32 - length (run v p a n)) = ap (λ (x : ℕ). drop x (nulls 32)) (sub-zero n) ∙ drop-nulls n 32 ∙ ap (λ (x : ℕ). nulls (32 - x)) l in
-    ap (λ (x : List ℕ). e ++ x) d ∙ ap (λ (x : List ℕ). x ++ nulls (32 - length (run v p a n))) s
 
 -- a lookup
 pub shown-bad : (v : View) (p k : ℕ) (z : List ℕ) → (eqb (length z) 256 && zeros z) ≡ false → shown v p k z ≡ []

@@ -1,3 +1,2 @@
--- The definitions that the contracts of this crate cite: Calls for the calls, Reading for the steps that they are made of.
+-- The definitions that the contracts of this crate cite.
 pub mod Calls
-pub mod Reading

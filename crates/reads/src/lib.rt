@@ -6,7 +6,7 @@ use page_ids::PageId;
 use store::head;
 use word::Word;
 ghost use mathlib.Core.Path.{_≡_};
-ghost use mathlib.Core.Bool.{cond, _&&_};
+ghost use mathlib.Core.Bool.{_&&_};
 ghost use mathlib.Core.List.{[]};
 ghost use Prim.Native.Nat.{_-_};
 ghost use lib.Dec.{eqb};
@@ -14,14 +14,12 @@ ghost use lib.ListN.{length};
 ghost use Rattle.outcome.specs.Outcome.{answered, unitOutcome};
 ghost use Rattle.word.specs.Value.{value, bigEndian};
 ghost use Rattle.store.specs.Mem.{mem};
-ghost use Rattle.formed.specs.Formed.{zeros, wellFormed};
+ghost use Rattle.formed.specs.Formed.{zeros};
 ghost use Rattle.view.specs.View.{viewOf};
 ghost use Rattle.view.specs.Steps.{run, padded};
 ghost use Rattle.view.specs.Checks.{onMemory, partialChecks, rangeChecks, lookupChecks};
-ghost use Rattle.view.specs.Calls.{shown};
+ghost use Rattle.view.specs.Calls.{shownOf};
 ghost use Rattle.reads.specs.Calls.{wordOutcome, byteOutcome, lengthOutcome, snapshotOutcome, ReadDoes, RangeDoes};
-
-pub mod steps;
 
 // A word, or a refusal and the word 0.
 pub struct WordRead {
@@ -92,7 +90,7 @@ pub fn read_u256(
     if !formed::well_formed(bytes, keys, order, words) {
         return no_word(3);
     }
-    let read = steps::read_word(bytes, keys, order, words, page, address);
+    let read = read_steps::read_word(bytes, keys, order, words, page, address);
     WordRead {
         refusal: 0,
         word: word::from_big_endian(read),
@@ -118,7 +116,7 @@ pub fn read_u256_partially(
     if n > 32 {
         return no_word(8);
     }
-    let read = steps::read_padded(bytes, keys, order, words, page, start, n as usize);
+    let read = read_steps::read_padded(bytes, keys, order, words, page, start, n as usize);
     WordRead {
         refusal: 0,
         word: word::from_big_endian(read),
@@ -145,7 +143,7 @@ pub fn read_range_big_endian(
     if output.len() != n as usize {
         return Answer::Refused(8);
     }
-    steps::read_into(bytes, keys, order, words, page, start, output);
+    read_steps::read_into(bytes, keys, order, words, page, start, output);
     Answer::Done
 }
 
@@ -167,7 +165,7 @@ pub fn read_byte(
     }
     ByteRead {
         refusal: 0,
-        byte: steps::byte_at(bytes, keys, order, words, page, address),
+        byte: read_steps::byte_at(bytes, keys, order, words, page, address),
     }
 }
 
@@ -205,6 +203,7 @@ pub fn snapshot(bytes: &[u8], keys: &[u64], order: &[u32], words: &[u64]) -> Mar
 }
 
 // The bytes of a chunk, held or not; an empty part where the lookup is refused. `chunk_check` says why.
+// The contract leaves open which of the two slices a part of zeros belongs to.
 pub fn chunk<'a>(
     bytes: &'a [u8],
     keys: &[u64],
@@ -214,7 +213,7 @@ pub fn chunk<'a>(
     number: u32,
     block: &'a [u8],
 ) -> &'a [u8]
-    ensures { λ r. let m = mem (now (bytes .entry)) (now (keys .entry)) (now (order .entry)) (now (words .entry)) in ⌜ now r ≡ cond (wellFormed m) (shown (viewOf m) (page .0) number (now (block .entry))) [] ⌝ }
+    ensures { λ r. let m = mem (now (bytes .entry)) (now (keys .entry)) (now (order .entry)) (now (words .entry)) in ⌜ now r ≡ shownOf m (page .0) number (now (block .entry)) ⌝ }
 {
     if !formed::well_formed(bytes, keys, order, words) {
         return &block[0..0];
@@ -222,7 +221,7 @@ pub fn chunk<'a>(
     if !is_zero_block(block) {
         return &block[0..0];
     }
-    steps::chunk_of(bytes, keys, order, words, page, number, block)
+    read_steps::chunk_of(bytes, keys, order, words, page, number, block)
 }
 
 pub fn chunk_check(

@@ -2,10 +2,10 @@
 use crate::answers;
 use crate::calls::Call;
 use crate::numbers::Numbers;
-use instructions::Execution;
-use instructions::ExecutionStatus;
-use instructions::Hook;
-use instructions::Operand;
+use execution::Execution;
+use execution::ExecutionStatus;
+use execution::Hook;
+use execution::Operand;
 use page_ids::Address;
 use state::Frame;
 

@@ -9,7 +9,7 @@ use Rattle.outcome.specs.Outcome.{firstOf}
 use Rattle.state.specs.declared.Frame.{Frame}
 use Rattle.state.specs.declared.Gas.{Gas}
 use Rattle.state.specs.declared.Growth.{Growth}
-use Rattle.state.specs.declared.Step.{Step}
+use Rattle.state.specs.declared.FrameStep.{FrameStep}
 use Rattle.state.specs.declared.Area.{Area}
 use Rattle.state.specs.declared.Area.the-variants.{Heap, Aux}
 
@@ -48,7 +48,7 @@ boundOf f Heap = f .«heap_bound»
 boundOf f Aux = f .«aux_bound»
 
 -- a growth of an area: the frame's gas and the one bound alone change
-abbrev pub withGrowth : Frame → Area → Growth → Step
+abbrev pub withGrowth : Frame → Area → Growth → FrameStep
 withGrowth f Heap g = record {
   frame = record { gas = g .gas; heap = f .heap; aux = f .aux; «heap_bound» = g .bound; «aux_bound» = f .«aux_bound»; panicked = f .panicked };
   paid = g .paid;
@@ -59,9 +59,9 @@ withGrowth f Aux g = record {
 }
 
 -- growth to a new bound: `grow_heap`
-abbrev pub frameGrown : Frame → Area → ℕ → Step
+abbrev pub frameGrown : Frame → Area → ℕ → FrameStep
 frameGrown f area new = withGrowth f area (grown (f .gas) (boundOf f area) new)
 
 -- an access at an operand: loads and stores
-abbrev pub frameAccessed : Frame → Area → ℕ → Step
+abbrev pub frameAccessed : Frame → Area → ℕ → FrameStep
 frameAccessed f area x = withGrowth f area (accessed (f .gas) (boundOf f area) x)

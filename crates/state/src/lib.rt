@@ -36,7 +36,7 @@ pub struct Growth {
 }
 
 // The frame after a growth or an access, and whether it was paid.
-pub struct Step {
+pub struct FrameStep {
     pub frame: Frame,
     pub paid: bool,
 }
@@ -105,7 +105,7 @@ pub fn access(gas: u32, bound: u32, address: Address) -> Growth
 }
 
 // The growth of one area is paid from the frame's gas: the step that loads and stores take.
-pub fn growth_step(frame: Frame, area: Area, new: u32) -> Step
+pub fn growth_step(frame: Frame, area: Area, new: u32) -> FrameStep
     ensures { λ r. ⌜ r ≡ frameGrown frame area new ⌝ }
 {
     let mut after = frame;
@@ -114,7 +114,7 @@ pub fn growth_step(frame: Frame, area: Area, new: u32) -> Step
             let grown = grow(frame.gas, frame.heap_bound, new);
             after.gas = grown.gas;
             after.heap_bound = grown.bound;
-            return Step {
+            return FrameStep {
                 frame: after,
                 paid: grown.paid,
             };
@@ -123,7 +123,7 @@ pub fn growth_step(frame: Frame, area: Area, new: u32) -> Step
             let grown = grow(frame.gas, frame.aux_bound, new);
             after.gas = grown.gas;
             after.aux_bound = grown.bound;
-            return Step {
+            return FrameStep {
                 frame: after,
                 paid: grown.paid,
             };
@@ -141,12 +141,12 @@ pub fn grow_heap(frame: &mut Frame, area: Area, new: u32) -> bool
 }
 
 // `grow_heap` for a caller that has the frame by value: a copy is lent to it, and given back.
-pub fn grow_frame(frame: Frame, area: Area, new: u32) -> Step
+pub fn grow_frame(frame: Frame, area: Area, new: u32) -> FrameStep
     ensures { λ r. ⌜ r ≡ frameGrown frame area new ⌝ }
 {
     let mut lent = frame;
     let paid = grow_heap(&mut lent, area, new);
-    Step {
+    FrameStep {
         frame: lent,
         paid: paid,
     }

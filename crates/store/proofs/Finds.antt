@@ -14,7 +14,7 @@ use Rattle.index.specs.Index.{seek}
 use Rattle.index.proofs.Orders.{index-rises, index-count}
 use Rattle.index.proofs.Places.{place-at, seek-le}
 use Rattle.store.specs.Mem.{slotCount, pageCount, heldNow, inUse}
-use Rattle.store.specs.Find.{slotFor, Findable, Names, Learnt}
+use Rattle.store.specs.Find.{slotFor, Findable, Names, HintLearnt}
 
 module _ (keys words : List ℕ) (s p k : ℕ) where
   pub names-by : s < slotCount words → 0 < getD keys s 0 → keyChunk (getD keys s 0) ≡ k → keyEntry (getD keys s 0) < length keys - slotCount words
@@ -55,10 +55,10 @@ module _ (order words : List ℕ) (room : slotCount words + pageCount words + 4 
   pub mask-kept : (i : ℕ) → i < slotCount words + pageCount words + 4 → getD masked i 0 ≡ getD order i 0
   mask-kept i l = getD-set-other order (length order - 1) i mask 0 (λ e. omega arith)
 
-  pub learnt-mask : Learnt order words masked
+  pub learnt-mask : HintLearnt order words masked
   learnt-mask = record { long = length-set order (length order - 1) mask; kept = mask-kept }
 
-  pub learnt-hint : (h s : ℕ) → slotCount words + pageCount words + 4 ≤ h → Learnt order words (set masked h s)
+  pub learnt-hint : (h s : ℕ) → slotCount words + pageCount words + 4 ≤ h → HintLearnt order words (set masked h s)
   learnt-hint h s l = record {
     long = length-set masked h s ∙ length-set order (length order - 1) mask;
     kept = λ i li. getD-set-other masked h i s 0 (λ e. omega arith) ∙ mask-kept i li;

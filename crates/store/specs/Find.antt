@@ -1,19 +1,25 @@
 -- A chunk of a page is found: by a hint, or by the two indexes.
 -- Assumes nothing.
 use mathlib.Core.Path.{_≡_}
+use mathlib.Core.Bool.{cond}
 use mathlib.Core.List.{List}
 use Prim.Native.Nat.{ℕ, _+_, _<_, _≤_}
+use lib.Dec.{leb}
 use lib.ListN.{length, getD, take, drop}
 use Rattle.index.specs.Index.{seek}
-use Rattle.store.specs.Mem.{slotCount, pageCount}
-use Rattle.store.specs.Keys.{keyOf}
+use Rattle.store.specs.Mem.{fixedCount, slotCount, pageCount}
+use Rattle.store.specs.Keys.{lastChunk, keyOf}
 use Rattle.store.specs.Hold.{Indexed, PagesIndexed}
 
 -- the slot of chunk k of the page at entry e, or the number of slots where none holds it
 abbrev pub slotAtEntry : List ℕ → List ℕ → ℕ → ℕ → ℕ
 slotAtEntry keys words e k = seek (take (slotCount words) keys) (keyOf e k)
 
--- .. of page p
+-- .. and no chunk above the last one is held
+abbrev pub slotWithin : List ℕ → List ℕ → ℕ → ℕ → ℕ
+slotWithin keys words e k = cond (leb k lastChunk) (slotAtEntry keys words e k) (slotCount words)
+
+-- the slot of chunk k of page p
 abbrev pub slotFor : List ℕ → List ℕ → ℕ → ℕ → ℕ
 slotFor keys words p k = slotAtEntry keys words (seek (drop (slotCount words) keys) (p + 1)) k
 
@@ -33,6 +39,6 @@ pub record Names (keys words : List ℕ) (s p k : ℕ) : Type 0 where
   pub page : getD keys (slotCount words + entry) 0 ≡ p + 1
 
 -- order' is order except for its hints
-pub record Learnt (order words order' : List ℕ) : Type 0 where
+pub record HintLearnt (order words order' : List ℕ) : Type 0 where
   pub long : length order' ≡ length order
-  pub kept : (i : ℕ) → i < slotCount words + pageCount words + 4 → getD order' i 0 ≡ getD order i 0
+  pub kept : (i : ℕ) → i < slotCount words + pageCount words + fixedCount → getD order' i 0 ≡ getD order i 0

@@ -7,7 +7,7 @@ use mathlib.Core.List.{List}
 use Prim.Native.Nat.{ℕ, _+_, _*_, _/_, _≤_, _<_}
 use lib.Dec.{leb, ltb}
 use lib.ListN.{length, getD, drop}
-use Rattle.store.specs.Mem.{slotCount}
+use Rattle.store.specs.Mem.{heldPlace, slotCount}
 use Rattle.store.specs.Hold.{Indexed}
 
 -- bs' is bs with n zeros from place `at` on
@@ -33,7 +33,7 @@ pub record Released (lo hi : ℕ) (bytes keys order words bytes' keys' order' wo
   pub bytes-rest : (x : ℕ) → 256 * slotCount words ≤ x → getD bytes' x 0 ≡ getD bytes x 0
   pub keys-rest : drop (slotCount words) keys' ≡ drop (slotCount words) keys
   pub order-rest : drop (slotCount words) order' ≡ drop (slotCount words) order
-  pub head : (i : ℕ) → (i ≡ 9 → ⊥) → getD words' i 0 ≡ getD words i 0
+  pub head : (i : ℕ) → (i ≡ heldPlace → ⊥) → getD words' i 0 ≡ getD words i 0
   pub bytes-long : length bytes' ≡ length bytes
   pub keys-long : length keys' ≡ length keys
   pub order-long : length order' ≡ length order

@@ -7,7 +7,7 @@ use Prim.Native.Nat.{ℕ, _+_, _≤_, _<_}
 use lib.Dec.{ltb}
 use lib.ListN.{length, getD, set, take, drop}
 use Rattle.index.specs.Index.{indexed, seek}
-use Rattle.store.specs.Mem.{headLength, slotCount, heldNow, inUse}
+use Rattle.store.specs.Mem.{headLength, heldPlace, slotCount, heldNow, inUse}
 
 -- 1 where no place of ks has the key k, else 0
 unfoldable pub lacks : List ℕ → ℕ → ℕ
@@ -34,7 +34,7 @@ pub record Taken (k : ℕ) (keys order words : List ℕ) (s : ℕ) (keys' order'
   pub slot-in : s < slotCount words
   pub pooled : getD keys s 0 ≡ 0
   pub keys-are : keys' ≡ set keys s k
-  pub words-are : words' ≡ set words 9 (heldNow words + 1)
+  pub words-are : words' ≡ set words heldPlace (heldNow words + 1)
   pub order-rest : drop (slotCount words) order' ≡ drop (slotCount words) order
   pub order-long : length order' ≡ length order
   pub indexed-still : Indexed keys' order' words'

@@ -6,13 +6,17 @@ use Prim.Native.Nat.{ℕ, _+_, _*_, _-_, _/_, _%_}
 abbrev pub lastChunk : ℕ
 lastChunk = 16777216
 
+-- a key is the entry of a page times this factor, plus the chunk number, plus 1
+abbrev pub keyFactor : ℕ
+keyFactor = 33554432
+
 -- the key of chunk k of the page at entry e
 abbrev pub keyOf : ℕ → ℕ → ℕ
-keyOf e k = e * 33554432 + k + 1
+keyOf e k = e * keyFactor + k + 1
 
 -- and back: the entry and the chunk number of a key
 abbrev pub keyEntry : ℕ → ℕ
-keyEntry key = (key - 1) / 33554432
+keyEntry key = (key - 1) / keyFactor
 
 abbrev pub keyChunk : ℕ → ℕ
-keyChunk key = (key - 1) % 33554432
+keyChunk key = (key - 1) % keyFactor

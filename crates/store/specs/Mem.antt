@@ -4,6 +4,7 @@ use mathlib.Core.List.{List}
 use Prim.Native.Nat.{ℕ, _+_, _*_}
 use lib.ListN.{getD, take, drop}
 use Rattle.page_ids.specs.declared.Layout.{Layout}
+use Rattle.page_ids.specs.Decode.{layoutFrom}
 
 -- bytes: 256 for each slot, then 32 for each word that the journals have room for
 -- keys: for each slot the key of the place that it holds, 0 where it is pooled; then for each page entry the page's id + 1, 0 where it is free
@@ -22,16 +23,26 @@ mem b k o w = record { bytes = b; keys = k; order = o; words = w }
 abbrev pub headLength : ℕ
 headLength = 16
 
+-- how many fixed pages there are: they have the entries from 0 on
+abbrev pub fixedCount : ℕ
+fixedCount = 4
+
+-- places of the head's numbers that calls change; the journals' lengths follow each other
+abbrev pub heldPlace : ℕ
+heldPlace = 9
+
+abbrev pub inUsePlace : ℕ
+inUsePlace = 10
+
+abbrev pub dynamicLengthPlace : ℕ
+dynamicLengthPlace = 11
+
+abbrev pub journalsPlace : ℕ
+journalsPlace = 12
+
 -- 01's layout: the first six numbers of the head
 abbrev pub layoutOf : List ℕ → Layout
-layoutOf w = record {
-  «static_memory» = record { 0 = getD w 0 0 };
-  calldata = record { 0 = getD w 1 0 };
-  «bootloader_heap» = record { 0 = getD w 2 0 };
-  «bootloader_aux» = record { 0 = getD w 3 0 };
-  base = record { 0 = getD w 4 0 };
-  stride = getD w 5 0;
-}
+layoutOf w = layoutFrom (getD w 0 0) (getD w 1 0) (getD w 2 0) (getD w 3 0) (getD w 4 0) (getD w 5 0)
 
 -- how many chunks, dynamic pages and words of each journal there is room for
 abbrev pub slotCount : List ℕ → ℕ
@@ -45,17 +56,17 @@ journalWords w = getD w 8 0
 
 -- how many slots are held, and how many entries are in use
 abbrev pub heldNow : List ℕ → ℕ
-heldNow w = getD w 9 0
+heldNow w = getD w heldPlace 0
 
 abbrev pub inUse : List ℕ → ℕ
-inUse w = getD w 10 0
+inUse w = getD w inUsePlace 0
 
 abbrev pub dynamicLength : List ℕ → ℕ
-dynamicLength w = getD w 11 0
+dynamicLength w = getD w dynamicLengthPlace 0
 
 -- the length of journal j: 0 is that of the bootloader heap, 1 that of the bootloader aux heap
 abbrev pub journalLength : List ℕ → ℕ → ℕ
-journalLength w j = getD w (12 + j) 0
+journalLength w j = getD w (journalsPlace + j) 0
 
 -- the parts
 abbrev pub holders : Mem → List ℕ
@@ -70,5 +81,5 @@ slotOrder m = take (slotCount (m .words)) (m .order)
 abbrev pub pageOrder : Mem → List ℕ
 pageOrder m = drop (slotCount (m .words)) (m .order)
 
-abbrev pub chunks : Mem → List ℕ
-chunks m = take (256 * slotCount (m .words)) (m .bytes)
+abbrev pub chunkBytes : Mem → List ℕ
+chunkBytes m = take (256 * slotCount (m .words)) (m .bytes)

@@ -10,6 +10,8 @@ pub const BOOTLOADER_AUX: usize = 3;
 pub const BASE: usize = 4;
 
 pub const STRIDE: usize = 5;
+// how many numbers the layout has: they come first
+pub const LAYOUT_LENGTH: usize = 6;
 
 pub const CHUNKS: usize = 6;
 
@@ -27,8 +29,12 @@ pub const JOURNALS: usize = 12;
 // how many journals there are
 pub const JOURNAL_COUNT: usize = 2;
 
-pub const HEAP_JOURNAL: usize = 12;
+pub const HEAP_JOURNAL: usize = JOURNALS;
 
-pub const AUX_JOURNAL: usize = 13;
+pub const AUX_JOURNAL: usize = JOURNALS + 1;
 // how many numbers the head has
 pub const LENGTH: usize = 16;
+// how many fixed pages there are: they have the entries from 0 on
+pub const FIXED_PAGES: u64 = 4;
+
+pub const FIXED_ENTRIES: usize = FIXED_PAGES as usize;

@@ -5,8 +5,8 @@ ghost use Prim.Native.Nat.{ℕ, _+_, _*_, _/_, _^_, _<_, _≤_};
 ghost use lib.ListN.{length, getD, take, drop};
 ghost use Rattle.index.specs.Index.{seek, usedCount, freeCount};
 ghost use Rattle.store.specs.Keys.{lastChunk, keyOf, keyEntry, keyChunk};
-ghost use Rattle.store.specs.Find.{slotAtEntry, slotFor, Findable, Names, Learnt};
-ghost use Rattle.store.specs.Mem.{headLength, slotCount, pageCount, heldNow};
+ghost use Rattle.store.specs.Find.{slotAtEntry, slotFor, Findable, Names, HintLearnt};
+ghost use Rattle.store.specs.Mem.{headLength, fixedCount, slotCount, pageCount, heldNow};
 ghost use Rattle.store.specs.Hold.{lacks, Indexed, PagesIndexed, Taken, Held};
 ghost use Rattle.store.specs.Give.{Zeroed, Wiped, Released};
 use page_ids::Address;
@@ -231,8 +231,8 @@ pub fn place_of_last(
 // Notes where a chunk of a page was found, for the next search.
 pub fn learn(order: &mut [u32], words: &[u64], page: PageId, chunk: u32, s: usize)
     requires { ⌜ (headLength ≤ length (now words)) × (slotCount (now words) ≤ 65536) × (pageCount (now words) ≤ 4096) ⌝ }
-    requires { ⌜ (slotCount (now words) + pageCount (now words) + 4 < length (now order)) × (s ≤ 65536) ⌝ }
-    ensures { λ _. ⌜ Learnt (now (order .entry)) (now (words .entry)) (now (order .exit)) ⌝ }
+    requires { ⌜ (slotCount (now words) + pageCount (now words) + fixedCount < length (now order)) × (s ≤ 65536) ⌝ }
+    ensures { λ _. ⌜ HintLearnt (now (order .entry)) (now (words .entry)) (now (order .exit)) ⌝ }
 {
     let n = order.len();
     order[n - 1] = (ones(words[head::CHUNKS]) % 4294967296) as u32;
@@ -240,7 +240,7 @@ pub fn learn(order: &mut [u32], words: &[u64], page: PageId, chunk: u32, s: usiz
     if h >= n {
         return;
     }
-    if (h as u64) < words[head::CHUNKS] + words[head::PAGES] + 4 {
+    if (h as u64) < words[head::CHUNKS] + words[head::PAGES] + head::FIXED_PAGES {
         return;
     }
     order[h] = s as u32;

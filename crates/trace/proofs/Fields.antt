@@ -14,21 +14,8 @@ use lib.ListN.{length, getD, take, drop, length-drop}
 use lib.Seq.{drop-cons, drop-drop, drop-length}
 use borrow.Author.Tests.{eq-eqb, ne-eqb, le-leb, lt-leb}
 use Rattle.trace.specs.Language.{fields, onFirst, sameBytes}
+use Rattle.index.proofs.Logic.{lt-or-ge, same-or-not}
 use Rattle.trace.specs.Reading.{spaceAt, fieldsFrom}
-
-split : {a b : ℕ} → Dec (a ≡ b) → (a ≡ b) ⊎ (a ≡ b → ⊥)
-split (yes p) = inl p
-split (no q) = inr q
-
-pub same-or-not : (a b : ℕ) → (a ≡ b) ⊎ (a ≡ b → ⊥)
-same-or-not a b = split (ℕ-discrete a b)
-
-below : {a b : ℕ} → Dec (a < b) → (a < b) ⊎ (b ≤ a)
-below (yes p) = inl p
-below (no q) = inr (le-of-suc-le-suc (lt-of-not-le q))
-
-pub lt-or-ge : (a b : ℕ) → (a < b) ⊎ (b ≤ a)
-lt-or-ge a b = below (decLt a b)
 
 -- ---- the first space
 pub space-here : (b : ℕ) (bs : List ℕ) → b ≡ 32 → spaceAt (b ∷ bs) ≡ 0

@@ -3,6 +3,5 @@ pub mod Fields
 pub mod Figures
 pub mod Shifts
 pub mod Lines
-pub mod Numerals
 pub mod Long
 pub mod RoundTrip

@@ -14,8 +14,9 @@ use borrow.Author.Tests.{eq-eqb, ne-eqb}
 use Rattle.trace.specs.declared.Kind.{Kind}
 use Rattle.trace.specs.declared.Kind.the-variants.{Unread, Open, Write, Read, Snapshot, Rollback}
 use Rattle.trace.specs.Language.{unread, fields, onFirst, digit, numberAfter, numeralValue, ledWell, decimal, hexadecimal, lineKind, formOf, numbers, lineIf, lineOfFields, meaning}
-use Rattle.trace.proofs.Fields.{same-or-not, lt-or-ge, same-lengths}
+use Rattle.trace.proofs.Fields.{same-lengths}
 use Rattle.trace.proofs.Figures.{decimal-led, decimal-wide, hexadecimal-long, digit-low, digit-figure, digit-gap, digit-letter, digit-high}
+use Rattle.index.proofs.Logic.{lt-or-ge, same-or-not}
 use Rattle.trace.proofs.Lines.{kind-none, also-none}
 
 -- ---- a decimal has ten digits at most

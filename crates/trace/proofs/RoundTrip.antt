@@ -11,10 +11,10 @@ use native.Mathlib.Omega.{arith}
 use lib.Dec.{ltb, lit<}
 use borrow.Author.Tests.{lt-ltb, ne-eqb}
 use Rattle.trace.specs.Language.{digit, digital, numberAfter, numeralValue, ledWell, decimal, hexadecimal}
-use Rattle.trace.specs.Text.{glyph, numeral, decimalText, hexadecimalText}
-use Rattle.trace.proofs.Fields.{lt-or-ge, same-or-not}
+use Rattle.trace_text.specs.Text.{glyph, numeral, decimalText, hexadecimalText}
 use Rattle.trace.proofs.Figures.{digit-figure, digit-letter, decimal-is, hexadecimal-is}
-use Rattle.trace.proofs.Numerals.{glyph-low, glyph-high, numeral-one, numeral-more, numeral-length}
+use Rattle.index.proofs.Logic.{lt-or-ge, same-or-not}
+use Rattle.trace_text.proofs.Numerals.{glyph-low, glyph-high, numeral-one, numeral-more, numeral-length}
 
 -- ---- one digit
 digit-glyph : (d : ℕ) → d < 16 → digit (glyph d) ≡ d

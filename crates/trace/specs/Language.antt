@@ -14,7 +14,7 @@ use Rattle.trace.specs.declared.Command.{Command}
 -- A line is a list of bytes, its end not among them. This is what it asks.
 pub data Line : Type 0 where
   -- the four fixed ids, base and stride; chunks, pages and journal words
-  opens : (static calldata heap aux base stride chunks pages room : ℕ) → Line
+  opens : (static calldata heap aux base stride chunks pages journalWords : ℕ) → Line
   writes : (page address word : ℕ) → Line
   reads : (page address : ℕ) → Line
   takesSnapshot : Line

@@ -10,8 +10,6 @@ ghost use Rattle.trace.specs.Language.{lineKind, ledWell, meaning, comma
 ghost use Rattle.trace.specs.Reading.{spaceAt, fieldsFrom, parsedNumber, parsedWord, ahead, Decimals, countOf};
 use word::Word;
 
-pub mod text;
-
 // The form of a line.
 pub enum Kind {
     Unread,

@@ -6,7 +6,7 @@ use mathlib.Core.List.{List, []}
 use Prim.Native.Nat.{ℕ}
 use lib.Dec.{ltb}
 use Rattle.store.specs.Mem.{Mem, mem}
-use Rattle.store.specs.Find.{Learnt}
+use Rattle.store.specs.Find.{HintLearnt}
 use Rattle.formed.specs.Pages.{journalCount}
 use Rattle.formed.specs.Parts.{Note, slotOfChunk, holds, allocated, byteAt, journal}
 use Rattle.formed.proofs.Hints.{learnt-formed}
@@ -38,5 +38,5 @@ module _ (m : Mem) (order' : List ℕ) where
   pub order-free : viewOf m' ≡ viewOf m
   order-free = view-by (viewOf m') (viewOf m) byte-same held-same refl allocated-same refl refl (λ j. ap (λ (x : List Note). cond (ltb j journalCount) x []) (journal-same j))
 
-pub learnt-shows : (s : Setting) (v : View) (m : Mem) (order' : List ℕ) → Shows s v m → Learnt (m .order) (m .words) order' → Shows s v (mem (m .bytes) (m .keys) order' (m .words))
+pub learnt-shows : (s : Setting) (v : View) (m : Mem) (order' : List ℕ) → Shows s v m → HintLearnt (m .order) (m .words) order' → Shows s v (mem (m .bytes) (m .keys) order' (m .words))
 learnt-shows s v m order' a h = record { formed = learnt-formed m (a .formed) order' h; setting = a .setting; view = order-free m order' ∙ a .view }

@@ -10,3 +10,4 @@ pub mod Order
 pub mod Hints
 pub mod Refused
 pub mod Lookup
+pub mod Operands

@@ -1,21 +1,22 @@
 -- The calls, with their arguments and without the lent memory; what each answers, what it does to the view, and the contract that all of them share.
 -- Assumes nothing.
 use mathlib.Core.Path.{_≡_}
-use mathlib.Core.Bool.{Bool, cond, _&&_}
+use mathlib.Core.Bool.{Bool, false, cond, _&&_}
 use mathlib.Core.List.{List, []}
 use Prim.Native.Nat.{ℕ, _*_, _-_}
 use lib.Dec.{eqb}
 use lib.ListN.{length}
-use Rattle.outcome.specs.Outcome.{Outcome, refused, done, firstOf, refusalNumber}
+use Rattle.outcome.specs.Outcome.{Outcome, done, carriedOut, firstOf, refusalNumber}
 use Rattle.word.specs.Value.{bigEndian, wordBytes}
 use Rattle.state.specs.declared.Frame.{Frame}
 use Rattle.state.specs.declared.Area.{Area}
 use Rattle.store.specs.Mem.{Mem, layoutOf}
-use Rattle.formed.specs.Formed.{zeros}
+use Rattle.formed.specs.Buffers.{lengthsAre}
+use Rattle.formed.specs.Formed.{wellFormed, zeros}
 use Rattle.view.specs.View.{View, Setting, settingOf, viewOf}
 use Rattle.view.specs.Steps.{run, padded, wordWritten, bytesWritten, contentsAllocated, freed, windowed, truncated, alike, marks, rolledBack, forgotten, opened}
 use Rattle.view.specs.Does.{Does}
-use Rattle.view.specs.Checks.{Check, ifFormed, wordWriteChecks, byteWriteChecks, allocateChecks, partialChecks, rangeChecks, lookupChecks, freeChecks, truncateChecks, compareChecks, rollbackChecks, openingChecks, lengthsRight, bytesLength, keysLength, orderLength, wordsLength}
+use Rattle.view.specs.Checks.{Check, ifFormed, onMemory, wordWriteChecks, byteWriteChecks, allocateChecks, partialChecks, rangeChecks, lookupChecks, freeChecks, truncateChecks, compareChecks, rollbackChecks, openingChecks, lengthsRight, bytesLength, keysLength, orderLength, wordsLength}
 use Rattle.view.specs.Instructions.{Operand, Hook, InstructionResult, heapOf, staticOf, accessChecks, loaded, storeChecks, stored, pointerChecks, pointed, staticChecks, staticLoaded, staticStoreChecks, staticStored}
 
 pub data Call : Type 0 where
@@ -61,17 +62,20 @@ pub data Value : Type 0 where
 
 -- two settings ask for buffers of the same lengths
 abbrev pub sameLengths : Setting → Setting → Bool
-sameLengths s t =
-    eqb (bytesLength t) (bytesLength s) && (eqb (keysLength t) (keysLength s) && (eqb (orderLength t) (orderLength s) && eqb (wordsLength t) (wordsLength s)))
+sameLengths s t = lengthsAre (bytesLength t) (keysLength t) (orderLength t) (wordsLength t) (s .chunks) (s .pages) (s .journalWords)
 
 -- a refused lookup shows an empty part
 abbrev pub shown : View → ℕ → ℕ → List ℕ → List ℕ
 shown v p k z = cond (eqb (length z) 256 && zeros z) (run v p (256 * k) 256) []
 
--- THE RULE of a lookup: it shows an empty part exactly where its check is refused with 8
-pub record LookupRule (v : View) (p k : ℕ) (z : List ℕ) : Type 0 where
-  pub refused-empty : firstOf (lookupChecks z) (done nothing) ≡ refused 8 → shown v p k z ≡ []
-  pub empty-refused : shown v p k z ≡ [] → firstOf (lookupChecks z) (done nothing) ≡ refused 8
+-- .. of the buffers m
+abbrev pub shownOf : Mem → ℕ → ℕ → List ℕ → List ℕ
+shownOf m p k z = cond (wellFormed m) (shown (viewOf m) p k z) []
+
+-- THE RULE of a lookup: it shows an empty part exactly where its check is refused
+pub record LookupRule (m : Mem) (p k : ℕ) (z : List ℕ) : Type 0 where
+  pub refused-empty : carriedOut (onMemory m (lookupChecks z) nothing) ≡ false → shownOf m p k z ≡ []
+  pub empty-refused : shownOf m p k z ≡ [] → carriedOut (onMemory m (lookupChecks z) nothing) ≡ false
 
 -- the number of the first refusal of a list, 0 where there is none
 abbrev pub firstRefusal : List (Check Value) → ℕ

@@ -10,7 +10,7 @@ use Rattle.page_ids.specs.Decode.{badLayout, decoded, isNone}
 use Rattle.page_ids.specs.declared.Layout.{Layout}
 use Rattle.store.specs.Mem.{Mem, layoutOf}
 use Rattle.formed.specs.Pages.{fixed, journalCount}
-use Rattle.formed.specs.Buffers.{bytesFor, keysFor, orderFor, wordsFor}
+use Rattle.formed.specs.Buffers.{bytesFor, keysFor, orderFor, wordsFor, countsFit, lengthsAre}
 use Rattle.formed.specs.Formed.{wellFormed, zeros}
 use Rattle.view.specs.View.{View, Setting}
 use Rattle.view.specs.Steps.{missing, touchedCount, alignedCount, journalled}
@@ -38,7 +38,7 @@ overfull s v p w (suc n) = (journalled (s .layout) p n && ltb (s .journalWords) 
 -- 9, 10, 11: room for `count` chunks of page p from number k on, and for w journal words
 abbrev pub capacityChecks : {A : Type 0} → Setting → View → ℕ → ℕ → ℕ → ℕ → List (Check A)
 capacityChecks s v p k count w =
-    (not (v .allocated p) && eqb (v .entries) 0, refused 9)
+    (not (v .allocated p) && eqb (v .entriesLeft) 0, refused 9)
     ∷ (ltb (v .pool) (missing (v .held p) k count), refused 10)
     ∷ (overfull s v p w journalCount, refused 11)
     ∷ []
@@ -98,7 +98,7 @@ compareChecks l other = (not (wellFormed other), refused 3) ∷ (not (sameLayout
 -- ---- opening
 -- the counts are in bounds
 abbrev pub countsRight : Setting → Bool
-countsRight s = (leb 1 (s .chunks) && leb (s .chunks) 65536) && ((leb 1 (s .pages) && leb (s .pages) 4096) && leb (s .journalWords) 65536)
+countsRight s = countsFit (s .chunks) (s .pages) (s .journalWords)
 
 -- the lengths that they ask for
 abbrev pub bytesLength : Setting → ℕ
@@ -115,11 +115,7 @@ wordsLength s = wordsFor (s .journalWords)
 
 -- the lent buffers have these lengths
 abbrev pub lengthsRight : Setting → Mem → Bool
-lengthsRight s m =
-    eqb (length (m .bytes)) (bytesLength s)
-    && (eqb (length (m .keys)) (keysLength s)
-    && (eqb (length (m .order)) (orderLength s)
-    && eqb (length (m .words)) (wordsLength s)))
+lengthsRight s m = lengthsAre (length (m .bytes)) (length (m .keys)) (length (m .order)) (length (m .words)) (s .chunks) (s .pages) (s .journalWords)
 
 -- an opening with n bytes of calldata; `fits` says that the lent buffers have the right lengths
 abbrev pub openingChecks : {A : Type 0} → Setting → Bool → ℕ → List (Check A)

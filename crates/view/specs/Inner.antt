@@ -41,7 +41,7 @@ pub record ListAsks (m : Mem) (p : ℕ) : Type 0 where
   pub formed : WellFormed m
   pub page : p ≤ 4294967295
   pub decodable : (fixed (layoutOf (m .words)) p || dynamic (layoutOf (m .words)) p) ≡ true
-  pub entry : viewOf m .allocated p ≡ false → 0 < viewOf m .entries
+  pub entry : viewOf m .allocated p ≡ false → 0 < viewOf m .entriesLeft
 
 pub record HoldAsks (m : Mem) (p k n : ℕ) : Type 0 where
   pub formed : WellFormed m

@@ -61,7 +61,7 @@ abbrev pub panic : Frame → InstructionResult
 panic f = frameAlone (withPanicked f)
 
 -- the whole word plus 32, in 256 bits
--- It never leaves them where the operand is within the limit: `no-carry` of instructions/proofs/Laws.antt, a field of lists/specs/Rules.antt
+-- It never leaves them where the operand is within the limit: `no-carry` of proofs/Operands.antt, a field of lists/specs/Rules.antt
 abbrev pub incremented : ℕ → ℕ
 incremented x = (x + 32) % 2 ^ 256
 
@@ -71,42 +71,47 @@ abbrev pub accessChecks : {A : Type 0} → (InstructionResult → A) → Area �
 accessChecks give area f x = (not (frameAccessed f area x .paid), panicked (give (panic (frameAccessed f area x .frame)))) ∷ []
 
 -- a load keeps the operand's tag; of an undecodable page it reads zeros, and pays all the same
-abbrev pub loaded : View → Area → Frame → Operand → InstructionResult
-loaded v area f x = record {
-  word = bigEndian (run v (heapOf f area) (x .word) 32);
+abbrev pub loadedFrom : View → (page : ℕ) → Operand → (after : Frame) → InstructionResult
+loadedFrom v p x f = record {
+  word = bigEndian (run v p (x .word) 32);
   operand = record { word = incremented (x .word); tag = x .tag };
-  frame = frameAccessed f area (x .word) .frame;
+  frame = f;
   stop = running;
 }
+
+abbrev pub loaded : View → Area → Frame → Operand → InstructionResult
+loaded v area f x = loadedFrom v (heapOf f area) x (frameAccessed f area (x .word) .frame)
 
 -- hooking is on and the address is the hook address
 abbrev pub hooked : Hook → ℕ → Bool
 hooked h x = h .on && eqb x (h .address)
 
--- the panics, then the refusals of a word write, then 15: the hook address is hit by a value above 4,294,967,295
+-- 15: the hook address is hit by a value above 4,294,967,295
+abbrev pub hookChecks : {A : Type 0} → Hook → (address value : ℕ) → List (Check A)
+hookChecks h x n = (hooked h x && ltb 4294967295 n, refused 15) ∷ []
+
+-- the panics, then the refusals of a word write, then that of the hook
 abbrev pub storeChecks : {A : Type 0} → (InstructionResult → A) → Setting → View → Area → Frame → ℕ → ℕ → Hook → List (Check A)
-storeChecks give s v area f x n h = accessChecks give area f x ++ (wordWriteChecks s v (heapOf f area) x ++ ((hooked h x && ltb 4294967295 n, refused 15) ∷ []))
+storeChecks give s v area f x n h = accessChecks give area f x ++ (wordWriteChecks s v (heapOf f area) x ++ hookChecks h x n)
 
 -- a store clears the tag, and stops with the value n where it is hooked
-abbrev pub stored : Area → Frame → Operand → ℕ → Hook → InstructionResult
-stored area f x n h = record {
+abbrev pub storedWith : Operand → ℕ → Hook → (after : Frame) → InstructionResult
+storedWith x n h f = record {
   word = 0;
   operand = record { word = incremented (x .word); tag = false };
-  frame = frameAccessed f area (x .word) .frame;
+  frame = f;
   stop = cond (hooked h (x .word)) (onHook n) running;
 }
+
+abbrev pub stored : Area → Frame → Operand → ℕ → Hook → InstructionResult
+stored area f x n h = storedWith x n h (frameAccessed f area (x .word) .frame)
 
 -- ---- static load and store: the same operand limit; panic without charge; no growth
 abbrev pub staticChecks : {A : Type 0} → (InstructionResult → A) → Frame → ℕ → List (Check A)
 staticChecks give f x = (ltb lastAddress x, panicked (give (panic f))) ∷ []
 
 abbrev pub staticLoaded : Setting → View → Frame → Operand → InstructionResult
-staticLoaded s v f x = record {
-  word = bigEndian (run v (staticOf (s .layout)) (x .word) 32);
-  operand = record { word = incremented (x .word); tag = x .tag };
-  frame = f;
-  stop = running;
-}
+staticLoaded s v f x = loadedFrom v (staticOf (s .layout)) x f
 
 abbrev pub staticStoreChecks : {A : Type 0} → (InstructionResult → A) → Setting → View → Frame → ℕ → List (Check A)
 staticStoreChecks give s v f x = staticChecks give f x ++ wordWriteChecks s v (staticOf (s .layout)) x

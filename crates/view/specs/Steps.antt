@@ -9,7 +9,8 @@ use Rattle.index.specs.Index.{all}
 use Rattle.formed.specs.Pages.{fixed, dynamic, group, journalCount, journalPage}
 use Rattle.formed.specs.Parts.{Note, tab}
 use Rattle.page_ids.specs.declared.Layout.{Layout}
-use Rattle.view.specs.View.{View, Setting, withBytes, withHeld, withPool, withAllocated, withEntries, withDynamicLength, withJournal}
+use Rattle.store.specs.Keys.{keyFactor}
+use Rattle.view.specs.View.{View, Setting, withBytes, withHeld, withPool, withAllocated, withEntriesLeft, withDynamicLength, withJournal}
 
 -- ---- reading
 -- the n bytes from address a of a page on
@@ -46,9 +47,13 @@ over p a bs f q b = cond (eqb q p && (leb a b && ltb b (a + length bs))) (getD b
 abbrev pub journalled : Layout → ℕ → ℕ → Bool
 journalled l p j = ltb j journalCount && eqb p (journalPage l j)
 
+-- the word at address a of page p, as it is now
+abbrev pub wordNow : View → ℕ → ℕ → Note
+wordNow v p a = record { address = a; old = run v p a 32 }
+
 -- 01, History: the words that a write journals, oldest first. A word write journals its address and old word
 abbrev pub wordNotes : View → ℕ → ℕ → List Note
-wordNotes v p a = record { address = a; old = run v p a 32 } ∷ []
+wordNotes v p a = wordNow v p a ∷ []
 
 -- a byte write each aligned 32-byte word that it touches; length 0 none
 abbrev pub alignedCount : ℕ → ℕ → ℕ
@@ -56,7 +61,7 @@ alignedCount a zero = 0
 alignedCount a (suc n) = (a + n) / 32 - a / 32 + 1
 
 abbrev pub alignedNotes : View → ℕ → ℕ → ℕ → List Note
-alignedNotes v p a n = tab (alignedCount a n) (λ i. record { address = 32 * (a / 32 + i); old = run v p (32 * (a / 32 + i)) 32 })
+alignedNotes v p a n = tab (alignedCount a n) (λ i. wordNow v p (32 * (a / 32 + i)))
 
 -- the bytes bs written to address a of page p, which journals the notes where it is a bootloader page: bytes are set and their chunks held,
 -- the page is allocated, and the dynamic length becomes at least its group + 1
@@ -66,7 +71,7 @@ written l p a bs notes v = record {
   held = λ q k. (eqb q p && touches a (length bs) k) || v .held q k;
   pool = v .pool - needs v p a (length bs);
   allocated = λ q. eqb q p || v .allocated q;
-  entries = cond (v .allocated p) (v .entries) (v .entries - 1);
+  entriesLeft = cond (v .allocated p) (v .entriesLeft) (v .entriesLeft - 1);
   dynamicLength = cond (dynamic l p) (max (v .dynamicLength) (group l p + 1)) (v .dynamicLength);
   journal = λ j. cond (journalled l p j) (v .journal j ++ notes) (v .journal j);
 }
@@ -87,9 +92,9 @@ unfoldable pub count : (ℕ → Bool) → ℕ → ℕ
 count test zero = 0
 count test (suc n) = count test n + cond (test n) 1 0
 
--- how many pairs of a page and a chunk number pass it; a page id has 32 bits, and no chunk number reaches 33,554,432
+-- how many pairs of a page and a chunk number pass it; a page id has 32 bits, and no chunk number reaches the factor
 unfoldable pub pairs : (ℕ → ℕ → Bool) → ℕ
-pairs test = count (λ i. test (i / 33554432) (i % 33554432)) 144115188075855872
+pairs test = count (λ i. test (i / keyFactor) (i % keyFactor)) 144115188075855872
 
 -- the chunks that `dropped` names are zero and no longer held, the pages that `free` names no longer allocated; each chunk that is not held
 -- is in the pool, and each entry that no dynamic page has is left
@@ -99,7 +104,7 @@ without s dropped free v =
     (withHeld (λ q k. v .held q k && not (dropped q k))
     (withPool (s .chunks - pairs (λ q k. v .held q k && not (dropped q k)))
     (withAllocated (λ q. v .allocated q && not (free q))
-    (withEntries (s .pages - count (λ q. (v .allocated q && not (free q)) && dynamic (s .layout) q) 4294967296) v))))
+    (withEntriesLeft (s .pages - count (λ q. (v .allocated q && not (free q)) && dynamic (s .layout) q) 4294967296) v))))
 
 -- free drops its page's chunks
 abbrev pub freed : Setting → ℕ → View → View
@@ -166,7 +171,7 @@ emptyView s = record {
   held = λ p k. false;
   pool = s .chunks;
   allocated = fixed (s .layout);
-  entries = s .pages;
+  entriesLeft = s .pages;
   dynamicLength = 0;
   journal = λ j. [];
 }

@@ -19,32 +19,32 @@ pub record View : Type 0 where
   -- is a page allocated? A fixed one always is
   pub allocated : ℕ → Bool
   -- how many page entries are left
-  pub entries : ℕ
+  pub entriesLeft : ℕ
   pub dynamicLength : ℕ
   -- journal 0 is that of the bootloader heap, 1 that of the bootloader aux heap; the oldest word stands first
   pub journal : ℕ → List Note
 
 -- a view with another value of one of its parts
 abbrev pub withBytes : (ℕ → ℕ → ℕ) → View → View
-withBytes x v = record { bytes = x; held = v .held; pool = v .pool; allocated = v .allocated; entries = v .entries; dynamicLength = v .dynamicLength; journal = v .journal }
+withBytes x v = record { bytes = x; held = v .held; pool = v .pool; allocated = v .allocated; entriesLeft = v .entriesLeft; dynamicLength = v .dynamicLength; journal = v .journal }
 
 abbrev pub withHeld : (ℕ → ℕ → Bool) → View → View
-withHeld x v = record { bytes = v .bytes; held = x; pool = v .pool; allocated = v .allocated; entries = v .entries; dynamicLength = v .dynamicLength; journal = v .journal }
+withHeld x v = record { bytes = v .bytes; held = x; pool = v .pool; allocated = v .allocated; entriesLeft = v .entriesLeft; dynamicLength = v .dynamicLength; journal = v .journal }
 
 abbrev pub withPool : ℕ → View → View
-withPool x v = record { bytes = v .bytes; held = v .held; pool = x; allocated = v .allocated; entries = v .entries; dynamicLength = v .dynamicLength; journal = v .journal }
+withPool x v = record { bytes = v .bytes; held = v .held; pool = x; allocated = v .allocated; entriesLeft = v .entriesLeft; dynamicLength = v .dynamicLength; journal = v .journal }
 
 abbrev pub withAllocated : (ℕ → Bool) → View → View
-withAllocated x v = record { bytes = v .bytes; held = v .held; pool = v .pool; allocated = x; entries = v .entries; dynamicLength = v .dynamicLength; journal = v .journal }
+withAllocated x v = record { bytes = v .bytes; held = v .held; pool = v .pool; allocated = x; entriesLeft = v .entriesLeft; dynamicLength = v .dynamicLength; journal = v .journal }
 
-abbrev pub withEntries : ℕ → View → View
-withEntries x v = record { bytes = v .bytes; held = v .held; pool = v .pool; allocated = v .allocated; entries = x; dynamicLength = v .dynamicLength; journal = v .journal }
+abbrev pub withEntriesLeft : ℕ → View → View
+withEntriesLeft x v = record { bytes = v .bytes; held = v .held; pool = v .pool; allocated = v .allocated; entriesLeft = x; dynamicLength = v .dynamicLength; journal = v .journal }
 
 abbrev pub withDynamicLength : ℕ → View → View
-withDynamicLength x v = record { bytes = v .bytes; held = v .held; pool = v .pool; allocated = v .allocated; entries = v .entries; dynamicLength = x; journal = v .journal }
+withDynamicLength x v = record { bytes = v .bytes; held = v .held; pool = v .pool; allocated = v .allocated; entriesLeft = v .entriesLeft; dynamicLength = x; journal = v .journal }
 
 abbrev pub withJournal : (ℕ → List Note) → View → View
-withJournal x v = record { bytes = v .bytes; held = v .held; pool = v .pool; allocated = v .allocated; entries = v .entries; dynamicLength = v .dynamicLength; journal = x }
+withJournal x v = record { bytes = v .bytes; held = v .held; pool = v .pool; allocated = v .allocated; entriesLeft = v .entriesLeft; dynamicLength = v .dynamicLength; journal = x }
 
 -- the layout and the three counts of an opening, which no call changes
 pub record Setting : Type 0 where
@@ -62,7 +62,7 @@ viewOf m = record {
   held = holds m;
   pool = pool m;
   allocated = allocated m;
-  entries = entriesLeft m;
+  entriesLeft = entriesLeft m;
   dynamicLength = dynamicLength (m .words);
   journal = λ j. cond (ltb j journalCount) (journal m j) [];
 }

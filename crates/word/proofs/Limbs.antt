@@ -1,10 +1,11 @@
 -- Tests and sums on four limbs. Every law is on one limb and the rest, since a number of 256 bits is too wide for the tactic on sums.
 -- Assumes nothing.
-use mathlib.Core.Path.{_≡_, sym, ap, _∙_}
+use mathlib.Core.Path.{_≡_, refl, sym, ap, _∙_}
 use Prim.Native.Nat.{ℕ, _+_, _*_, _-_, _%_, _<_, _≤_, _^_}
 use native.Mathlib.Omega.{arith}
 use native.Mathlib.Nat.{mod-eq-of-lt, add-mod-right}
-use Rattle.word.specs.Value.{limbsValue}
+use lib.ListN.{replicate}
+use Rattle.word.specs.Value.{value, limbsValue}
 
 -- sums with a carry
 pub add-32 : (a h : ℕ) → a + 2 ^ 64 * h + 32 ≡ a + 32 + 2 ^ 64 * h
@@ -104,3 +105,8 @@ module _ (a b c d : ℕ) (la : a < 2 ^ 64) (lb : b < 2 ^ 64) (lc : c < 2 ^ 64) (
       (carry-32 a _ la′ ∙ ap (λ (q : ℕ). a - 18446744073709551584 + 2 ^ 64 * q)
       (carry-1 b _ lb′ lb ∙ ap (λ (q : ℕ). 0 + 2 ^ 64 * q) (carry-1 c _ lc′ lc ∙ ap (λ (q : ℕ). 0 + 2 ^ 64 * q) (full l)))
       ∙ ap (λ (q : ℕ). q + 2 ^ 256) (none (a - 18446744073709551584)))
+
+-- four zero limbs
+pub no-limbs : value (replicate 4 0) ≡ 0
+unfolding value
+no-limbs = refl

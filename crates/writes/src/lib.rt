@@ -9,8 +9,6 @@ use page_ids::Address;
 use page_ids::PageId;
 use word::Word;
 
-pub mod steps;
-
 // Writes a word at any address; a bootloader page journals the old word first.
 pub fn write_u256(
     bytes: &mut [u8],
@@ -27,7 +25,7 @@ pub fn write_u256(
     if refusal != 0 {
         return Answer::Refused(refusal);
     }
-    steps::write_word(
+    write_steps::write_word(
         bytes,
         keys,
         order,
@@ -55,7 +53,7 @@ pub fn write_bytes(
     if refusal != 0 {
         return Answer::Refused(refusal);
     }
-    steps::write_range(bytes, keys, order, words, page, start, src);
+    write_steps::write_range(bytes, keys, order, words, page, start, src);
     Answer::Done
 }
 
@@ -74,7 +72,7 @@ pub fn allocate_with_content_at(
     if refusal != 0 {
         return Answer::Refused(refusal);
     }
-    steps::fill(bytes, keys, order, words, page, contents);
+    write_steps::fill(bytes, keys, order, words, page, contents);
     Answer::Done
 }
 

@@ -2,14 +2,13 @@
 ghost use Rattle.outcome.specs.Outcome.{done, mapped};
 ghost use Rattle.word.specs.Value.{value, limbsValue};
 ghost use Rattle.page_ids.specs.Arithmetic.{sum, difference};
-ghost use Rattle.page_ids.specs.Decode.{decoding};
+ghost use Rattle.page_ids.specs.Decode.{decoding, layoutFrom};
 ghost use Rattle.fat_pointer.specs.Pointer.{pointerOf, pointerWord};
 ghost use Rattle.state.specs.Access.{used, frameGrown};
 ghost use Rattle.state.specs.Quote.{quoted};
-ghost use Rattle.opening.specs.Opening.{layoutFrom};
 ghost use Rattle.abi.specs.Executing.{areaOf, frameFrom};
 ghost use Rattle.abi.specs.Interface.{Gives};
-ghost use Rattle.abi.specs.Numbers.{one, asTheyAre, pointerAt, pointer, pageNumbers, gasNumbers, endNumbers, Grows};
+ghost use Rattle.abi.specs.Numbers.{one, asTheyAre, pointerAt, pointerFrom, pageNumbers, gasNumbers, endNumbers, Grows};
 use abi::answers;
 use abi::executions;
 use abi::frames;
@@ -45,7 +44,7 @@ pub extern "C" fn zp_decode(
     answers::give_decoding(out, page_ids::decode(layout, PageId(page)))
 }
 
-// A page beside a base page, or 4 where that leaves 32 bits; the next three likewise.
+// The pages of a base page and back; 4 where a number leaves 32 bits. A code page has the base page's own number, and is never refused.
 #[no_mangle]
 pub extern "C" fn zp_heap_page_from_base(base: u32, out: &mut [u64]) -> u32
     ensures { λ r. ⌜ Gives 1 (sum base 2) one r (now (out .entry)) (now (out .exit)) ⌝ }
@@ -109,7 +108,7 @@ pub extern "C" fn zp_fat_pointer_into_u256(
     length: u32,
     out: &mut [u64],
 ) -> u32
-    ensures { λ r. ⌜ Gives 4 (done (pointerWord (pointer offset page start length))) value r (now (out .entry)) (now (out .exit)) ⌝ }
+    ensures { λ r. ⌜ Gives 4 (done (pointerWord (pointerFrom offset page start length))) value r (now (out .entry)) (now (out .exit)) ⌝ }
 {
     let memory_page = PageId(page);
     let pointer = FatPointer {

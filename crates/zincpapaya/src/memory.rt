@@ -10,7 +10,8 @@ ghost use Rattle.outcome.specs.Outcome.{answered};
 ghost use Rattle.word.specs.Value.{limbsValue};
 ghost use Rattle.store.specs.Mem.{mem};
 ghost use Rattle.view.specs.Calls.{Call, Value, nothing, answerOf, comparisonOf, CallDoes, OpenDoes};
-ghost use Rattle.opening.specs.Opening.{layoutFrom, setting};
+ghost use Rattle.page_ids.specs.Decode.{layoutFrom};
+ghost use Rattle.opening.specs.Opening.{settingFrom};
 ghost use Rattle.abi.specs.Interface.{Gives, wordIn, numberIn, marksIn, verdictIn, chunkAnswer};
 
 const CHUNK_BYTES: usize = 256;
@@ -32,10 +33,10 @@ pub extern "C" fn zp_open(
     stride: u32,
     chunks: u32,
     pages: u32,
-    room: u32,
+    journal_words: u32,
     calldata: &[u8],
 ) -> u32
-    ensures { λ r. ⌜ OpenDoes (mem (now (bytes .entry)) (now (keys .entry)) (now (order .entry)) (now (words .entry))) (setting (layoutFrom «static_memory» «calldata_page» «bootloader_heap» «bootloader_aux» base stride) chunks pages room) (now (calldata .entry)) (answered r nothing) (mem (now (bytes .exit)) (now (keys .exit)) (now (order .exit)) (now (words .exit))) ⌝ }
+    ensures { λ r. ⌜ OpenDoes (mem (now (bytes .entry)) (now (keys .entry)) (now (order .entry)) (now (words .entry))) (settingFrom (layoutFrom «static_memory» «calldata_page» «bootloader_heap» «bootloader_aux» base stride) chunks pages «journal_words») (now (calldata .entry)) (answered r nothing) (mem (now (bytes .exit)) (now (keys .exit)) (now (order .exit)) (now (words .exit))) ⌝ }
 {
     let layout = frames::layout_of(
         static_memory,
@@ -53,7 +54,7 @@ pub extern "C" fn zp_open(
         layout,
         chunks,
         pages,
-        room,
+        journal_words,
         calldata,
     ))
 }
@@ -213,7 +214,7 @@ pub extern "C" fn zp_chunk<'a>(
     }
     answers::copy(
         output,
-        reads::steps::chunk_of(bytes, keys, order, words, PageId(page), number, block),
+        read_steps::chunk_of(bytes, keys, order, words, PageId(page), number, block),
     );
     0
 }

@@ -25,11 +25,6 @@ loop-holds c =
     let start = c .before .before .before .before .before in
     (omega arith, refl, put-none _ _ _ _ _ _ (start .args .src .now) (start .pre))
 
-cast-place-of : tie.Need-cast-place-of Inv-loop μ-loop
-cast-place-of c =
-    let start = c .before .before .before .before .before .before .before .before in
-    let top = start .pre .top in omega arith
-
 place-of-requires : tie.Need-place-of-requires Inv-loop μ-loop
 place-of-requires c κs =
     let start = c .before .before .before .before .before .before .before .before in
@@ -90,7 +85,7 @@ write-from-spec =
     μ-loop
     loop-holds
     (λ c. search needs) (λ c. search needs)
-    cast-place-of
+    (λ c. let top = c .before .before .before .before .before .before .before .before .pre .top in omega arith)
     place-of-requires
     (λ c. search needs) (λ c κs. search needs)
     mul-copy

@@ -5,16 +5,11 @@ use borrow.Author.Needs.{needs}
 use Rattle.store.specs.Mem.{mem}
 use Rattle.view.specs.View.{settingOf, viewOf}
 use Rattle.view.specs.Checks.{capacityChecksAt}
-use Rattle.checks.proofs.Chosen.{chunks-fit, room-chosen, chosen-4, allocate-5, allocate-6, allocate-room}
+use Rattle.checks.proofs.Chosen.{layout-asks, chunks-fit, room-chosen, chosen-4, allocate-5, allocate-6, allocate-room}
 use Rattle.outcome.specs.Outcome.{refused}
 use Rattle.formed.specs.Pages.{fixed}
 use Rattle.checks.proofs.allocate_checks.Statement.{statement}
 use Rattle.checks.proofs.allocate_checks.Tie as tie
-
-decode-requires : tie.Need-decode-requires
-decode-requires c κs =
-    let start = c .before .before .before .before in
-    start .pre
 
 returns : tie.Need-returns
 returns c =
@@ -35,11 +30,6 @@ returns-2 c =
     let start = at-decode .before .before .before .before .before in
     let m = mem (start .args .bytes .now) (start .args .keys .now) (start .args .order .now) (start .args .words .now) in
     allocate-5 (settingOf m) (viewOf m) (start .args .page .0) _ (at-decode .decode .ensures) (start .args .n) (sym (at-is-undecodable .is-undecodable .ensures) ∙ at-if1 .if1 .left) (sym (at-is-fixed .is-fixed .ensures) ∙ at-if2 .if2 .taken)
-
-is-allocated-requires : tie.Need-is-allocated-requires
-is-allocated-requires c κs =
-    let start = c .before .before .before .before .before .before .before .before .before in
-    start .pre
 
 returns-3 : tie.Need-returns-3
 returns-3 c =
@@ -79,12 +69,12 @@ pub allocate-checks-spec : {M : Type 1} → statement M
 allocate-checks-spec =
     tie.close
     (tie.spec
-    decode-requires
+    (λ c κs. layout-asks _ (c .before .before .before .before .pre))
     (λ c κs. search needs)
     returns
     (λ c κs. search needs)
     returns-2
-    is-allocated-requires
+    (λ c κs. c .before .before .before .before .before .before .before .before .before .pre)
     returns-3
     (λ c κs. search needs)
     capacity-refusal-requires

@@ -8,15 +8,10 @@ use Rattle.store.specs.Mem.{mem}
 use Rattle.view.specs.View.{settingOf, viewOf}
 use Rattle.view.specs.Steps.{alignedCount}
 use Rattle.view.specs.Checks.{capacityChecksAt}
-use Rattle.checks.proofs.Chosen.{chunks-fit, words-fit, room-chosen, chosen-4, bytes-8, bytes-room}
+use Rattle.checks.proofs.Chosen.{layout-asks, chunks-fit, words-fit, room-chosen, chosen-4, bytes-8, bytes-room}
 use Rattle.outcome.specs.Outcome.{refused}
 use Rattle.checks.proofs.bytes_checks.Statement.{statement}
 use Rattle.checks.proofs.bytes_checks.Tie as tie
-
-decode-requires : tie.Need-decode-requires
-decode-requires c κs =
-    let start = c .before .before .before .before in
-    start .pre
 
 returns : tie.Need-returns
 returns c =
@@ -62,7 +57,7 @@ pub bytes-checks-spec : {M : Type 1} → statement M
 bytes-checks-spec =
     tie.close
     (tie.spec
-    decode-requires
+    (λ c κs. layout-asks _ (c .before .before .before .before .pre))
     (λ c κs. search needs)
     returns
     (λ c. search needs) (λ c. search needs)

@@ -5,9 +5,6 @@ use Rattle.checks.proofs.Tables.{left-none}
 use Rattle.checks.proofs.no_entry.Statement.{statement}
 use Rattle.checks.proofs.no_entry.Tie as tie
 
-returns : tie.Need-returns
-returns c = let t = sym (c .before .is-allocated .ensures) ∙ c .if1 .taken in rw t refl
-
 returns-2 : tie.Need-returns-2
 returns-2 c =
     let start = c .before .before .before .before .before .before .before .before in
@@ -19,6 +16,6 @@ no-entry-spec =
     tie.close
     (tie.spec
     (λ c κs. search needs)
-    returns
+    (λ c. let t = sym (c .before .is-allocated .ensures) ∙ c .if1 .taken in rw t refl)
     (λ c. search needs) (λ c. search needs) (λ c. search needs)
     returns-2)

@@ -12,7 +12,7 @@ use Rattle.checks.proofs.Tables.{held-at}
 use Rattle.store.specs.Mem.{mem}
 use Rattle.view.specs.Steps as spec
 use Rattle.formed.specs.Parts.{pool}
-use Rattle.checks.specs.Refusals.{holdsAt}
+use Rattle.checks.specs.Missing.{holdsAt}
 use Rattle.checks.proofs.short_of_chunks.Statement.{statement}
 use Rattle.checks.proofs.short_of_chunks.Tie as tie
 

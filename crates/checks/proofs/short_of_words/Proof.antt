@@ -8,14 +8,12 @@ use Rattle.checks.proofs.short_of_words.Tie as tie
 
 journal-of-requires : tie.Need-journal-of-requires
 journal-of-requires c κs =
-    let start = c .before .before .before .before in
-    let h = start .pre .0 .lengths .in-words in
+    let h = c .before .before .before .before .pre .0 .lengths .in-words in
     omega arith
 
 returns : tie.Need-returns
 returns c =
-    let at-if1 = c in
-    let at-journal-of = at-if1 .before in
+    let at-journal-of = c .before in
     let start = at-journal-of .before .before .before .before .before in
     let m = mem (start .args .bytes .now) (start .args .keys .now) (start .args .order .now) (start .args .words .now) in
     sym (full-none m (start .pre .0) (start .args .page .0) (start .args .w) (at-journal-of .journal-of .ensures .none (omega arith)))

@@ -4,14 +4,9 @@ use borrow.Author.Needs.{needs}
 use Rattle.store.specs.Mem.{mem}
 use Rattle.view.specs.View.{settingOf, viewOf}
 use Rattle.view.specs.Checks.{capacityChecksAt}
-use Rattle.checks.proofs.Chosen.{chunks-fit, room-chosen, chosen-4, past-4}
+use Rattle.checks.proofs.Chosen.{layout-asks, chunks-fit, room-chosen, chosen-4, past-4}
 use Rattle.checks.proofs.word_checks.Statement.{statement}
 use Rattle.checks.proofs.word_checks.Tie as tie
-
-decode-requires : tie.Need-decode-requires
-decode-requires c κs =
-    let start = c .before .before .before .before in
-    start .pre
 
 returns : tie.Need-returns
 returns c =
@@ -43,7 +38,7 @@ pub word-checks-spec : {M : Type 1} → statement M
 word-checks-spec =
     tie.close
     (tie.spec
-    decode-requires
+    (λ c κs. layout-asks _ (c .before .before .before .before .pre))
     (λ c κs. search needs)
     returns
     (λ c κs. search needs) (λ c. search needs)

@@ -33,12 +33,12 @@ learn-requires c κs =
     let h = at-hold .hold .ensures in
     let a = one-held (start .args .bytes .now) (start .args .keys .now) (start .args .order .now) (start .args .words .now) (start .args .page .0) (start .args .chunk) (start .pre .0) (start .args .k) (start .pre .1) _ _ _ _ h in
     let l = a .shows .formed .lengths in
-    let few = start .pre .0 .formed .lengths .slots-hi in
+    let few = start .pre .0 .formed .lengths .chunks-hi in
     let s = h .slot-in in
     let w = l .in-words in
     let o = l .in-order in
-    let lo = l .slots-lo in
-    ((omega arith, l .slots-hi, l .pages-hi), (omega arith, omega arith))
+    let lo = l .chunks-lo in
+    ((omega arith, l .chunks-hi, l .pages-hi), (omega arith, omega arith))
 
 returns-2 : tie.Need-returns-2
 returns-2 c =

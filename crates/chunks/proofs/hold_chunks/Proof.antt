@@ -20,11 +20,6 @@ Inv-loop bytes keys₀ order₀ words₀ page first count e k i₀ keys order wo
 abbrev μ-loop : tie.MeasureT-loop
 μ-loop bytes keys₀ order₀ words₀ page first count e k i₀ keys order words i = count - i
 
-entry-of-requires : tie.Need-entry-of-requires Inv-loop μ-loop
-entry-of-requires c κs =
-    let start = c .before .before .before .before .before .before .before in
-    pages-asked _ (start .pre .formed)
-
 key-of-requires : tie.Need-key-of-requires Inv-loop μ-loop
 key-of-requires c κs =
     let at-entry-of = c in
@@ -34,14 +29,12 @@ key-of-requires c κs =
 
 loop-holds : tie.Need-loop-holds Inv-loop μ-loop
 loop-holds c =
-    let start = c .before .before .before .before .before .before .before .before .before in
-    (search needs, refl, refl, refl, after-none _ _ _ (start .pre .formed))
+    (search needs, refl, refl, refl, after-none _ _ _ (c .before .before .before .before .before .before .before .before .before .pre .formed))
 
 add-hold-chunk : tie.Need-add-hold-chunk Inv-loop μ-loop
 add-hold-chunk c =
     let at-loop-test = c .before .before .before in
-    let start = at-loop-test .before .before .before .before .before .before .before .before .before .before .before in
-    omega (arith, start .pre .top, at-loop-test .loop-test .taken)
+    omega (arith, at-loop-test .before .before .before .before .before .before .before .before .before .before .before .pre .top, at-loop-test .loop-test .taken)
 
 add-hold-chunk-2 : tie.Need-add-hold-chunk-2 Inv-loop μ-loop
 add-hold-chunk-2 c =
@@ -82,7 +75,7 @@ hold-chunks-spec =
     tie.close
     (tie.spec Inv-loop
     μ-loop
-    entry-of-requires
+    (λ c κs. pages-asked _ (c .before .before .before .before .before .before .before .pre .formed))
     key-of-requires
     loop-holds
     add-hold-chunk

@@ -3,7 +3,8 @@ use mathlib.Core.Bool.{true, false}
 use native.Mathlib.Omega.{arith}
 use Rattle.store.specs.Mem.{Mem, mem}
 use Rattle.formed.proofs.Meaning.{well-formed-means}
-use Rattle.compare.proofs.Answers.{passed, failed, left-ill, right-ill, layouts-differ, decided}
+use Rattle.index.proofs.Logic.{passed, failed}
+use Rattle.compare.proofs.Answers.{left-ill, right-ill, layouts-differ, decided}
 use Rattle.compare.proofs.compare.Statement.{statement}
 use Rattle.compare.proofs.compare.Tie as tie
 

@@ -40,40 +40,29 @@ left start = mem (start .args .left-bytes .now) (start .args .left-keys .now) (s
 abbrev right : tie.Start Inv-loop μ-loop Inv-chunks μ-chunks Inv-pages μ-pages → Mem
 right start = mem (start .args .right-bytes .now) (start .args .right-keys .now) (start .args .right-order .now) (start .args .right-words .now)
 
-shared-slice-read-slots : tie.Need-shared-slice-read-slots Inv-loop μ-loop Inv-chunks μ-chunks Inv-pages μ-pages
-shared-slice-read-slots c =
-    let start = c .before .before .before .before .before .before .before .before .before in
-    omega (arith, start .pre .0 .lengths)
-
 shared-slice-read-pages : tie.Need-shared-slice-read-pages Inv-loop μ-loop Inv-chunks μ-chunks Inv-pages μ-pages
 shared-slice-read-pages c =
-    let start = c .before .before .before .before .before .before .before .before .before .before in
-    omega (arith, start .pre .0 .lengths)
+    omega (arith, c .before .before .before .before .before .before .before .before .before .before .pre .0 .lengths)
 
 add-pages : tie.Need-add-pages Inv-loop μ-loop Inv-chunks μ-chunks Inv-pages μ-pages
 add-pages c =
-    let start = c .before .before .before .before .before .before .before .before .before .before in
-    omega (arith, start .pre .0 .lengths)
+    omega (arith, c .before .before .before .before .before .before .before .before .before .before .pre .0 .lengths)
 
 shared-slice-read-held : tie.Need-shared-slice-read-held Inv-loop μ-loop Inv-chunks μ-chunks Inv-pages μ-pages
 shared-slice-read-held c =
-    let start = c .before .before .before .before .before .before .before .before .before .before .before in
-    omega (arith, start .pre .0 .lengths)
+    omega (arith, c .before .before .before .before .before .before .before .before .before .before .before .pre .0 .lengths)
 
 shared-slice-read-right-slots : tie.Need-shared-slice-read-right-slots Inv-loop μ-loop Inv-chunks μ-chunks Inv-pages μ-pages
 shared-slice-read-right-slots c =
-    let start = c .before .before .before .before .before .before .before .before .before .before .before .before in
-    omega (arith, start .pre .1 .lengths)
+    omega (arith, c .before .before .before .before .before .before .before .before .before .before .before .before .pre .1 .lengths)
 
 shared-slice-read-right-pages : tie.Need-shared-slice-read-right-pages Inv-loop μ-loop Inv-chunks μ-chunks Inv-pages μ-pages
 shared-slice-read-right-pages c =
-    let start = c .before .before .before .before .before .before .before .before .before .before .before .before .before in
-    omega (arith, start .pre .1 .lengths)
+    omega (arith, c .before .before .before .before .before .before .before .before .before .before .before .before .before .pre .1 .lengths)
 
 add-right-pages : tie.Need-add-right-pages Inv-loop μ-loop Inv-chunks μ-chunks Inv-pages μ-pages
 add-right-pages c =
-    let start = c .before .before .before .before .before .before .before .before .before .before .before .before .before in
-    omega (arith, start .pre .1 .lengths)
+    omega (arith, c .before .before .before .before .before .before .before .before .before .before .before .before .before .pre .1 .lengths)
 
 pages-holds : tie.Need-pages-holds Inv-loop μ-loop Inv-chunks μ-chunks Inv-pages μ-pages
 pages-holds c =
@@ -83,28 +72,17 @@ pages-holds c =
 add-listed : tie.Need-add-listed Inv-loop μ-loop Inv-chunks μ-chunks Inv-pages μ-pages
 add-listed c =
     let at-pages-test = c in
-    let at-pages = at-pages-test .before in
-    let start = at-pages .before .before .before .before .before .before .before .before .before .before .before .before .before .before in
-    omega (arith, at-pages-test .pages-test .taken, start .pre .0 .lengths)
+    omega (arith, at-pages-test .pages-test .taken, at-pages-test .before .before .before .before .before .before .before .before .before .before .before .before .before .before .before .pre .0 .lengths)
 
 mul-listed : tie.Need-mul-listed Inv-loop μ-loop Inv-chunks μ-chunks Inv-pages μ-pages
 mul-listed c =
     let at-pages-test = c in
-    let at-pages = at-pages-test .before in
-    let start = at-pages .before .before .before .before .before .before .before .before .before .before .before .before .before .before in
-    omega (arith, at-pages-test .pages-test .taken, start .pre .0 .lengths)
+    omega (arith, at-pages-test .pages-test .taken, at-pages-test .before .before .before .before .before .before .before .before .before .before .before .before .before .before .before .pre .0 .lengths)
 
 shared-slice-read-listed : tie.Need-shared-slice-read-listed Inv-loop μ-loop Inv-chunks μ-chunks Inv-pages μ-pages
 shared-slice-read-listed c =
     let at-pages-test = c .before in
-    let at-pages = at-pages-test .before in
-    let start = at-pages .before .before .before .before .before .before .before .before .before .before .before .before .before .before in
-    omega (arith, at-pages-test .pages-test .taken, start .pre .0 .lengths)
-
-sub-page : tie.Need-sub-t36 Inv-loop μ-loop Inv-chunks μ-chunks Inv-pages μ-pages
-sub-page c =
-    let at-if1 = c in
-    omega (arith, at-if1 .if1 .taken)
+    omega (arith, at-pages-test .pages-test .taken, at-pages-test .before .before .before .before .before .before .before .before .before .before .before .before .before .before .before .pre .0 .lengths)
 
 cast-page : tie.Need-cast-t37 Inv-loop μ-loop Inv-chunks μ-chunks Inv-pages μ-pages
 cast-page c =
@@ -181,11 +159,6 @@ slot-beside-requires c κs =
     let k = ranked-key (left start) (start .pre .0) (at-chunks .chunks .i) (at-chunks-test .chunks-test .taken) in
     (slots-asked (right start) (start .pre .1), (omega (arith, at-if2 .if2 .left, start .pre .1 .lengths), omega arith))
 
-loop-holds : tie.Need-loop-holds Inv-loop μ-loop Inv-chunks μ-chunks Inv-pages μ-pages
-loop-holds c =
-    let at-chunks = c .before .before .before .before .before .before in
-    (at-chunks .chunks .inv .0, omega arith, λ r l. absurd (omega arith))
-
 mul-if4 : tie.Need-mul-if4 Inv-loop μ-loop Inv-chunks μ-chunks Inv-pages μ-pages
 mul-if4 c =
     let at-loop-test = c in
@@ -216,18 +189,7 @@ shared-slice-read-if4 c =
 byte-beside-requires : tie.Need-byte-beside-requires Inv-loop μ-loop Inv-chunks μ-chunks Inv-pages μ-pages
 byte-beside-requires c κs =
     let at-loop-test = c .before in
-    let start = at-loop-test .before .before .before .before .before .before .before .before .before .before .before .before .before .before .before .before .before .before .before .before .before .before .before .before .before .before .before .before in
-    (omega (arith, start .pre .1 .lengths), omega (arith, at-loop-test .loop-test .taken))
-
-add-j : tie.Need-add-j Inv-loop μ-loop Inv-chunks μ-chunks Inv-pages μ-pages
-add-j c =
-    let at-loop-test = c .before .before .before in
-    omega (arith, at-loop-test .loop-test .taken)
-
-loop-less : tie.Need-loop-less Inv-loop μ-loop Inv-chunks μ-chunks Inv-pages μ-pages
-loop-less c =
-    let at-loop-test = c .before .before .before in
-    omega (arith, at-loop-test .loop-test .taken)
+    (omega (arith, at-loop-test .before .before .before .before .before .before .before .before .before .before .before .before .before .before .before .before .before .before .before .before .before .before .before .before .before .before .before .before .pre .1 .lengths), omega (arith, at-loop-test .loop-test .taken))
 
 loop-again : tie.Need-loop-again Inv-loop μ-loop Inv-chunks μ-chunks Inv-pages μ-pages
 loop-again c =
@@ -259,11 +221,6 @@ add-i c =
     let start = at-chunks-test .before .before .before .before .before .before .before .before .before .before .before .before .before .before .before .before .before .before .before .before .before in
     omega (arith, at-chunks-test .chunks-test .taken, held-few (left start) (start .pre .0), start .pre .0 .lengths)
 
-chunks-less : tie.Need-chunks-less Inv-loop μ-loop Inv-chunks μ-chunks Inv-pages μ-pages
-chunks-less c =
-    let at-chunks-test = c .before .before .before .before .before .before .before in
-    omega (arith, at-chunks-test .chunks-test .taken)
-
 chunks-again : tie.Need-chunks-again Inv-loop μ-loop Inv-chunks μ-chunks Inv-pages μ-pages
 chunks-again c =
     let at-loop-test = c in
@@ -278,13 +235,7 @@ chunks-again c =
 add-e : tie.Need-add-e Inv-loop μ-loop Inv-chunks μ-chunks Inv-pages μ-pages
 add-e c =
     let at-pages-test = c .before .before in
-    let start = at-pages-test .before .before .before .before .before .before .before .before .before .before .before .before .before .before .before in
-    omega (arith, at-pages-test .pages-test .taken, start .pre .0 .lengths)
-
-pages-less : tie.Need-pages-less Inv-loop μ-loop Inv-chunks μ-chunks Inv-pages μ-pages
-pages-less c =
-    let at-pages-test = c .before .before in
-    omega (arith, at-pages-test .pages-test .taken)
+    omega (arith, at-pages-test .pages-test .taken, at-pages-test .before .before .before .before .before .before .before .before .before .before .before .before .before .before .before .pre .0 .lengths)
 
 pages-again : tie.Need-pages-again Inv-loop μ-loop Inv-chunks μ-chunks Inv-pages μ-pages
 pages-again c =
@@ -359,7 +310,7 @@ covered-spec =
     μ-chunks
     Inv-pages
     μ-pages
-    shared-slice-read-slots
+    (λ c. omega (arith, c .before .before .before .before .before .before .before .before .before .pre .0 .lengths))
     shared-slice-read-pages
     add-pages
     shared-slice-read-held
@@ -370,7 +321,7 @@ covered-spec =
     add-listed
     mul-listed
     shared-slice-read-listed
-    sub-page
+    (λ c. omega (arith, c .if1 .taken))
     cast-page
     entry-of-requires
     chunks-holds
@@ -381,19 +332,19 @@ covered-spec =
     shared-slice-read-key
     key-entry-requires
     slot-beside-requires
-    loop-holds
+    (λ c. (c .before .before .before .before .before .before .chunks .inv .0, omega arith, λ r l. absurd (omega arith)))
     mul-if4
     add-if4
     shared-slice-read-if4
     byte-beside-requires
-    add-j
-    loop-less
+    (λ c. omega (arith, c .before .before .before .loop-test .taken))
+    (λ c. omega (arith, c .before .before .before .loop-test .taken))
     loop-again
     add-i
-    chunks-less
+    (λ c. omega (arith, c .before .before .before .before .before .before .before .chunks-test .taken))
     chunks-again
     add-e
-    pages-less
+    (λ c. omega (arith, c .before .before .pages-test .taken))
     pages-again
     returns
     returns-2

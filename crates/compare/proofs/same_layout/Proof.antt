@@ -13,19 +13,11 @@ Inv-loop left right i₀ i = (i ≤ 6) × ((k : ℕ) → k < i → getD left k 0
 abbrev μ-loop : tie.MeasureT-loop
 μ-loop left right i₀ i = 6 - i
 
-loop-holds : tie.Need-loop-holds Inv-loop μ-loop
-loop-holds c = (omega arith, λ k l. absurd (omega arith))
-
 returns : tie.Need-returns Inv-loop μ-loop
 returns c =
     let at-loop = c .before .before .before .before in
     let start = at-loop .before in
     layout-other (start .args .left .now) (start .args .right .now) (at-loop .loop .i) (c .before .before .before .loop-test .taken) (c .if1 .taken)
-
-loop-again : tie.Need-loop-again Inv-loop μ-loop
-loop-again c =
-    let at-loop = c .before .before .before .before in
-    (omega arith, below-more _ _ (at-loop .loop .inv .1) (c .if1 .left))
 
 returns-2 : tie.Need-returns-2 Inv-loop μ-loop
 returns-2 c =
@@ -39,9 +31,9 @@ same-layout-spec =
     (tie.spec
     Inv-loop
     μ-loop
-    loop-holds
+    (λ c. (omega arith, λ k l. absurd (omega arith)))
     (λ c. omega arith) (λ c. omega arith) (λ c. omega arith) (λ c. omega arith)
     returns
     (λ c. omega arith) (λ c. omega arith)
-    loop-again
+    (λ c. (omega arith, below-more _ _ (c .before .before .before .before .loop .inv .1) (c .if1 .left)))
     returns-2)

@@ -3,11 +3,5 @@ use native.Mathlib.Omega.{arith}
 use Rattle.compare.proofs.slot_beside.Statement.{statement}
 use Rattle.compare.proofs.slot_beside.Tie as tie
 
-slot-at-entry-requires : tie.Need-slot-at-entry-requires
-slot-at-entry-requires c κs = (c .before .before .before .before .pre .0, omega arith, omega (arith, c .key-chunk .ensures))
-
-returns : tie.Need-returns
-returns c = c .slot-at-entry .ensures ∙ rw (c .before .key-chunk .ensures)
-
 pub slot-beside-spec : {M : Type 1} → statement M
-slot-beside-spec = tie.close (tie.spec (λ c κs. omega arith) slot-at-entry-requires returns)
+slot-beside-spec = tie.close (tie.spec (λ c κs. omega arith) (λ c κs. (c .before .before .before .before .pre .0, omega arith, omega (arith, c .key-chunk .ensures))) (λ c. c .slot-at-entry .ensures ∙ rw (c .before .key-chunk .ensures)))

@@ -5,11 +5,6 @@ use borrow.Author.Needs.{needs}
 use Rattle.drops.proofs.drop_chunks.Statement.{statement}
 use Rattle.drops.proofs.drop_chunks.Tie as tie
 
-entry-of-requires : tie.Need-entry-of-requires
-entry-of-requires c κs =
-    let start = c .before .before .before .before .before .before .before in
-    pages-asked _ (start .pre .page .formed)
-
 key-of-requires : tie.Need-key-of-requires
 key-of-requires c κs =
     let at-entry-of = c in
@@ -36,13 +31,12 @@ returns c =
     let at-key-of2 = at-give .before .before .before .before .before in
     let at-key-of = at-key-of2 .before in
     let at-entry-of = at-key-of .before in
-    let start = at-entry-of .before .before .before .before .before .before .before .before in
-    dropped-by _ _ _ _ _ _ _ _ _ _ _ _ _ _ (start .pre) (at-entry-of .entry-of .ensures) (at-key-of .key-of .ensures) (at-key-of2 .key-of2 .ensures) (at-give .give .ensures)
+    dropped-by _ _ _ _ _ _ _ _ _ _ _ _ _ _ (at-entry-of .before .before .before .before .before .before .before .before .pre) (at-entry-of .entry-of .ensures) (at-key-of .key-of .ensures) (at-key-of2 .key-of2 .ensures) (at-give .give .ensures)
 
 pub drop-chunks-spec : {M : Type 1} → statement M
 drop-chunks-spec =
     tie.close
-    (tie.spec entry-of-requires
+    (tie.spec (λ c κs. pages-asked _ (c .before .before .before .before .before .before .before .pre .page .formed))
     key-of-requires
     key-of-requires-2
     give-requires

@@ -15,8 +15,7 @@ rank-below-requires c κs =
 add-remove : tie.Need-add-remove
 add-remove c =
     let at-rank-below = c .before .before in
-    let start = at-rank-below .before .before .before .before .before .before .before .before .before .before .before .before in
-    let h = rank-few _ _ _ _ _ (start .pre) _ (at-rank-below .rank-below .ensures) in omega arith
+    let h = rank-few _ _ _ _ _ (at-rank-below .before .before .before .before .before .before .before .before .before .before .before .before .pre) _ (at-rank-below .rank-below .ensures) in omega arith
 
 remove-requires : tie.Need-remove-requires
 remove-requires c κs =
@@ -27,8 +26,7 @@ remove-requires c κs =
 sub-words : tie.Need-sub-words
 sub-words c =
     let at-rank-below = c .before .before .before .before .before .before .before in
-    let start = at-rank-below .before .before .before .before .before .before .before .before .before .before .before .before in
-    let h = rank-lt _ _ _ _ _ (start .pre) _ (at-rank-below .rank-below .ensures) in omega arith
+    let h = rank-lt _ _ _ _ _ (at-rank-below .before .before .before .before .before .before .before .before .before .before .before .before .pre) _ (at-rank-below .rank-below .ensures) in omega arith
 
 returns : tie.Need-returns
 returns c =

@@ -1,6 +1,6 @@
 use Rattle.view.proofs.Refused.{end, refused-does, done-does}
 use Rattle.freeing.proofs.Calls.{both-asked}
-use Rattle.freeing.proofs.Windows.{window-none}
+use Rattle.free_steps.proofs.Windows.{window-none}
 use Rattle.checks.proofs.Chosen.{ill-chosen, well-chosen}
 use Rattle.view.specs.Calls.{Call, nextOf}
 use mathlib.Core.List.{[]}

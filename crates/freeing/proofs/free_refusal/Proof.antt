@@ -1,5 +1,5 @@
 use Rattle.freeing.proofs.Calls.{free-4, free-5, free-7, free-0}
-use Rattle.checks.proofs.Chosen.{ill-chosen, well-chosen}
+use Rattle.checks.proofs.Chosen.{layout-asks, ill-chosen, well-chosen}
 use Rattle.view.specs.Checks.{freeChecks}
 use Rattle.formed.proofs.Meaning.{well-formed-means}
 use Rattle.view.specs.View.{settingOf, viewOf}
@@ -24,7 +24,7 @@ decode-requires c κs =
     let at-well-formed = at-if1 .before in
     let start = at-well-formed .before .before .before .before .before in
     let m = mem (start .args .bytes .now) (start .args .keys .now) (start .args .order .now) (start .args .words .now) in
-    well-formed-means m (sym (at-well-formed .well-formed .ensures) ∙ not-false _ (at-if1 .if1 .left))
+    layout-asks m (well-formed-means m (sym (at-well-formed .well-formed .ensures) ∙ not-false _ (at-if1 .if1 .left)))
 
 returns-2 : tie.Need-returns-2
 returns-2 c =

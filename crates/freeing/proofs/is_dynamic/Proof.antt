@@ -1,5 +1,6 @@
 use Rattle.freeing.proofs.Calls.{is-none, is-fixed, is-dynamic}
 use Rattle.store.specs.Mem.{mem}
+use Rattle.checks.proofs.Chosen.{layout-asks}
 use mathlib.Core.Path.{sym, _∙_}
 use borrow.Author.Needs.{needs}
 use Rattle.freeing.proofs.is_dynamic.Statement.{statement}
@@ -39,7 +40,7 @@ pub is-dynamic-spec : {M : Type 1} → statement M
 is-dynamic-spec =
     tie.close
     (tie.spec
-    (λ c κs. search needs) (λ c κs. search needs)
+    (λ c κs. layout-asks _ (c .before .before .before .before .pre)) (λ c κs. search needs)
     returns
     (λ c κs. search needs)
     returns-2

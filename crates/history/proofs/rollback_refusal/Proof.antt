@@ -31,8 +31,7 @@ returns-2 c =
 
 shared-slice-read-if3 : tie.Need-shared-slice-read-if3
 shared-slice-read-if3 c =
-    let at-if2 = c .before in
-    let at-if1 = at-if2 .before .before in
+    let at-if1 = c .before .before .before in
     let at-well-formed = at-if1 .before in
     let start = at-well-formed .before .before .before .before .before in
     let f = well-formed-means (mem (start .args .bytes .now) (start .args .keys .now) (start .args .order .now) (start .args .words .now)) (is-formed (mem (start .args .bytes .now) (start .args .keys .now) (start .args .order .now) (start .args .words .now)) (at-well-formed .well-formed .result) (at-well-formed .well-formed .ensures) (at-if1 .if1 .left)) in

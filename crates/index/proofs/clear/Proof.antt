@@ -13,35 +13,28 @@ Inv-loop keys₀ order from to i₀ keys i = (from ≤ i) × (i ≤ to) × Clear
 abbrev μ-loop : tie.MeasureT-loop
 μ-loop keys₀ order from to i₀ keys i = to - i
 
-loop-holds : tie.Need-loop-holds Inv-loop μ-loop
-loop-holds c = (search needs, search needs, clear-none _ _ _ _ (omega arith))
-
 cast-keys : tie.Need-cast-keys Inv-loop μ-loop
 cast-keys c =
     let at-shared-slice-known = c in
-    let at-loop = at-shared-slice-known .before .before in
-    omega (arith, at-shared-slice-known .shared-slice-known .given (at-loop .loop .i))
+    omega (arith, at-shared-slice-known .shared-slice-known .given (at-shared-slice-known .before .before .loop .i))
 
 mul-keys-2 : tie.Need-mul-keys-2 Inv-loop μ-loop
 mul-keys-2 c =
     let at-loop-test = c .before in
     let at-loop = at-loop-test .before in
-    let start = at-loop .before in
-    let h = start .pre .2 (at-loop .loop .i) (at-loop .loop .inv .0) (at-loop-test .loop-test .taken) in let l = at-loop .loop .inv .2 .long in search needs
+    let h = at-loop .before .pre .2 (at-loop .loop .i) (at-loop .loop .inv .0) (at-loop-test .loop-test .taken) in let l = at-loop .loop .inv .2 .long in search needs
 
 slice-write-keys : tie.Need-slice-write-keys Inv-loop μ-loop
 slice-write-keys c =
     let at-loop-test = c .before in
     let at-loop = at-loop-test .before in
-    let start = at-loop .before in
-    let h = start .pre .2 (at-loop .loop .i) (at-loop .loop .inv .0) (at-loop-test .loop-test .taken) in let l = at-loop .loop .inv .2 .long in omega arith
+    let h = at-loop .before .pre .2 (at-loop .loop .i) (at-loop .loop .inv .0) (at-loop-test .loop-test .taken) in let l = at-loop .loop .inv .2 .long in omega arith
 
 loop-again : tie.Need-loop-again Inv-loop μ-loop
 loop-again c =
     let at-loop-test = c .before in
     let at-loop = at-loop-test .before in
-    let start = at-loop .before in
-    (omega arith, omega arith, clear-more _ _ _ _ _ (at-loop .loop .inv .0) (start .pre .2 (at-loop .loop .i) (at-loop .loop .inv .0) (at-loop-test .loop-test .taken)) (at-loop .loop .inv .2))
+    (omega arith, omega arith, clear-more _ _ _ _ _ (at-loop .loop .inv .0) (at-loop .before .pre .2 (at-loop .loop .i) (at-loop .loop .inv .0) (at-loop-test .loop-test .taken)) (at-loop .loop .inv .2))
 
 returns : tie.Need-returns Inv-loop μ-loop
 returns c =
@@ -55,7 +48,7 @@ clear-spec =
     (tie.spec
     Inv-loop
     μ-loop
-    loop-holds
+    (λ c. (search needs, search needs, clear-none _ _ _ _ (omega arith)))
     (λ c. search needs) (λ c. search needs)
     cast-keys
     mul-keys-2

@@ -15,9 +15,6 @@ Inv-loop keys n₀ i₀ n i = (i ≤ length keys) × (n ≤ i) × (n + usedCount
 abbrev μ-loop : tie.MeasureT-loop
 μ-loop keys n₀ i₀ n i = length keys - i
 
-loop-holds : tie.Need-loop-holds Inv-loop μ-loop
-loop-holds c = (search needs, search needs, search needs)
-
 loop-again : tie.Need-loop-again Inv-loop μ-loop
 loop-again c =
     let l = c .before .before .before .loop in
@@ -38,7 +35,7 @@ count-used-spec =
     (tie.spec
     Inv-loop
     μ-loop
-    loop-holds
+    (λ c. (search needs, search needs, search needs))
     (λ c. search needs) (λ c. search needs) (λ c. search needs) (λ c. search needs) (λ c. search needs)
     loop-again
     returns)

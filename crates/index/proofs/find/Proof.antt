@@ -5,20 +5,8 @@ use Rattle.index.proofs.Places.{find-past, find-gap, find-at}
 use Rattle.index.proofs.find.Statement.{statement}
 use Rattle.index.proofs.find.Tie as tie
 
-rank-requires : tie.Need-rank-requires
-rank-requires c κs = (index-fits _ _ _ (c .before .before .pre .0), index-rises _ _ _ (c .before .before .pre .0))
-
 returns : tie.Need-returns
 returns c = find-past _ _ _ _ _ (c .before .before .before .before .pre .0) (c .before .before .before .before .pre .1) (c .before .rank .ensures) (c .if1 .taken)
-
-mul-s : tie.Need-mul-s
-mul-s c = let h = index-fits _ _ _ (c .before .before .before .before .pre .0) in search needs
-
-shared-slice-read-s : tie.Need-shared-slice-read-s
-shared-slice-read-s c = let h = index-fits _ _ _ (c .before .before .before .before .before .pre .0) in omega arith
-
-cast-s : tie.Need-cast-s
-cast-s c = omega (arith, c .shared-slice-known3 .given (c .before .before .rank .result))
 
 mul-if2 : tie.Need-mul-if2
 mul-if2 c = let h = slot-lt _ _ _ (index-rises _ _ _ (c .before .before .before .before .before .pre .0)) (c .before .before .rank .result) (c .before .if1 .left) in search needs
@@ -36,11 +24,11 @@ pub find-spec : {M : Type 1} → statement M
 find-spec =
     tie.close
     (tie.spec
-    rank-requires
+    (λ c κs. (index-fits _ _ _ (c .before .before .pre .0), index-rises _ _ _ (c .before .before .pre .0)))
     returns
-    mul-s
-    shared-slice-read-s
-    cast-s
+    (λ c. let h = index-fits _ _ _ (c .before .before .before .before .pre .0) in search needs)
+    (λ c. let h = index-fits _ _ _ (c .before .before .before .before .before .pre .0) in omega arith)
+    (λ c. omega (arith, c .shared-slice-known3 .given (c .before .before .rank .result)))
     mul-if2
     shared-slice-read-if2
     returns-2

@@ -13,9 +13,6 @@ Inv-loop order₀ at n j₀ order j = (at ≤ j) × (j ≤ n) × (length order �
 abbrev μ-loop : tie.MeasureT-loop
 μ-loop order₀ at n j₀ order j = j
 
-loop-holds : tie.Need-loop-holds Inv-loop μ-loop
-loop-holds c = (search needs, search needs, refl, (λ i l. refl), (λ i l m. omega arith))
-
 loop-again : tie.Need-loop-again Inv-loop μ-loop
 loop-again c =
     let l = c .before .before .loop in
@@ -34,7 +31,7 @@ move-up-spec =
     (tie.spec
     Inv-loop
     μ-loop
-    loop-holds
+    (λ c. (search needs, search needs, refl, (λ i l. refl), (λ i l m. omega arith)))
     (λ c. search needs) (λ c. search needs) (λ c. search needs) (λ c. search needs) (λ c. search needs) (λ c. search needs) (λ c. search needs)
     loop-again
     (λ c. search needs)

@@ -6,11 +6,6 @@ use borrow.Author.Needs.{needs}
 use Rattle.index.proofs.rank.Statement.{statement}
 use Rattle.index.proofs.rank.Tie as tie
 
-cast-s : tie.Need-cast-s
-cast-s c =
-    let start = c .before .before .before .before in
-    omega (arith, c .shared-slice-known3 .given (start .args .n - 1))
-
 mul-if2 : tie.Need-mul-if2
 mul-if2 c =
     let start = c .before .before .before .before in
@@ -32,7 +27,7 @@ rank-spec =
     tie.close
     (tie.spec
     (λ c. search needs) (λ c. search needs) (λ c. search needs)
-    cast-s
+    (λ c. omega (arith, c .shared-slice-known3 .given (c .before .before .before .before .args .n - 1)))
     mul-if2
     shared-slice-read-if2
     returns

@@ -14,9 +14,6 @@ Inv-loop keys order n k base₀ len₀ base len = (base + len ≤ n) × ((i : �
 abbrev μ-loop : tie.MeasureT-loop
 μ-loop keys order n k base₀ len₀ base len = len
 
-loop-holds : tie.Need-loop-holds Inv-loop μ-loop
-loop-holds c = (search needs, (λ i l. omega arith), (λ i l m. omega arith))
-
 cast-s : tie.Need-cast-s Inv-loop μ-loop
 cast-s c =
     let l = c .before .before .loop in
@@ -32,9 +29,6 @@ shared-slice-read-if1 : tie.Need-shared-slice-read-if1 Inv-loop μ-loop
 shared-slice-read-if1 c =
     let l = c .before .before .before .loop in
     slot-lt _ _ _ (c .before .before .before .before .pre .1) (l .base + (l .len + 1) / 2 - 1) (omega arith)
-
-add-base : tie.Need-add-base Inv-loop μ-loop
-add-base c = ⊎-elim (λ w. omega arith) (λ w. omega arith) (c .before .if1 .came)
 
 loop-again : tie.Need-loop-again Inv-loop μ-loop
 loop-again c =
@@ -56,12 +50,12 @@ rank-below-spec =
     (tie.spec
     Inv-loop
     μ-loop
-    loop-holds
+    (λ c. (search needs, (λ i l. omega arith), (λ i l m. omega arith)))
     (λ c. search needs) (λ c. search needs) (λ c. search needs) (λ c. search needs) (λ c. search needs)
     cast-s
     mul-if1
     shared-slice-read-if1
-    add-base
+    (λ c. ⊎-elim (λ w. omega arith) (λ w. omega arith) (c .before .if1 .came))
     (λ c. search needs) (λ c. search needs)
     loop-again
     returns)

@@ -2,9 +2,9 @@ use borrow.Author.Needs.{needs}
 use Rattle.store.specs.Mem.{mem}
 use Rattle.formed.proofs.Meaning.{well-formed-means}
 use Rattle.view.specs.Calls.{Load}
-use Rattle.reads.proofs.Answers.{passed, failed}
-use Rattle.instructions.specs.Executions.{operandOf}
-use Rattle.instructions.proofs.Laws.{ill-runs, within, load-runs}
+use Rattle.index.proofs.Logic.{passed, failed}
+use Rattle.execution.specs.Executions.{operandOf}
+use Rattle.execution.proofs.Laws.{ill-runs, within, load-runs}
 use Rattle.instructions.proofs.load.Statement.{statement}
 use Rattle.instructions.proofs.load.Tie as tie
 

@@ -3,12 +3,12 @@ use Prim.Native.Nat.{ℕ, _+_, _-_, min}
 use native.Mathlib.Omega.{arith}
 use borrow.Author.Tests.{not-true, not-false}
 use Rattle.view.specs.Calls.{LoadPointer}
-use Rattle.instructions.specs.Executions.{operandOf}
-use Rattle.instructions.proofs.Laws.{ill-runs, untagged-panics, offset-panics, pointer-refused, pointer-done}
-use Rattle.instructions.proofs.Pieces.{min-le-left, min-le-right}
+use Rattle.execution.specs.Executions.{operandOf}
+use Rattle.execution.proofs.Laws.{ill-runs, untagged-panics, offset-panics, pointer-refused, pointer-done}
+use Rattle.execution.proofs.Pieces.{min-le-left, min-le-right}
 use Rattle.store.specs.Mem.{mem}
 use Rattle.formed.proofs.Meaning.{well-formed-means}
-use Rattle.reads.proofs.Answers.{passed, failed}
+use Rattle.index.proofs.Logic.{passed, failed}
 use borrow.Author.Needs.{needs}
 use Rattle.instructions.proofs.load_pointer.Statement.{statement}
 use Rattle.instructions.proofs.load_pointer.Tie as tie

@@ -3,9 +3,9 @@ use Rattle.word.specs.Value.{value}
 use Rattle.store.specs.Mem.{mem}
 use Rattle.formed.proofs.Meaning.{well-formed-means}
 use Rattle.view.specs.Calls.{Store}
-use Rattle.reads.proofs.Answers.{passed, failed}
-use Rattle.instructions.specs.Executions.{operandOf, hookOf}
-use Rattle.instructions.proofs.Laws.{ill-runs, within, store-runs}
+use Rattle.index.proofs.Logic.{passed, failed}
+use Rattle.execution.specs.Executions.{operandOf, hookOf}
+use Rattle.execution.proofs.Laws.{ill-runs, within, store-runs}
 use Rattle.instructions.proofs.store.Statement.{statement}
 use Rattle.instructions.proofs.store.Tie as tie
 

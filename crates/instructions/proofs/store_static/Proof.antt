@@ -3,10 +3,10 @@ use Rattle.word.specs.Value.{value}
 use Rattle.store.specs.Mem.{mem}
 use Rattle.formed.proofs.Meaning.{well-formed-means}
 use Rattle.view.specs.Calls.{StoreStatic}
-use Rattle.reads.proofs.Answers.{passed, failed}
+use Rattle.index.proofs.Logic.{passed, failed}
 use Rattle.checks.proofs.Chosen.{layout-asks}
-use Rattle.instructions.specs.Executions.{operandOf}
-use Rattle.instructions.proofs.Laws.{ill-runs, static-within, static-store-runs}
+use Rattle.execution.specs.Executions.{operandOf}
+use Rattle.execution.proofs.Laws.{ill-runs, static-within, static-store-runs}
 use Rattle.instructions.proofs.store_static.Statement.{statement}
 use Rattle.instructions.proofs.store_static.Tie as tie
 

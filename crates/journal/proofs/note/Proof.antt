@@ -7,15 +7,13 @@ use Rattle.journal.proofs.note.Tie as tie
 
 slot-at-entry-requires : tie.Need-slot-at-entry-requires
 slot-at-entry-requires c κs =
-    let at-place = c .before .before in
     let start = c .before .before .before .before .before .before .before in
-    (slots-indexed (start .args .bytes .now) (start .args .keys .now) (start .args .order .now) (start .args .words .now) (start .pre .formed), omega (arith, at-place .place .ensures), omega arith)
+    (slots-indexed (start .args .bytes .now) (start .args .keys .now) (start .args .order .now) (start .args .words .now) (start .pre .formed), omega (arith, c .before .before .place .ensures), omega arith)
 
 slot-at-entry-requires-2 : tie.Need-slot-at-entry-requires-2
 slot-at-entry-requires-2 c κs =
-    let at-place = c .before .before .before .before .before in
     let start = c .before .before .before .before .before .before .before .before .before .before in
-    (slots-indexed (start .args .bytes .now) (start .args .keys .now) (start .args .order .now) (start .args .words .now) (start .pre .formed), omega (arith, at-place .place .ensures), omega arith)
+    (slots-indexed (start .args .bytes .now) (start .args .keys .now) (start .args .order .now) (start .args .words .now) (start .pre .formed), omega (arith, c .before .before .before .before .before .place .ensures), omega arith)
 
 note-found-requires : tie.Need-note-found-requires
 note-found-requires c κs =
@@ -24,9 +22,6 @@ note-found-requires c κs =
     let at-place = at-slot-at-entry .before .before .before in
     let start = at-place .before .before .before .before .before in
     (start .pre, note-slots (start .args .bytes .now) (start .args .keys .now) (start .args .order .now) (start .args .words .now) (start .args .j) (start .args .address .0) (start .pre) (at-place .place .result) (at-place .place .ensures .0) (at-slot-at-entry .slot-at-entry .result) (at-slot-at-entry2 .slot-at-entry2 .result) (at-slot-at-entry .slot-at-entry .ensures) (at-slot-at-entry2 .slot-at-entry2 .ensures))
-
-returns : tie.Need-returns
-returns c = let at-note-found = c .before .before .before .before in at-note-found .note-found .ensures
 
 pub note-spec : {M : Type 1} → statement M
 note-spec =
@@ -37,4 +32,4 @@ note-spec =
     slot-at-entry-requires-2
     note-found-requires
     (λ c. search needs) (λ c. search needs)
-    returns)
+    (λ c. let at-note-found = c .before .before .before .before in at-note-found .note-found .ensures))

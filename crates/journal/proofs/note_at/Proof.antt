@@ -8,14 +8,12 @@ use Rattle.journal.proofs.note_at.Tie as tie
 slice-write-words-2 : tie.Need-slice-write-words-2
 slice-write-words-2 c =
     let at-number = c .before .before .before .before .before .before .before .before .before .before in
-    let start = at-number .before .before .before .before .before in
-    simp length-set (omega (arith, start .pre .long .in-words, at-number .number .ensures .1))
+    simp length-set (omega (arith, at-number .before .before .before .before .before .pre .long .in-words, at-number .number .ensures .1))
 
 slice-write-words-3 : tie.Need-slice-write-words-3
 slice-write-words-3 c =
     let at-number = c .before .before .before .before .before .before .before .before .before .before in
-    let start = at-number .before .before .before .before .before in
-    simp length-set (omega (arith, start .pre .long .in-words, at-number .number .ensures .1))
+    simp length-set (omega (arith, at-number .before .before .before .before .before .pre .long .in-words, at-number .number .ensures .1))
 
 slice-write-words-4 : tie.Need-slice-write-words-4
 slice-write-words-4 c =

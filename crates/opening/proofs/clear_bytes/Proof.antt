@@ -14,9 +14,6 @@ Inv-loop bytes₀ i₀ bytes i = (i ≤ length bytes₀) × (length bytes ≡ le
 abbrev μ-loop : tie.MeasureT-loop
 μ-loop bytes₀ i₀ bytes i = length bytes₀ - i
 
-loop-holds : tie.Need-loop-holds Inv-loop μ-loop
-loop-holds c = (search needs, refl, refl)
-
 loop-again : tie.Need-loop-again Inv-loop μ-loop
 loop-again c =
     let l = c .before .loop in
@@ -33,7 +30,7 @@ clear-bytes-spec =
     (tie.spec
     Inv-loop
     μ-loop
-    loop-holds
+    (λ c. (search needs, refl, refl))
     (λ c. search needs) (λ c. search needs) (λ c. search needs)
     loop-again
     (λ c. search needs)

@@ -14,9 +14,6 @@ Inv-loop keys₀ i₀ keys i = (i ≤ length keys₀) × (length keys ≡ length
 abbrev μ-loop : tie.MeasureT-loop
 μ-loop keys₀ i₀ keys i = length keys₀ - i
 
-loop-holds : tie.Need-loop-holds Inv-loop μ-loop
-loop-holds c = (search needs, refl, refl)
-
 loop-again : tie.Need-loop-again Inv-loop μ-loop
 loop-again c =
     let l = c .before .loop in
@@ -33,7 +30,7 @@ clear-keys-spec =
     (tie.spec
     Inv-loop
     μ-loop
-    loop-holds
+    (λ c. (search needs, refl, refl))
     (λ c. search needs) (λ c. search needs) (λ c. search needs) (λ c. search needs)
     loop-again
     (λ c. search needs)

@@ -23,8 +23,7 @@ add-insert : tie.Need-add-insert Inv-loop μ-loop
 add-insert c =
     let at-loop-test = c .before .before .before in
     let at-loop = at-loop-test .before in
-    let start = at-loop .before .before .before .before in
-    omega (arith, start .pre .width (at-loop .loop .i) (at-loop-test .loop-test .taken))
+    omega (arith, at-loop .before .before .before .before .pre .width (at-loop .loop .i) (at-loop-test .loop-test .taken))
 
 insert-requires : tie.Need-insert-requires Inv-loop μ-loop
 insert-requires c κs =
@@ -48,8 +47,7 @@ returns : tie.Need-returns Inv-loop μ-loop
 returns c =
     let at-loop-test = c in
     let at-loop = at-loop-test .before in
-    let start = at-loop .before .before .before .before in
-    first-four (start .args .words .now) (at-loop .loop .entries) (at-loop .loop .order) (at-loop .loop .i) (at-loop .loop .inv .3) (at-loop .loop .inv .0) (at-loop-test .loop-test .left)
+    first-four (at-loop .before .before .before .before .args .words .now) (at-loop .loop .entries) (at-loop .loop .order) (at-loop .loop .i) (at-loop .loop .inv .3) (at-loop .loop .inv .0) (at-loop-test .loop-test .left)
 
 pub list-fixed-spec : {M : Type 1} → statement M
 list-fixed-spec =

@@ -5,14 +5,14 @@ use borrow.Author.Needs.{needs}
 use Rattle.store.specs.Mem.{Mem, mem}
 use Rattle.view.specs.View.{Setting}
 use Rattle.view.specs.Calls.{nothing}
-use Rattle.opening.specs.Opening.{setting}
+use Rattle.opening.specs.Opening.{settingFrom}
 use Rattle.opening.proofs.Refusals.{refused-1, refused-2, refused-10, refused-not}
 use Rattle.opening.proofs.open_refusal.Statement.{statement}
 use Rattle.opening.proofs.open_refusal.Tie as tie
 
 -- the setting that is asked for, and the buffers
 abbrev asked : tie.Start → Setting
-asked start = setting (start .args .layout) (start .args .chunks) (start .args .pages) (start .args .room)
+asked start = settingFrom (start .args .layout) (start .args .chunks) (start .args .pages) (start .args .journal-words)
 
 abbrev lent : tie.Start → Mem
 lent start = mem (start .args .bytes .now) (start .args .keys .now) (start .args .order .now) (start .args .words .now)

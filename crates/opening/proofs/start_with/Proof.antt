@@ -3,14 +3,15 @@ use native.Mathlib.Omega.{arith}
 use lib.ListN.{getD}
 use borrow.Author.Needs.{needs}
 use Rattle.view.specs.View.{Setting}
-use Rattle.opening.specs.Opening.{layoutFrom, setting, headed}
+use Rattle.page_ids.specs.Decode.{layoutFrom}
+use Rattle.opening.specs.Opening.{settingFrom, headed}
 use Rattle.opening.proofs.Starts.{head-width, fixed-asks, started}
 use Rattle.opening.proofs.start_with.Statement.{statement}
 use Rattle.opening.proofs.start_with.Tie as tie
 
 -- the setting that is asked for, and that its numbers are words of 32 bits
 abbrev asked : tie.Start → Setting
-asked start = setting (layoutFrom (start .args .statics .0) (start .args .calldata .0) (start .args .heap .0) (start .args .aux .0) (start .args .base .0) (start .args .stride)) (start .args .chunks) (start .args .pages) (start .args .room)
+asked start = settingFrom (layoutFrom (start .args .statics .0) (start .args .calldata .0) (start .args .heap .0) (start .args .aux .0) (start .args .base .0) (start .args .stride)) (start .args .chunks) (start .args .pages) (start .args .journal-words)
 
 width : (start : tie.Start) (i : ℕ) → i < 6 → getD (headed (asked start) (start .args .words .now)) i 0 ≤ 4294967295
 width start = head-width (asked start) (start .args .words .now) (omega (arith, start .good .1 .1 .1 .1 .0)) (omega (arith, start .good .1 .1 .1 .1 .1 .0)) (omega (arith, start .good .1 .1 .1 .1 .1 .1 .0)) (omega (arith, start .good .1 .1 .1 .1 .1 .1 .1 .0)) (omega (arith, start .good .1 .1 .1 .1 .1 .1 .1 .1 .0)) (omega (arith, start .fits .stride))

@@ -8,7 +8,7 @@ use Rattle.opening.proofs.write_head.Tie as tie
 returns : tie.Need-returns
 returns c =
     let start = c .before .before .before .before .before in
-    head-stores (start .args .statics .0) (start .args .calldata .0) (start .args .heap .0) (start .args .aux .0) (start .args .base .0) (start .args .stride) (start .args .chunks) (start .args .pages) (start .args .room) (start .args .words .now) (start .pre)
+    head-stores (start .args .statics .0) (start .args .calldata .0) (start .args .heap .0) (start .args .aux .0) (start .args .base .0) (start .args .stride) (start .args .chunks) (start .args .pages) (start .args .journal-words) (start .args .words .now) (start .pre)
 
 pub write-head-spec : {M : Type 1} → statement M
 write-head-spec =

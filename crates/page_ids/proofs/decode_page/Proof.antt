@@ -3,12 +3,6 @@ use borrow.Author.Needs.{needs}
 use Rattle.page_ids.proofs.decode_page.Statement.{statement}
 use Rattle.page_ids.proofs.decode_page.Tie as tie
 
-returns : tie.Need-returns
-returns c = simp (eq-eqb _ _ (c .if1 .taken))
-
-returns-2 : tie.Need-returns-2
-returns-2 c = simp (ne-eqb _ _ (c .before .if1 .left), eq-eqb _ _ (c .if2 .taken))
-
 returns-3 : tie.Need-returns-3
 returns-3 c = simp (ne-eqb _ _ (c .before .before .if1 .left), ne-eqb _ _ (c .before .if2 .left), eq-eqb _ _ (c .if3 .taken))
 
@@ -28,8 +22,8 @@ pub decode-page-spec : {M : Type 1} → statement M
 decode-page-spec =
     tie.close
     (tie.spec
-    returns
-    returns-2
+    (λ c. simp (eq-eqb _ _ (c .if1 .taken)))
+    (λ c. simp (ne-eqb _ _ (c .before .if1 .left), eq-eqb _ _ (c .if2 .taken)))
     returns-3
     returns-4
     returns-5

@@ -11,8 +11,5 @@ returns c =
     let at-page = c .before in
     sym (ap (λ (p : DecodedPage). groupNumber (pageOf p)) (at-page .page .given .1) ∙ dynamic-group (at-page .page .given .0 .0) (at-page .page .given .0 .1 .0))
 
-returns-2 : tie.Need-returns-2
-returns-2 c = sym (other-than-dynamic (c .before .args .page) (c .match .keys2) .1)
-
 pub group-number-spec : {M : Type 1} → statement M
-group-number-spec = tie.close (tie.spec (λ c. search needs) returns returns-2)
+group-number-spec = tie.close (tie.spec (λ c. search needs) returns (λ c. sym (other-than-dynamic (c .before .args .page) (c .match .keys2) .1)))

@@ -32,8 +32,5 @@ other Undecodable k = absurd (let l = fixed-alone 5 k in omega arith)
 returns : tie.Need-returns
 returns c = rw (c .enum-told .given .1) (sym (dynamic-known (c .enum-told .given .0 .0) (c .enum-told .given .0 .1 .0) .1))
 
-returns-3 : tie.Need-returns-3
-returns-3 c = sym (other (c .before .args .page) (c .match .keys3))
-
 pub is-fixed-spec : {M : Type 1} → statement M
-is-fixed-spec = tie.close (tie.spec (λ c. search needs) (λ c. search needs) returns (λ c. search needs) returns-3)
+is-fixed-spec = tie.close (tie.spec (λ c. search needs) (λ c. search needs) returns (λ c. search needs) (λ c. sym (other (c .before .args .page) (c .match .keys3))))

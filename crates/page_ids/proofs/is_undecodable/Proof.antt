@@ -29,8 +29,5 @@ other BootloaderAuxHeap k = refl
 other (Dynamic kind group) k = dynamic-known kind group .0
 other Undecodable k = absurd (no-undecodable k)
 
-returns-2 : tie.Need-returns-2
-returns-2 c = sym (other (c .before .args .page) (c .match .keys2))
-
 pub is-undecodable-spec : {M : Type 1} → statement M
-is-undecodable-spec = tie.close (tie.spec (λ c. search needs) (λ c. search needs) returns-2)
+is-undecodable-spec = tie.close (tie.spec (λ c. search needs) (λ c. search needs) (λ c. sym (other (c .before .args .page) (c .match .keys2))))

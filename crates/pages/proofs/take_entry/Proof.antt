@@ -8,21 +8,14 @@ use Rattle.pages.proofs.Taking.{part-room, in-use-few, insertable, take
 use Rattle.pages.proofs.take_entry.Statement.{statement}
 use Rattle.pages.proofs.take_entry.Tie as tie
 
-free-place-requires : tie.Need-free-place-requires
-free-place-requires c κs =
-    let start = c .before .before .before .before .before .before .before .before .before .before in
-    part-room _ _ _ _ (start .pre)
-
 insert-requires : tie.Need-insert-requires
 insert-requires c κs =
     let at-free-place = c .before .before .before in
-    let start = at-free-place .before .before .before .before .before .before .before .before .before .before .before in
-    insertable _ _ _ _ (start .pre) _ (at-free-place .free-place .ensures)
+    insertable _ _ _ _ (at-free-place .before .before .before .before .before .before .before .before .before .before .before .pre) _ (at-free-place .free-place .ensures)
 
 add-words : tie.Need-add-words
 add-words c =
-    let start = c .before .before .before .before .before .before .before .before .before .before .before .before .before .before .before .before .before .before .before in
-    let h = in-use-few _ _ _ _ (start .pre) in omega (arith, h)
+    let h = in-use-few _ _ _ _ (c .before .before .before .before .before .before .before .before .before .before .before .before .before .before .before .before .before .before .before .pre) in omega (arith, h)
 
 add-raise : tie.Need-add-raise
 add-raise c =
@@ -32,22 +25,20 @@ add-raise c =
 same-length-3 : tie.Need-same-length-3
 same-length-3 c =
     let at-raise = c .before .before in
-    let start = at-raise .before .before .before .before .before .before .before .before .before .before .before .before .before .before .before .before .before .before .before .before .before in
-    at-raise .raise .kept .0 ∙ length-set (start .args .words .now) 10 _
+    at-raise .raise .kept .0 ∙ length-set (at-raise .before .before .before .before .before .before .before .before .before .before .before .before .before .before .before .before .before .before .before .before .before .args .words .now) 10 _
 
 returns : tie.Need-returns
 returns c =
     let at-raise = c .before .before in
     let at-insert = at-raise .before .before .before .before .before .before in
     let at-free-place = at-insert .before .before .before .before in
-    let start = at-free-place .before .before .before .before .before .before .before .before .before .before .before in
-    taken _ _ _ _ (start .pre) _ (at-free-place .free-place .ensures) (at-insert .insert .last .0) (at-insert .insert .last .1 .0) (at-raise .raise .last .0) (at-insert .insert .ensures .0) (at-insert .insert .ensures .1) (at-raise .raise .ensures)
+    taken _ _ _ _ (at-free-place .before .before .before .before .before .before .before .before .before .before .before .pre) _ (at-free-place .free-place .ensures) (at-insert .insert .last .0) (at-insert .insert .last .1 .0) (at-raise .raise .last .0) (at-insert .insert .ensures .0) (at-insert .insert .ensures .1) (at-raise .raise .ensures)
 
 pub take-entry-spec : {M : Type 1} → statement M
 take-entry-spec =
     tie.close
     (tie.spec (λ c. search needs) (λ c. search needs) (λ c. search needs) (λ c. search needs) (λ c. search needs) (λ c. search needs) (λ c. search needs) (λ c. search needs) (λ c. search needs) (λ c. search needs) (λ c. search needs)
-    free-place-requires
+    (λ c κs. part-room _ _ _ _ (c .before .before .before .before .before .before .before .before .before .before .pre))
     (λ c. search needs) (λ c. search needs) (λ c. search needs) (λ c. search needs) (λ c. search needs) (λ c. search needs) (λ c. search needs) (λ c. search needs) (λ c. search needs) (λ c. search needs) (λ c. search needs)
     insert-requires
     add-words

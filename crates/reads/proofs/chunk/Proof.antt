@@ -4,7 +4,8 @@ use Rattle.store.specs.Mem.{mem}
 use Rattle.formed.proofs.Meaning.{well-formed-means}
 use Rattle.view.specs.View.{viewOf}
 use Rattle.view.specs.Calls.{shown}
-use Rattle.reads.proofs.Answers.{passed, failed, show-none, show-all, shown-bad, shown-good, block-long, block-zero}
+use Rattle.index.proofs.Logic.{passed, failed}
+use Rattle.reads.proofs.Answers.{show-none, show-all, shown-bad, shown-good, block-long, block-zero}
 use Rattle.reads.proofs.chunk.Statement.{statement}
 use Rattle.reads.proofs.chunk.Tie as tie
 

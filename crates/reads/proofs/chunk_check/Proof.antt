@@ -2,7 +2,8 @@ use mathlib.Core.Path.{sym, _∙_}
 use borrow.Author.Needs.{needs}
 use Rattle.store.specs.Mem.{mem}
 use Rattle.view.specs.Checks.{lookupChecks}
-use Rattle.reads.proofs.Answers.{passed, failed, ill, well, lookup-bad, lookup-good}
+use Rattle.index.proofs.Logic.{passed, failed}
+use Rattle.reads.proofs.Answers.{ill, well, lookup-bad, lookup-good}
 use Rattle.reads.proofs.chunk_check.Statement.{statement}
 use Rattle.reads.proofs.chunk_check.Tie as tie
 

@@ -4,7 +4,8 @@ use native.Mathlib.Omega.{arith}
 use lib.ListN.{getD}
 use borrow.Author.Needs.{needs}
 use Rattle.store.specs.Mem.{mem}
-use Rattle.reads.proofs.Answers.{passed, failed, ill, well, read-refused, read-done, head-long, length-small}
+use Rattle.index.proofs.Logic.{passed, failed}
+use Rattle.reads.proofs.Answers.{ill, well, read-refused, read-done, head-long, length-small}
 use Rattle.reads.proofs.dynamic_len.Statement.{statement}
 use Rattle.reads.proofs.dynamic_len.Tie as tie
 

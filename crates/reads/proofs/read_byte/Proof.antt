@@ -5,7 +5,8 @@ use Rattle.outcome.specs.Outcome.{done}
 use Rattle.store.specs.Mem.{mem}
 use Rattle.formed.proofs.Meaning.{well-formed-means}
 use Rattle.view.specs.View.{viewOf}
-use Rattle.reads.proofs.Answers.{passed, failed, ill, well, read-refused, read-done}
+use Rattle.index.proofs.Logic.{passed, failed}
+use Rattle.reads.proofs.Answers.{ill, well, read-refused, read-done}
 use Rattle.reads.proofs.read_byte.Statement.{statement}
 use Rattle.reads.proofs.read_byte.Tie as tie
 

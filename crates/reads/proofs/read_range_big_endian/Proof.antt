@@ -6,7 +6,8 @@ use Rattle.formed.proofs.Meaning.{well-formed-means}
 use Rattle.view.specs.View.{viewOf}
 use Rattle.view.specs.Steps.{run}
 use Rattle.view.specs.Checks.{rangeChecks}
-use Rattle.reads.proofs.Answers.{passed, failed, ill, well, range-other, range-same, range-refused, range-done}
+use Rattle.index.proofs.Logic.{passed, failed}
+use Rattle.reads.proofs.Answers.{ill, well, range-other, range-same, range-refused, range-done}
 use Rattle.reads.proofs.read_range_big_endian.Statement.{statement}
 use Rattle.reads.proofs.read_range_big_endian.Tie as tie
 

@@ -9,7 +9,8 @@ use Rattle.formed.proofs.Meaning.{well-formed-means}
 use Rattle.view.specs.View.{viewOf}
 use Rattle.view.specs.Steps.{run, padded}
 use Rattle.view.specs.Checks.{partialChecks}
-use Rattle.reads.proofs.Answers.{passed, failed, ill, well, partial-over, partial-within, read-refused, read-done}
+use Rattle.index.proofs.Logic.{passed, failed}
+use Rattle.reads.proofs.Answers.{ill, well, partial-over, partial-within, read-refused, read-done}
 use Rattle.reads.proofs.read_u256_partially.Statement.{statement}
 use Rattle.reads.proofs.read_u256_partially.Tie as tie
 

@@ -6,7 +6,8 @@ use borrow.Author.Needs.{needs}
 use Rattle.outcome.specs.Outcome.{done}
 use Rattle.store.specs.Mem.{mem}
 use Rattle.view.specs.View.{viewOf}
-use Rattle.reads.proofs.Answers.{passed, failed, ill, well, read-refused, read-done, head-long, mark-small, marks-are}
+use Rattle.index.proofs.Logic.{passed, failed}
+use Rattle.reads.proofs.Answers.{ill, well, read-refused, read-done, head-long, mark-small, marks-are}
 use Rattle.reads.proofs.snapshot.Statement.{statement}
 use Rattle.reads.proofs.snapshot.Tie as tie
 

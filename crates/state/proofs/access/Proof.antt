@@ -4,11 +4,5 @@ use borrow.Author.Needs.{needs}
 use Rattle.state.proofs.access.Statement.{statement}
 use Rattle.state.proofs.access.Tie as tie
 
-returns : tie.Need-returns
-returns c = rw (lt-ltb 4294967263 _ (c .if1 .taken)) refl
-
-returns-2 : tie.Need-returns-2
-returns-2 c = rw (le-ltb _ _ (c .before .before .if1 .left), sym (c .before .new-bound .ensures)) (c .grow .ensures)
-
 pub access-spec : {M : Type 1} → statement M
-access-spec = tie.close (tie.spec returns (λ c κs. search needs) (λ c κs. search needs) returns-2)
+access-spec = tie.close (tie.spec (λ c. rw (lt-ltb 4294967263 _ (c .if1 .taken)) refl) (λ c κs. search needs) (λ c κs. search needs) (λ c. rw (le-ltb _ _ (c .before .before .if1 .left), sym (c .before .new-bound .ensures)) (c .grow .ensures)))

@@ -5,14 +5,8 @@ use Rattle.state.proofs.Laws.{enough}
 use Rattle.state.proofs.grow.Statement.{statement}
 use Rattle.state.proofs.grow.Tie as tie
 
-returns : tie.Need-returns
-returns c = simp (le-leb _ _ (c .if1 .taken))
-
 returns-2 : tie.Need-returns-2
 returns-2 c = rw (c .before .use-gas .ensures, lt-leb _ _ (c .before .before .if1 .left), enough _ _ (c .before .use-gas .ensures) (c .if2 .taken)) refl
 
-returns-3 : tie.Need-returns-3
-returns-3 c = rw (lt-leb _ _ (c .before .before .if1 .left), enough _ _ (c .before .use-gas .ensures) (c .if2 .left)) refl
-
 pub grow-spec : {M : Type 1} → statement M
-grow-spec = tie.close (tie.spec returns (λ c. search needs) (λ c κs. search needs) returns-2 returns-3)
+grow-spec = tie.close (tie.spec (λ c. simp (le-leb _ _ (c .if1 .taken))) (λ c. search needs) (λ c κs. search needs) returns-2 (λ c. rw (lt-leb _ _ (c .before .before .if1 .left), enough _ _ (c .before .use-gas .ensures) (c .if2 .left)) refl))

@@ -44,12 +44,12 @@ use denote.Triple.Walked.{says, Stays, stay-none, walkOf, goes-none, Walks, ends
 use denote.Exit.{yes}
 use Rattle.state.specs.Access.{frameGrown}
 use Rattle.state.specs.declared.Frame.{Frame}
-use Rattle.state.specs.declared.Step.{Step}
+use Rattle.state.specs.declared.FrameStep.{FrameStep}
 use Rattle.state.specs.declared.Area.{Area}
 use Rattle.state.proofs.Frame as T
 use Rattle.state.proofs.Frame.Laws as T′
-use Rattle.state.proofs.Step as S
-use Rattle.state.proofs.Step.Laws as S′
+use Rattle.state.proofs.FrameStep as S
+use Rattle.state.proofs.FrameStep.Laws as S′
 use Rattle.state.proofs.Area as E
 use Rattle.state.proofs.Area.Laws as E′
 use Rattle.state.proofs.grow_heap as grow-heap
@@ -68,7 +68,7 @@ stayed = (stay-none (λ _. T.the-row) yes, (stay-none (λ _. E.the-row) yes, (st
 abbrev frameVal : Frame → Val
 frameVal f = LL.val T.the-type T′.the-laws f
 
-abbrev stepVal : Step → Val
+abbrev stepVal : FrameStep → Val
 stepVal s = LL.val S.the-type S′.the-laws s
 
 abbrev areaVals : Area → List Val

@@ -42,12 +42,12 @@ use denote.Triple.Walked.{says, Stays, stay-ref, stay-none, walkOf, goes-none, g
 use denote.Exit.{yes}
 use Rattle.state.specs.Access.{frameGrown}
 use Rattle.state.specs.declared.Frame.{Frame}
-use Rattle.state.specs.declared.Step.{Step}
+use Rattle.state.specs.declared.FrameStep.{FrameStep}
 use Rattle.state.specs.declared.Area.{Area}
 use Rattle.state.proofs.Frame as T
 use Rattle.state.proofs.Frame.Laws as T′
-use Rattle.state.proofs.Step as S
-use Rattle.state.proofs.Step.Laws as S′
+use Rattle.state.proofs.FrameStep as S
+use Rattle.state.proofs.FrameStep.Laws as S′
 use Rattle.state.proofs.Area as E
 use Rattle.state.proofs.Area.Laws as E′
 use Rattle.state.proofs.growth_step as growth-step
@@ -66,7 +66,7 @@ stayed = (stay-ref (0 ∷ []) tt (plain (λ _. T.the-row)), (stay-none (λ _. E.
 abbrev frameVal : Frame → Val
 frameVal f = LL.val T.the-type T′.the-laws f
 
-abbrev stepVal : Step → Val
+abbrev stepVal : FrameStep → Val
 stepVal s = LL.val S.the-type S′.the-laws s
 
 abbrev areaVals : Area → List Val
@@ -77,7 +77,7 @@ module _ {M : Type 1} (𝓤 : URA M) (H : Heap 𝓤) (A : Atoms 𝓤) (mem : Mem
   abbrev GrowthStep : Contract 𝓤
   GrowthStep = tripleOf 𝓤 H A growth-step.signature (growth-step.spec 𝓤 H A mem run)
 
-  got-of : (f : Frame) (a : Area) (n : ℕ) (r : Step) → ent 𝓤 (ensured 𝓤 H A growth-step.ended (growth-step.clauses 𝓤 H A mem run) tt (f, (a, (n, tt))) tt r) (fact 𝓤 (r ≡ frameGrown f a n))
+  got-of : (f : Frame) (a : Area) (n : ℕ) (r : FrameStep) → ent 𝓤 (ensured 𝓤 H A growth-step.ended (growth-step.clauses 𝓤 H A mem run) tt (f, (a, (n, tt))) tt r) (fact 𝓤 (r ≡ frameGrown f a n))
   got-of f a n r = exE 𝓤 _ (λ ws. snd∗ 𝓤 (sem 𝓤 H A (lasts growth-step.ended tt (f, (a, (n, tt))) ws)) (fact 𝓤 (r ≡ frameGrown f a n)))
 
 module _ {M : Type 1} (𝓤 : URA M) (H : Heap 𝓤) (A : Atoms 𝓤) (W : Given 𝓤 H A) (at-mem : Memory → SProp 𝓤) (run : Routine → Fun 𝓤) (κ : Lft) (q : Share) (b o : ℕ) (γ : GName) (h : Frame) (a : Area) (n : ℕ) (fits : n < 2 ^ 32) (isA : Is E.the-row a (areaVals a)) where
@@ -93,11 +93,11 @@ module _ {M : Type 1} (𝓤 : URA M) (H : Heap 𝓤) (A : Atoms 𝓤) (W : Given
   abbrev Post : Val → SProp 𝓤
   Post = walkOf 𝓤 H A grow-heap.ended stayed (grow-heap.clauses 𝓤 H A at-mem run) .post (((κ, tt), (q, tt), tt, x, at), tt)
 
-  exits : (r : Step) → r ≡ frameGrown h a n → ent 𝓤 (⋆ 𝓤 H A (‵ (fobs γ (T.the-row .coded .code (r .frame))) ∷ ‵ (fbor κ (Body (mem T.the-row) b o γ)) ∷ ‵ (flft κ q) ∷ [])) (Post (vbool (r .paid)))
+  exits : (r : FrameStep) → r ≡ frameGrown h a n → ent 𝓤 (⋆ 𝓤 H A (‵ (fobs γ (T.the-row .coded .code (r .frame))) ∷ ‵ (fbor κ (Body (mem T.the-row) b o γ)) ∷ ‵ (flft κ q) ∷ [])) (Post (vbool (r .paid)))
   exits r e =
       qed W (‵ (fobs γ (T.the-row .coded .code (r .frame))) ∷ ‵ (fbor κ (Body (mem T.the-row) b o γ)) ∷ ‵ (flft κ q) ∷ []) ∵
       suffices ! _ (ends-at 𝓤 H A grow-heap.ended stayed (grow-heap.clauses 𝓤 H A at-mem run) W (((κ, tt), (q, tt), tt, x, at), tt) (vbool (r .paid)) (r .paid) (r .frame, (tt, (tt, tt))) (tt, (tt, (tt, tt)))) $
-      says ! (ap (λ (s : Step). s .frame) e, ap (λ (s : Step). s .paid) e) $ nothing ! $ move ! (3 ∷ 0 ∷ []) $ join ! $
+      says ! (ap (λ (s : FrameStep). s .frame) e, ap (λ (s : FrameStep). s .paid) e) $ nothing ! $ move ! (3 ∷ 0 ∷ []) $ join ! $
       frame ! $ feqI ! (List Val) (vptr b o ∷ []) (vptr b o ∷ []) refl $ fjoin3 ! $
       nothing ! $ owned ! u32 (Is u32) (uint-makes 𝓤 H A W w32) n _ (refl, fits) $ fjoin ! $ owned ! E.the-row (Is E.the-row) (EL.makes E.the-type E′.the-plain 𝓤 H A) a _ isA $ fjoin ! $ move ! (1 ∷ 0 ∷ []) $ fjoin ! $
       owned ! Boolean (Is Boolean) (bool-makes 𝓤 H A W) (r .paid) _ refl $ move ! (1 ∷ 0 ∷ []) $ done !
@@ -124,7 +124,7 @@ module _ {M : Type 1} (𝓤 : URA M) (H : Heap 𝓤) (A : Atoms 𝓤) (W : Given
         -- the call
         move ! (1 ∷ []) $ use1 W (raw (GrowthStep 𝓤 H A at-mem run .pre to-growth-step)) goes $
         calls-at ! fm (GrowthStep 𝓤 H A at-mem run) known to-growth-step (and-then ! (load ! (from ! (stop !)) (look ! 7 refl)) (and-then ! (load ! (from ! (stop !)) (look ! 13 refl)) (and-then ! (load ! (from ! (stop !)) (look ! 11 refl)) (no-more !)))) (λ v.
-        use1 W (later (some (λ (r : Step). (‵ ftrue ⊛ ‵ (S.the-row .own r (v ∷ []))) ⊛ raw (ensured 𝓤 H A growth-step.ended (growth-step.clauses 𝓤 H A at-mem run) tt (h, (a, (n, tt))) tt r)))) (id⊢ 𝓤 _) $ await ! tt $ pick ! (λ r.
+        use1 W (later (some (λ (r : FrameStep). (‵ ftrue ⊛ ‵ (S.the-row .own r (v ∷ []))) ⊛ raw (ensured 𝓤 H A growth-step.ended (growth-step.clauses 𝓤 H A at-mem run) tt (h, (a, (n, tt))) tt r)))) (id⊢ 𝓤 _) $ await ! tt $ pick ! (λ r.
         split ! $ move ! (1 ∷ []) $ use1 W (raw (fact 𝓤 (r ≡ frameGrown h a n))) (got-of 𝓤 H A at-mem run h a n r) $ heard ! (r ≡ frameGrown h a n) (λ e. split ! $ drop ! $
         peeks ! S.the-row (Is S.the-row) (shows 𝓤 H A S.the-row) r (v ∷ []) (λ is.
         land ! (from ! (stop !)) (init ! 9 refl (LL.lawful S.the-type S′.the-laws 𝓤 H A W .typed r _ is .0)) $

@@ -12,20 +12,11 @@ Inv-loop bytes₀ at i₀ bytes i = (i ≤ 256) × Zeroed bytes₀ at i bytes
 abbrev μ-loop : tie.MeasureT-loop
 μ-loop bytes₀ at i₀ bytes i = 256 - i
 
-loop-holds : tie.Need-loop-holds Inv-loop μ-loop
-loop-holds c = (search needs, zero-none _ _)
-
-slice-write-bytes : tie.Need-slice-write-bytes Inv-loop μ-loop
-slice-write-bytes c =
-    let at-loop = c .before in
-    let l = at-loop .loop .inv .1 .long in search needs
-
 loop-again : tie.Need-loop-again Inv-loop μ-loop
 loop-again c =
     let at-loop-test = c in
     let at-loop = at-loop-test .before in
-    let start = at-loop .before in
-    (omega arith, zero-more _ _ _ _ (omega (arith, at-loop-test .loop-test .taken, start .pre)) (at-loop .loop .inv .1))
+    (omega arith, zero-more _ _ _ _ (omega (arith, at-loop-test .loop-test .taken, at-loop .before .pre)) (at-loop .loop .inv .1))
 
 returns : tie.Need-returns Inv-loop μ-loop
 returns c =
@@ -39,9 +30,9 @@ clear-chunk-spec =
     (tie.spec
     Inv-loop
     μ-loop
-    loop-holds
+    (λ c. (search needs, zero-none _ _))
     (λ c. search needs)
-    slice-write-bytes
+    (λ c. let l = c .before .loop .inv .1 .long in search needs)
     (λ c. search needs) (λ c. search needs)
     loop-again
     (λ c. search needs)

@@ -14,30 +14,11 @@ Inv-loop keys guess i₀ i = usedCount (drop i keys) + i < length keys
 abbrev μ-loop : tie.MeasureT-loop
 μ-loop keys guess i₀ i = length keys - i
 
-returns : tie.Need-returns Inv-loop μ-loop
-returns c =
-    let at-if1 = c .before .before in
-    (at-if1 .if1 .taken, c .if2 .taken)
-
-loop-holds : tie.Need-loop-holds Inv-loop μ-loop
-loop-holds c =
-    let start = c .before in
-    let h = start .pre in omega arith
-
-returns-2 : tie.Need-returns-2 Inv-loop μ-loop
-returns-2 c =
-    let at-loop-test = c .before .before in
-    (at-loop-test .loop-test .taken, c .if3 .taken)
-
 loop-again : tie.Need-loop-again Inv-loop μ-loop
 loop-again c =
     let at-loop-test = c .before .before in
     let at-loop = at-loop-test .before in
-    let start = at-loop .before .before in
-    let h = count-held (start .args .keys .now) (at-loop .loop .i) (at-loop-test .loop-test .taken) (c .if3 .left) in omega arith
-
-returns-3 : tie.Need-returns-3 Inv-loop μ-loop
-returns-3 c = absurd (omega (arith, c .loop-test .left, c .before .loop .inv))
+    let h = count-held (at-loop .before .before .args .keys .now) (at-loop .loop .i) (at-loop-test .loop-test .taken) (c .if3 .left) in omega arith
 
 pub free-place-spec : {M : Type 1} → statement M
 free-place-spec =
@@ -46,10 +27,10 @@ free-place-spec =
     Inv-loop
     μ-loop
     (λ c. search needs) (λ c. search needs)
-    returns
-    loop-holds
+    (λ c. (c .before .before .if1 .taken, c .if2 .taken))
+    (λ c. let h = c .before .pre in omega arith)
     (λ c. search needs) (λ c. search needs)
-    returns-2
+    (λ c. (c .before .before .loop-test .taken, c .if3 .taken))
     (λ c. search needs) (λ c. search needs)
     loop-again
-    returns-3)
+    (λ c. absurd (omega (arith, c .loop-test .left, c .before .loop .inv))))

@@ -47,8 +47,7 @@ sub-words-2 c =
 
 slice-write-words : tie.Need-slice-write-words
 slice-write-words c =
-    let start = c .before .before .before .before .before .before .before .before .before .before .before .before .before .before .before .before .before .before .before .before .before .before .before .before .before .before .before .before .before in
-    let h = start .pre .0 .head in search needs
+    let h = c .before .before .before .before .before .before .before .before .before .before .before .before .before .before .before .before .before .before .before .before .before .before .before .before .before .before .before .before .before .pre .0 .head in search needs
 
 returns : tie.Need-returns
 returns c =

@@ -7,8 +7,7 @@ use Rattle.store.proofs.hint_place.Tie as tie
 
 cast-x : tie.Need-cast-x-2
 cast-x c =
-    let start = c .before .before .before in
-    omega (arith, c .before .before .shared-slice-known .given (length (start .args .order .now) - 1))
+    omega (arith, c .before .before .shared-slice-known .given (length (c .before .before .before .args .order .now) - 1))
 
 pub hint-place-spec : {M : Type 1} → statement M
 hint-place-spec =

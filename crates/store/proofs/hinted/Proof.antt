@@ -5,11 +5,6 @@ use borrow.Author.Needs.{needs}
 use Rattle.store.proofs.hinted.Statement.{statement}
 use Rattle.store.proofs.hinted.Tie as tie
 
-cast-s : tie.Need-cast-s
-cast-s c =
-    let at-hint-place = c .before .before in
-    omega (arith, c .shared-slice-known5 .given (at-hint-place .hint-place .result))
-
 returns-2 : tie.Need-returns-2
 returns-2 c =
     let at-is-place = c .before in
@@ -21,7 +16,7 @@ hinted-spec =
     tie.close
     (tie.spec
     (λ c κs. search needs) (λ c. search needs) (λ c. search needs) (λ c. search needs) (λ c. search needs)
-    cast-s
+    (λ c. omega (arith, c .shared-slice-known5 .given (c .before .before .hint-place .result)))
     (λ c κs. search needs)
     returns-2
     (λ c. search needs) (λ c. search needs))

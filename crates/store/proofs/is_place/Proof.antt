@@ -6,18 +6,6 @@ use borrow.Author.Needs.{needs}
 use Rattle.store.proofs.is_place.Statement.{statement}
 use Rattle.store.proofs.is_place.Tie as tie
 
-no : tie.Need-returns
-no c = λ e. absurd (false≢true e)
-
-no-2 : tie.Need-returns-2
-no-2 c = λ e. absurd (false≢true e)
-
-no-3 : tie.Need-returns-3
-no-3 c = λ e. absurd (false≢true e)
-
-no-4 : tie.Need-returns-4
-no-4 c = λ e. absurd (false≢true e)
-
 returns-5 : tie.Need-returns-5
 returns-5 c =
     let at-if4 = c .before .before in
@@ -34,12 +22,12 @@ is-place-spec =
     tie.close
     (tie.spec
     (λ c. search needs)
-    no
+    (λ c. λ e. absurd (false≢true e))
     (λ c. search needs) (λ c. search needs)
-    no-2
+    (λ c. λ e. absurd (false≢true e))
     (λ c κs. search needs)
-    no-3
+    (λ c. λ e. absurd (false≢true e))
     (λ c κs. search needs) (λ c. search needs)
-    no-4
+    (λ c. λ e. absurd (false≢true e))
     (λ c. search needs) (λ c. search needs) (λ c. search needs) (λ c. search needs) (λ c. search needs)
     returns-5)

@@ -6,11 +6,6 @@ use borrow.Author.Needs.{needs}
 use Rattle.store.proofs.learn.Statement.{statement}
 use Rattle.store.proofs.learn.Tie as tie
 
-hint-place-requires : tie.Need-hint-place-requires
-hint-place-requires c κs =
-    let start = c .before .before .before .before .before in
-    let l = start .pre .1 .0 in simp length-set (omega arith)
-
 returns : tie.Need-returns
 returns c =
     let start = c .before .before .before .before .before .before .before in
@@ -32,7 +27,7 @@ learn-spec =
     tie.close
     (tie.spec
     (λ c. search needs) (λ c κs. search needs) (λ c. search needs) (λ c. search needs) (λ c. search needs) (λ c. search needs)
-    hint-place-requires
+    (λ c κs. let l = c .before .before .before .before .before .pre .1 .0 in simp length-set (omega arith))
     (λ c. search needs)
     returns
     (λ c. search needs) (λ c. search needs) (λ c. search needs) (λ c. search needs) (λ c. search needs)

@@ -10,8 +10,7 @@ use Rattle.store.proofs.place_of.Tie as tie
 returns : tie.Need-returns
 returns c =
     let at-if1 = c in
-    let at-hinted = at-if1 .before .before in
-    at-hinted .hinted .ensures (at-if1 .if1 .taken)
+    at-if1 .before .before .hinted .ensures (at-if1 .if1 .taken)
 
 slot-at-entry-requires : tie.Need-slot-at-entry-requires
 slot-at-entry-requires c κs =

@@ -10,8 +10,7 @@ find-requires c κs =
 
 returns : tie.Need-returns
 returns c =
-    let start = c .before .before .before .before .before .before .before .before in
-    part-seek _ _ _ (start .pre .0) _ _ (c .find .ensures)
+    part-seek _ _ _ (c .before .before .before .before .before .before .before .before .pre .0) _ _ (c .find .ensures)
 
 pub slot-of-spec : {M : Type 1} → statement M
 slot-of-spec =

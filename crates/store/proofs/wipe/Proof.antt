@@ -12,28 +12,22 @@ Inv-loop bytes₀ order from to i₀ bytes i = (from ≤ i) × (i ≤ to) × Wip
 abbrev μ-loop : tie.MeasureT-loop
 μ-loop bytes₀ order from to i₀ bytes i = to - i
 
-loop-holds : tie.Need-loop-holds Inv-loop μ-loop
-loop-holds c = (search needs, search needs, wipe-none _ _ _ _ (omega arith))
-
 cast-clear-chunk : tie.Need-cast-clear-chunk Inv-loop μ-loop
 cast-clear-chunk c =
     let at-loop = c .before .before .before in
-    let at-shared-slice-known = at-loop .before in
-    omega (arith, at-shared-slice-known .shared-slice-known .given (at-loop .loop .i))
+    omega (arith, at-loop .before .shared-slice-known .given (at-loop .loop .i))
 
 mul-clear-chunk-2 : tie.Need-mul-clear-chunk-2 Inv-loop μ-loop
 mul-clear-chunk-2 c =
     let at-loop-test = c .before .before in
     let at-loop = at-loop-test .before in
-    let start = at-loop .before .before .before in
-    let l = start .pre .2 (at-loop .loop .i) (at-loop .loop .inv .0) (at-loop-test .loop-test .taken) in let e = at-loop .loop .inv .2 .long in search needs
+    let l = at-loop .before .before .before .pre .2 (at-loop .loop .i) (at-loop .loop .inv .0) (at-loop-test .loop-test .taken) in let e = at-loop .loop .inv .2 .long in search needs
 
 clear-chunk-requires : tie.Need-clear-chunk-requires Inv-loop μ-loop
 clear-chunk-requires c κs =
     let at-loop-test = c .before .before in
     let at-loop = at-loop-test .before in
-    let start = at-loop .before .before .before in
-    let l = start .pre .2 (at-loop .loop .i) (at-loop .loop .inv .0) (at-loop-test .loop-test .taken) in let e = at-loop .loop .inv .2 .long in omega arith
+    let l = at-loop .before .before .before .pre .2 (at-loop .loop .i) (at-loop .loop .inv .0) (at-loop-test .loop-test .taken) in let e = at-loop .loop .inv .2 .long in omega arith
 
 loop-again : tie.Need-loop-again Inv-loop μ-loop
 loop-again c =
@@ -53,7 +47,7 @@ wipe-spec =
     (tie.spec
     Inv-loop
     μ-loop
-    loop-holds
+    (λ c. (search needs, search needs, wipe-none _ _ _ _ (omega arith)))
     (λ c. search needs) (λ c. search needs)
     cast-clear-chunk
     mul-clear-chunk-2

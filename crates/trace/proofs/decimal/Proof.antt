@@ -19,11 +19,7 @@ returns : tie.Need-returns Inv-loop μ-loop
 returns c =
     let at-if1 = c in
     let at-led-well = at-if1 .before in
-    let start = at-led-well .before .before in
-    decimal-led (start .args .field .now) (sym (at-led-well .led-well .ensures) ∙ not-true _ (at-if1 .if1 .taken))
-
-loop-holds : tie.Need-loop-holds Inv-loop μ-loop
-loop-holds c = (omega arith, omega arith, refl, refl)
+    decimal-led (at-led-well .before .before .args .field .now) (sym (at-led-well .led-well .ensures) ∙ not-true _ (at-if1 .if1 .taken))
 
 returns-2 : tie.Need-returns-2 Inv-loop μ-loop
 returns-2 c =
@@ -79,7 +75,7 @@ decimal-spec =
     μ-loop
     (λ c κs. search needs)
     returns
-    loop-holds
+    (λ c. (omega arith, omega arith, refl, refl))
     (λ c. search needs) (λ c κs. search needs)
     returns-2
     (λ c. search needs) (λ c. search needs)

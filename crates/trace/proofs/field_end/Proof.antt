@@ -14,31 +14,25 @@ Inv-loop line from i₀ i = (i ≤ length line) × (i + spaceAt (drop i line) �
 abbrev μ-loop : tie.MeasureT-loop
 μ-loop line from i₀ i = length line - i
 
-loop-holds : tie.Need-loop-holds Inv-loop μ-loop
-loop-holds c = (c .pre, refl, omega arith)
-
 returns : tie.Need-returns Inv-loop μ-loop
 returns c =
     let at-if1 = c in
     let at-loop-test = at-if1 .before .before in
     let at-loop = at-loop-test .before in
-    let start = at-loop .before in
-    (space-found (start .args .line .now) (at-loop .loop .i) (at-loop-test .loop-test .taken) (at-if1 .if1 .taken) ∙ at-loop .loop .inv .1, at-loop .loop .inv .2, at-loop .loop .inv .0)
+    (space-found (at-loop .before .args .line .now) (at-loop .loop .i) (at-loop-test .loop-test .taken) (at-if1 .if1 .taken) ∙ at-loop .loop .inv .1, at-loop .loop .inv .2, at-loop .loop .inv .0)
 
 loop-again : tie.Need-loop-again Inv-loop μ-loop
 loop-again c =
     let at-if1 = c in
     let at-loop-test = at-if1 .before .before in
     let at-loop = at-loop-test .before in
-    let start = at-loop .before in
-    (omega arith, space-passed (start .args .line .now) (at-loop .loop .i) (at-loop-test .loop-test .taken) (at-if1 .if1 .left) ∙ at-loop .loop .inv .1, omega (arith, at-loop .loop .inv .2))
+    (omega arith, space-passed (at-loop .before .args .line .now) (at-loop .loop .i) (at-loop-test .loop-test .taken) (at-if1 .if1 .left) ∙ at-loop .loop .inv .1, omega (arith, at-loop .loop .inv .2))
 
 returns-2 : tie.Need-returns-2 Inv-loop μ-loop
 returns-2 c =
     let at-loop-test = c in
     let at-loop = at-loop-test .before in
-    let start = at-loop .before in
-    (space-end (start .args .line .now) (at-loop .loop .i) (at-loop .loop .inv .0) (at-loop-test .loop-test .left) ∙ at-loop .loop .inv .1, at-loop .loop .inv .2, at-loop .loop .inv .0)
+    (space-end (at-loop .before .args .line .now) (at-loop .loop .i) (at-loop .loop .inv .0) (at-loop-test .loop-test .left) ∙ at-loop .loop .inv .1, at-loop .loop .inv .2, at-loop .loop .inv .0)
 
 pub field-end-spec : {M : Type 1} → statement M
 field-end-spec =
@@ -46,7 +40,7 @@ field-end-spec =
     (tie.spec
     Inv-loop
     μ-loop
-    loop-holds
+    (λ c. (c .pre, refl, omega arith))
     (λ c. search needs)
     returns
     (λ c. search needs) (λ c. search needs)

@@ -21,22 +21,19 @@ returns c =
     let at-if1 = c in
     let at-led-well = at-if1 .before in
     let at-no-word = at-led-well .before in
-    let start = at-no-word .before .before in
-    at-no-word .no-word .ensures .0 ∙ hexadecimal-led (start .args .field .now) (sym (at-led-well .led-well .ensures) ∙ not-true _ (at-if1 .if1 .taken))
+    at-no-word .no-word .ensures .0 ∙ hexadecimal-led (at-no-word .before .before .args .field .now) (sym (at-led-well .led-well .ensures) ∙ not-true _ (at-if1 .if1 .taken))
 
 returns-2 : tie.Need-returns-2 Inv-loop μ-loop
 returns-2 c =
     let at-if2 = c in
     let at-no-word = at-if2 .before .before .before in
-    let start = at-no-word .before .before in
-    at-no-word .no-word .ensures .0 ∙ hexadecimal-long (start .args .field .now) (at-if2 .if2 .taken)
+    at-no-word .no-word .ensures .0 ∙ hexadecimal-long (at-no-word .before .before .args .field .now) (at-if2 .if2 .taken)
 
 loop-holds : tie.Need-loop-holds Inv-loop μ-loop
 loop-holds c =
     let at-no-word = c .before .before .before .before in
-    let start = at-no-word .before .before in
     let z = at-no-word .no-word .ensures .1 in
-    (omega arith, omega arith, refl, ap (λ (n : ℕ). numberAfter 16 n (start .args .field .now)) z)
+    (omega arith, omega arith, refl, ap (λ (n : ℕ). numberAfter 16 n (at-no-word .before .before .args .field .now)) z)
 
 returns-3 : tie.Need-returns-3 Inv-loop μ-loop
 returns-3 c =
@@ -53,8 +50,7 @@ lengthened-requires c κs =
     let at-if3 = c in
     let at-loop-test = at-if3 .before .before .before in
     let at-loop = at-loop-test .before in
-    let at-if2 = at-loop .before .before in
-    let t = at-loop-test .loop-test .taken in let s = at-if2 .if2 .left in (digits-room _ (at-loop .loop .i) (at-loop .loop .inv .1) (omega arith), omega (arith, at-if3 .if3 .left))
+    let t = at-loop-test .loop-test .taken in let s = at-loop .before .before .if2 .left in (digits-room _ (at-loop .loop .i) (at-loop .loop .inv .1) (omega arith), omega (arith, at-if3 .if3 .left))
 
 loop-again : tie.Need-loop-again Inv-loop μ-loop
 loop-again c =

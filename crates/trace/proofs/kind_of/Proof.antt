@@ -9,8 +9,7 @@ returns : tie.Need-returns
 returns c =
     let at-if1 = c in
     let at-same = at-if1 .before in
-    let start = at-same .before .before .before in
-    kind-open (start .args .name .now) (sym (at-same .same .ensures) ∙ at-if1 .if1 .taken)
+    kind-open (at-same .before .before .before .args .name .now) (sym (at-same .same .ensures) ∙ at-if1 .if1 .taken)
 
 returns-2 : tie.Need-returns-2
 returns-2 c =
@@ -18,8 +17,7 @@ returns-2 c =
     let at-same2 = at-if2 .before in
     let at-if1 = at-same2 .before .before in
     let at-same = at-if1 .before in
-    let start = at-same .before .before .before in
-    kind-write (start .args .name .now) (sym (at-same .same .ensures) ∙ at-if1 .if1 .left) (sym (at-same2 .same2 .ensures) ∙ at-if2 .if2 .taken)
+    kind-write (at-same .before .before .before .args .name .now) (sym (at-same .same .ensures) ∙ at-if1 .if1 .left) (sym (at-same2 .same2 .ensures) ∙ at-if2 .if2 .taken)
 
 returns-3 : tie.Need-returns-3
 returns-3 c =
@@ -29,8 +27,7 @@ returns-3 c =
     let at-same2 = at-if2 .before in
     let at-if1 = at-same2 .before .before in
     let at-same = at-if1 .before in
-    let start = at-same .before .before .before in
-    kind-read (start .args .name .now) (sym (at-same .same .ensures) ∙ at-if1 .if1 .left) (sym (at-same2 .same2 .ensures) ∙ at-if2 .if2 .left) (sym (at-same3 .same3 .ensures) ∙ at-if3 .if3 .taken)
+    kind-read (at-same .before .before .before .args .name .now) (sym (at-same .same .ensures) ∙ at-if1 .if1 .left) (sym (at-same2 .same2 .ensures) ∙ at-if2 .if2 .left) (sym (at-same3 .same3 .ensures) ∙ at-if3 .if3 .taken)
 
 returns-4 : tie.Need-returns-4
 returns-4 c =
@@ -42,8 +39,7 @@ returns-4 c =
     let at-same2 = at-if2 .before in
     let at-if1 = at-same2 .before .before in
     let at-same = at-if1 .before in
-    let start = at-same .before .before .before in
-    kind-snapshot (start .args .name .now) (sym (at-same .same .ensures) ∙ at-if1 .if1 .left) (sym (at-same2 .same2 .ensures) ∙ at-if2 .if2 .left) (sym (at-same3 .same3 .ensures) ∙ at-if3 .if3 .left) (sym (at-same4 .same4 .ensures) ∙ at-if4 .if4 .taken)
+    kind-snapshot (at-same .before .before .before .args .name .now) (sym (at-same .same .ensures) ∙ at-if1 .if1 .left) (sym (at-same2 .same2 .ensures) ∙ at-if2 .if2 .left) (sym (at-same3 .same3 .ensures) ∙ at-if3 .if3 .left) (sym (at-same4 .same4 .ensures) ∙ at-if4 .if4 .taken)
 
 returns-5 : tie.Need-returns-5
 returns-5 c =
@@ -57,8 +53,7 @@ returns-5 c =
     let at-same2 = at-if2 .before in
     let at-if1 = at-same2 .before .before in
     let at-same = at-if1 .before in
-    let start = at-same .before .before .before in
-    kind-rollback (start .args .name .now) (sym (at-same .same .ensures) ∙ at-if1 .if1 .left) (sym (at-same2 .same2 .ensures) ∙ at-if2 .if2 .left) (sym (at-same3 .same3 .ensures) ∙ at-if3 .if3 .left) (sym (at-same4 .same4 .ensures) ∙ at-if4 .if4 .left) (sym (at-same5 .same5 .ensures) ∙ at-if5 .if5 .taken)
+    kind-rollback (at-same .before .before .before .args .name .now) (sym (at-same .same .ensures) ∙ at-if1 .if1 .left) (sym (at-same2 .same2 .ensures) ∙ at-if2 .if2 .left) (sym (at-same3 .same3 .ensures) ∙ at-if3 .if3 .left) (sym (at-same4 .same4 .ensures) ∙ at-if4 .if4 .left) (sym (at-same5 .same5 .ensures) ∙ at-if5 .if5 .taken)
 
 returns-6 : tie.Need-returns-6
 returns-6 c =
@@ -72,8 +67,7 @@ returns-6 c =
     let at-same2 = at-if2 .before in
     let at-if1 = at-same2 .before .before in
     let at-same = at-if1 .before in
-    let start = at-same .before .before .before in
-    kind-none (start .args .name .now) (sym (at-same .same .ensures) ∙ at-if1 .if1 .left) (sym (at-same2 .same2 .ensures) ∙ at-if2 .if2 .left) (sym (at-same3 .same3 .ensures) ∙ at-if3 .if3 .left) (sym (at-same4 .same4 .ensures) ∙ at-if4 .if4 .left) (sym (at-same5 .same5 .ensures) ∙ at-if5 .if5 .left)
+    kind-none (at-same .before .before .before .args .name .now) (sym (at-same .same .ensures) ∙ at-if1 .if1 .left) (sym (at-same2 .same2 .ensures) ∙ at-if2 .if2 .left) (sym (at-same3 .same3 .ensures) ∙ at-if3 .if3 .left) (sym (at-same4 .same4 .ensures) ∙ at-if4 .if4 .left) (sym (at-same5 .same5 .ensures) ∙ at-if5 .if5 .left)
 
 pub kind-of-spec : {M : Type 1} → statement M
 kind-of-spec =

@@ -7,21 +7,18 @@ use Rattle.trace.proofs.led_well.Tie as tie
 returns : tie.Need-returns
 returns c =
     let at-if1 = c in
-    let start = at-if1 .before in
-    led-none (start .args .field .now) (at-if1 .if1 .taken)
+    led-none (at-if1 .before .args .field .now) (at-if1 .if1 .taken)
 
 returns-2 : tie.Need-returns-2
 returns-2 c =
     let at-if2 = c in
-    let start = at-if2 .before .before in
-    led-one (start .args .field .now) (at-if2 .if2 .taken)
+    led-one (at-if2 .before .before .args .field .now) (at-if2 .if2 .taken)
 
 returns-3 : tie.Need-returns-3
 returns-3 c =
     let at-if2 = c .before in
     let at-if1 = at-if2 .before in
-    let start = at-if1 .before in
-    led-more (start .args .field .now) (at-if1 .if1 .left) (at-if2 .if2 .left)
+    led-more (at-if1 .before .args .field .now) (at-if1 .if1 .left) (at-if2 .if2 .left)
 
 pub led-well-spec : {M : Type 1} → statement M
 led-well-spec = tie.close (tie.spec returns returns-2 (λ c. search needs) returns-3)

@@ -13,8 +13,7 @@ longer-requires c κs =
 returns : tie.Need-returns
 unfolding value
 returns c =
-    let at-longer = c in
-    at-longer .longer .ensures
+    c .longer .ensures
 
 pub lengthened-spec : {M : Type 1} → statement M
 lengthened-spec =

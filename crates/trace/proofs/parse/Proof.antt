@@ -37,8 +37,7 @@ other Rollback o = refl
 decimals-requires : tie.Need-decimals-requires
 decimals-requires c κs =
     let at-count = c in
-    let at-kind-of = at-count .before in
-    let e = at-count .count .ensures in omega (arith, count-le (at-kind-of .kind-of .result))
+    let e = at-count .count .ensures in omega (arith, count-le (at-count .before .kind-of .result))
 
 returns : tie.Need-returns
 returns c =
@@ -48,8 +47,7 @@ returns c =
     let at-count = at-decimals .before in
     let at-kind-of = at-count .before in
     let at-field-end = at-kind-of .before .before in
-    let start = at-field-end .before .before in
-    at-unread .unread .ensures ∙ line-bad (start .args .line .now) (at-kind-of .kind-of .result) (at-field-end .field-end .result) (at-count .count .result) (at-field-end .field-end .ensures .0) (at-kind-of .kind-of .ensures) (at-count .count .ensures) (at-decimals .decimals .ensures .bad (not-true _ (at-if1 .if1 .taken)))
+    at-unread .unread .ensures ∙ line-bad (at-field-end .before .before .args .line .now) (at-kind-of .kind-of .result) (at-field-end .field-end .result) (at-count .count .result) (at-field-end .field-end .ensures .0) (at-kind-of .kind-of .ensures) (at-count .count .ensures) (at-decimals .decimals .ensures .bad (not-true _ (at-if1 .if1 .taken)))
 
 returns-2 : tie.Need-returns-2
 returns-2 c =
@@ -60,9 +58,8 @@ returns-2 c =
     let at-count = at-decimals .before in
     let at-kind-of = at-count .before in
     let at-field-end = at-kind-of .before .before in
-    let start = at-field-end .before .before in
     let w = sym (at-enum-told .enum-told .given .1) in
-    at-write-of .write-of .ensures ∙ line-good (start .args .line .now) Write (at-field-end .field-end .result) (at-count .count .result) (at-field-end .field-end .ensures .0) (w ∙ at-kind-of .kind-of .ensures) (at-count .count .ensures ∙ ap countOf (sym w)) (at-decimals .decimals .result .values) (at-decimals .decimals .result .at) (at-decimals .decimals .ensures .good (not-false _ (at-if1 .if1 .left)))
+    at-write-of .write-of .ensures ∙ line-good (at-field-end .before .before .args .line .now) Write (at-field-end .field-end .result) (at-count .count .result) (at-field-end .field-end .ensures .0) (w ∙ at-kind-of .kind-of .ensures) (at-count .count .ensures ∙ ap countOf (sym w)) (at-decimals .decimals .result .values) (at-decimals .decimals .result .at) (at-decimals .decimals .ensures .good (not-false _ (at-if1 .if1 .left)))
 
 returns-3 : tie.Need-returns-3
 returns-3 c =

@@ -20,9 +20,6 @@ returns c =
     let start = at-if1 .before in
     same-lengths (start .args .a .now) (start .args .b .now) (at-if1 .if1 .taken)
 
-loop-holds : tie.Need-loop-holds Inv-loop μ-loop
-loop-holds c = (omega arith, refl)
-
 returns-2 : tie.Need-returns-2 Inv-loop μ-loop
 returns-2 c =
     let at-if2 = c in
@@ -52,7 +49,7 @@ same-spec =
     Inv-loop
     μ-loop
     returns
-    loop-holds
+    (λ c. (omega arith, refl))
     (λ c. search needs) (λ c. search needs)
     returns-2
     (λ c. search needs) (λ c. search needs)

@@ -8,7 +8,7 @@ use Rattle.view.specs.View.{settingOf, viewOf}
 use Rattle.view.specs.Checks.{allocateChecks}
 use Rattle.view.specs.Calls.{Call, nextOf}
 use Rattle.checks.proofs.Passed.{room-refusals}
-use Rattle.writes.proofs.Chains.{allocate-asks}
+use Rattle.write_steps.proofs.Chains.{allocate-asks}
 use Rattle.writes.proofs.allocate_at.Statement.{statement}
 use Rattle.writes.proofs.allocate_at.Tie as tie
 

@@ -7,7 +7,7 @@ use Rattle.view.specs.Checks.{wordWriteChecks}
 use Rattle.view.specs.Calls.{Call, nextOf}
 use Rattle.checks.proofs.Passed.{room-refusals}
 use Rattle.word.specs.Value.{value}
-use Rattle.writes.proofs.Chains.{word-shown}
+use Rattle.write_steps.proofs.Chains.{word-shown}
 use Rattle.writes.proofs.write_u256.Statement.{statement}
 use Rattle.writes.proofs.write_u256.Tie as tie
 

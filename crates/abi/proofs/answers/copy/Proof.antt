@@ -14,14 +14,10 @@ Inv-loop output₀ from i₀ output i = (i ≤ length output₀) × (length outp
 abbrev μ-loop : tie.MeasureT-loop
 μ-loop output₀ from i₀ output i = length output₀ - i
 
-loop-holds : tie.Need-loop-holds Inv-loop μ-loop
-loop-holds c = (search needs, refl, λ i l. absurd (not-suc-le-zero l))
-
 loop-again : tie.Need-loop-again Inv-loop μ-loop
 loop-again c =
     let at-loop = c .before .before in
-    let start = at-loop .before in
-    (search needs, simp length-set (at-loop .loop .inv .1), copied-more (start .args .from .now) (at-loop .loop .output) (at-loop .loop .i) (search needs) (at-loop .loop .inv .2))
+    (search needs, simp length-set (at-loop .loop .inv .1), copied-more (at-loop .before .args .from .now) (at-loop .loop .output) (at-loop .loop .i) (search needs) (at-loop .loop .inv .2))
 
 returns : tie.Need-returns Inv-loop μ-loop
 returns c =
@@ -37,7 +33,7 @@ copy-spec =
     (tie.spec
     Inv-loop
     μ-loop
-    loop-holds
+    (λ c. (search needs, refl, λ i l. absurd (not-suc-le-zero l)))
     (λ c. search needs) (λ c. search needs) (λ c. search needs) (λ c. search needs)
     loop-again
     (λ c. search needs)

@@ -11,15 +11,13 @@ returns : tie.Need-returns
 returns c =
     let at-give-number = c .before .before in
     let at-answer = at-give-number .before .before .before in
-    let start = at-answer .before .before .before in
-    refusal-given one _ _ (λ z. start .pre (ap baseOutcome (at-answer .answer .given .1) ∙ ap refused z)) (ap baseOutcome (at-answer .answer .given .1)) (at-give-number .give-number .ensures)
+    refusal-given one _ _ (λ z. at-answer .before .before .before .pre (ap baseOutcome (at-answer .answer .given .1) ∙ ap refused z)) (ap baseOutcome (at-answer .answer .given .1)) (at-give-number .give-number .ensures)
 
 returns-2 : tie.Need-returns-2
 returns-2 c =
     let at-give-number2 = c .before .before in
     let at-wide = at-give-number2 .before in
-    let at-answer2 = at-wide .before .before .before in
-    value-given one (ap baseOutcome (at-answer2 .answer2 .given .1)) (at-wide .wide .ensures) (at-give-number2 .give-number2 .ensures)
+    value-given one (ap baseOutcome (at-wide .before .before .before .answer2 .given .1)) (at-wide .wide .ensures) (at-give-number2 .give-number2 .ensures)
 
 pub give-base-spec : {M : Type 1} → statement M
 give-base-spec = tie.close (tie.spec (λ c. search needs) (λ c κs. search needs) (λ c. search needs) (λ c κs. tt) (λ c κs. search needs) (λ c. search needs) returns (λ c. search needs) returns-2)

@@ -7,16 +7,6 @@ use borrow.Author.Needs.{needs}
 use Rattle.abi.proofs.answers.give_pointer.Statement.{statement}
 use Rattle.abi.proofs.answers.give_pointer.Tie as tie
 
-returns : tie.Need-returns
-returns c =
-    let at-if1 = c in
-    gives-unfit (at-if1 .if1 .taken)
-
-slice-write-out-4 : tie.Need-slice-write-out-4
-slice-write-out-4 c =
-    let at-if1 = c .before .before .before .before in
-    simp length-set (omega (arith, at-if1 .if1 .left))
-
 returns-2 : tie.Need-returns-2
 returns-2 c =
     let at-wide4 = c in
@@ -28,4 +18,4 @@ returns-2 c =
     gives-value (at-if1 .if1 .left) refl (pointer-put (start .args .out .now) (at-if1 .if1 .left) (start .args .pointer) (at-wide .wide .ensures) (at-wide2 .wide2 .ensures) (at-wide3 .wide3 .ensures) (at-wide4 .wide4 .ensures))
 
 pub give-pointer-spec : {M : Type 1} → statement M
-give-pointer-spec = tie.close (tie.spec returns (λ c κs. tt) (λ c. search needs) (λ c κs. tt) (λ c. search needs) (λ c κs. tt) (λ c. search needs) (λ c κs. tt) slice-write-out-4 (λ c. search needs) returns-2)
+give-pointer-spec = tie.close (tie.spec (λ c. gives-unfit (c .if1 .taken)) (λ c κs. tt) (λ c. search needs) (λ c κs. tt) (λ c. search needs) (λ c κs. tt) (λ c. search needs) (λ c κs. tt) (λ c. simp length-set (omega (arith, c .before .before .before .before .if1 .left))) (λ c. search needs) returns-2)

@@ -5,12 +5,6 @@ use borrow.Author.Needs.{needs}
 use Rattle.abi.proofs.answers.give_triple.Statement.{statement}
 use Rattle.abi.proofs.answers.give_triple.Tie as tie
 
-returns : tie.Need-returns
-returns c = gives-unfit (c .if1 .taken)
-
-returns-2 : tie.Need-returns-2
-returns-2 c = gives-refused _ _ (c .before .if1 .left) (c .if2 .taken)
-
 returns-3 : tie.Need-returns-3
 returns-3 c =
     let at-if1 = c .before in
@@ -18,4 +12,4 @@ returns-3 c =
     gives-value (at-if1 .if1 .left) (c .if2 .left) (overwritten (start .args .first ∷ start .args .second ∷ start .args .third ∷ []) (start .args .out .now) (at-if1 .if1 .left))
 
 pub give-triple-spec : {M : Type 1} → statement M
-give-triple-spec = tie.close (tie.spec returns returns-2 (λ c. search needs) (λ c. search needs) (λ c. search needs) (λ c. search needs) returns-3)
+give-triple-spec = tie.close (tie.spec (λ c. gives-unfit (c .if1 .taken)) (λ c. gives-refused _ _ (c .before .if1 .left) (c .if2 .taken)) (λ c. search needs) (λ c. search needs) (λ c. search needs) (λ c. search needs) returns-3)

@@ -6,16 +6,10 @@ use borrow.Author.Needs.{needs}
 use Rattle.abi.proofs.answers.give_word.Statement.{statement}
 use Rattle.abi.proofs.answers.give_word.Tie as tie
 
-returns : tie.Need-returns
-returns c =
-    let at-if1 = c in
-    gives-unfit (at-if1 .if1 .taken)
-
 returns-2 : tie.Need-returns-2
 returns-2 c =
     let at-if2 = c in
-    let at-if1 = at-if2 .before in
-    gives-refused _ _ (at-if1 .if1 .left) (at-if2 .if2 .taken)
+    gives-refused _ _ (at-if2 .before .if1 .left) (at-if2 .if2 .taken)
 
 returns-3 : tie.Need-returns-3
 returns-3 c =
@@ -26,4 +20,4 @@ returns-3 c =
     gives-value (at-if1 .if1 .left) (at-if2 .if2 .left) (ap value (at-put-word .put-word .ensures) ∙ value-put (start .args .word .limbs) (start .args .out .now) (at-if1 .if1 .left))
 
 pub give-word-spec : {M : Type 1} → statement M
-give-word-spec = tie.close (tie.spec returns returns-2 (λ c κs. search needs) (λ c. search needs) returns-3)
+give-word-spec = tie.close (tie.spec (λ c. gives-unfit (c .if1 .taken)) returns-2 (λ c κs. search needs) (λ c. search needs) returns-3)

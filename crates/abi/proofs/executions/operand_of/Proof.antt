@@ -5,8 +5,7 @@ use Rattle.abi.proofs.executions.operand_of.Tie as tie
 returns : tie.Need-returns
 returns c =
     let at-word-of = c in
-    let start = at-word-of .before in
-    operand-made (start .args .tagged) (at-word-of .word-of .ensures)
+    operand-made (at-word-of .before .args .tagged) (at-word-of .word-of .ensures)
 
 pub operand-of-spec : {M : Type 1} → statement M
 operand-of-spec = tie.close (tie.spec (λ c κs. tt) returns)

@@ -5,12 +5,6 @@ use borrow.Author.Needs.{needs}
 use Rattle.abi.proofs.executions.put_result.Statement.{statement}
 use Rattle.abi.proofs.executions.put_result.Tie as tie
 
-slice-write-out-2 : tie.Need-slice-write-out-2
-slice-write-out-2 c = simp length-set (search needs)
-
-same-length : tie.Need-same-length
-same-length c = simp length-set (search needs)
-
 returns : tie.Need-returns
 returns c =
     let at-wide2 = c in
@@ -26,6 +20,6 @@ put-result-spec =
     tie.close
     (tie.spec
     (λ c κs. search needs) (λ c κs. search needs) (λ c κs. tt) (λ c κs. tt) (λ c. search needs) (λ c κs. tt)
-    slice-write-out-2
-    same-length
+    (λ c. simp length-set (search needs))
+    (λ c. simp length-set (search needs))
     returns)

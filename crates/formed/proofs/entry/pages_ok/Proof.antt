@@ -17,15 +17,11 @@ Inv-loop entries words layout e₀ e = (e ≤ length entries) × (all (entryRigh
 abbrev μ-loop : tie.MeasureT-loop
 μ-loop entries words layout e₀ e = length entries - e
 
-loop-holds : tie.Need-loop-holds Inv-loop μ-loop
-loop-holds c = (search needs, all-none _)
-
 entry-ok-requires : tie.Need-entry-ok-requires Inv-loop μ-loop
 entry-ok-requires c κs =
     let at-loop-test = c in
     let at-layout-of = at-loop-test .before .before in
-    let start = at-layout-of .before .before .before in
-    (at-loop-test .loop-test .taken, start .pre .0, at-layout-of .layout-of .ensures)
+    (at-loop-test .loop-test .taken, at-layout-of .before .before .before .pre .0, at-layout-of .layout-of .ensures)
 
 returns : tie.Need-returns Inv-loop μ-loop
 returns c =
@@ -57,7 +53,7 @@ pages-ok-spec =
     Inv-loop
     μ-loop
     (λ c κs. search needs)
-    loop-holds
+    (λ c. (search needs, all-none _))
     entry-ok-requires
     returns
     (λ c. search needs) (λ c. search needs)

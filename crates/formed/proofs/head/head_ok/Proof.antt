@@ -13,15 +13,13 @@ unfolding headRight
 returns c =
     let at-if1 = c in
     let at-narrow-ok = at-if1 .before in
-    let start = at-narrow-ok .before .before in
-    and-stop (narrow (start .args .words .now)) _ (sym (at-narrow-ok .narrow-ok .ensures) ∙ not-true _ (at-if1 .if1 .taken))
+    and-stop (narrow (at-narrow-ok .before .before .args .words .now)) _ (sym (at-narrow-ok .narrow-ok .ensures) ∙ not-true _ (at-if1 .if1 .taken))
 
 layout-of-requires : tie.Need-layout-of-requires
 layout-of-requires c κs =
     let at-if1 = c in
     let at-narrow-ok = at-if1 .before in
-    let start = at-narrow-ok .before .before in
-    (start .pre, sym (at-narrow-ok .narrow-ok .ensures) ∙ not-false _ (at-if1 .if1 .left))
+    (at-narrow-ok .before .before .pre, sym (at-narrow-ok .narrow-ok .ensures) ∙ not-false _ (at-if1 .if1 .left))
 
 returns-2 : tie.Need-returns-2
 unfolding headRight
@@ -30,8 +28,7 @@ returns-2 c =
     let at-layout-of = at-bad-layout .before in
     let at-if1 = at-layout-of .before in
     let at-narrow-ok = at-if1 .before in
-    let start = at-narrow-ok .before .before in
-    ap not (at-bad-layout .bad-layout .ensures ∙ ap badLayout (at-layout-of .layout-of .ensures)) ∙ and-pass (narrow (start .args .words .now)) _ (sym (at-narrow-ok .narrow-ok .ensures) ∙ not-false _ (at-if1 .if1 .left))
+    ap not (at-bad-layout .bad-layout .ensures ∙ ap badLayout (at-layout-of .layout-of .ensures)) ∙ and-pass (narrow (at-narrow-ok .before .before .args .words .now)) _ (sym (at-narrow-ok .narrow-ok .ensures) ∙ not-false _ (at-if1 .if1 .left))
 
 pub head-ok-spec : {M : Type 1} → statement M
 head-ok-spec =

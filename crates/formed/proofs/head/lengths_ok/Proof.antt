@@ -9,12 +9,12 @@ use Rattle.formed.proofs.head.lengths_ok.Tie as tie
 returns : tie.Need-returns
 returns c =
     let start = c .before in
-    refute _ (λ s. omega (arith, fit-are (start .args .bytes) (start .args .keys) (start .args .order) (start .args .words) (start .args .c) (start .args .p) (start .args .j) s .slots-lo, c .if1 .taken))
+    refute _ (λ s. omega (arith, fit-are (start .args .bytes) (start .args .keys) (start .args .order) (start .args .words) (start .args .c) (start .args .p) (start .args .j) s .chunks-lo, c .if1 .taken))
 
 returns-2 : tie.Need-returns-2
 returns-2 c =
     let start = c .before .before in
-    refute _ (λ s. omega (arith, fit-are (start .args .bytes) (start .args .keys) (start .args .order) (start .args .words) (start .args .c) (start .args .p) (start .args .j) s .slots-hi, c .if2 .taken))
+    refute _ (λ s. omega (arith, fit-are (start .args .bytes) (start .args .keys) (start .args .order) (start .args .words) (start .args .c) (start .args .p) (start .args .j) s .chunks-hi, c .if2 .taken))
 
 returns-3 : tie.Need-returns-3
 returns-3 c =
@@ -63,7 +63,7 @@ returns-10 c =
     let at-if2 = at-if3 .before in
     let at-if1 = at-if2 .before in
     let start = at-if1 .before in
-    sym (fit-test (start .args .bytes) (start .args .keys) (start .args .order) (start .args .words) (start .args .c) (start .args .p) (start .args .j) (record { slots-lo = at-if1 .if1 .left; slots-hi = at-if2 .if2 .left; pages-lo = at-if3 .if3 .left; pages-hi = at-if4 .if4 .left; journal-hi = at-if5 .if5 .left; in-bytes = at-if6 .if6 .left; in-keys = at-if7 .if7 .left; in-order = at-if8 .if8 .left; in-words = at-if9 .if9 .left }))
+    sym (fit-test (start .args .bytes) (start .args .keys) (start .args .order) (start .args .words) (start .args .c) (start .args .p) (start .args .j) (record { chunks-lo = at-if1 .if1 .left; chunks-hi = at-if2 .if2 .left; pages-lo = at-if3 .if3 .left; pages-hi = at-if4 .if4 .left; journal-hi = at-if5 .if5 .left; in-bytes = at-if6 .if6 .left; in-keys = at-if7 .if7 .left; in-order = at-if8 .if8 .left; in-words = at-if9 .if9 .left }))
 
 pub lengths-ok-spec : {M : Type 1} → statement M
 lengths-ok-spec =

@@ -14,19 +14,13 @@ neither w p n o zero l e = n (sym e)
 neither w p n o (suc zero) l e = o (sym e)
 neither w p n o (suc (suc i)) l e = omega arith
 
-returns : tie.Need-returns
-returns c = record { own = λ _. sym (c .if1 .taken); none = λ l. absurd (omega arith) }
-
-returns-2 : tie.Need-returns-2
-returns-2 c = record { own = λ _. sym (c .if2 .taken); none = λ l. absurd (omega arith) }
-
 returns-3 : tie.Need-returns-3
 returns-3 c =
     let at-if1 = c .before .before .before in
     let start = at-if1 .before .before .before in
-    record { own = λ l. absurd (omega arith); none = λ _. neither (start .args .words .now) (start .args .page .0) (at-if1 .if1 .left) (c .if2 .left) }
+    record { most = omega arith; own = λ l. absurd (omega arith); none = λ _. neither (start .args .words .now) (start .args .page .0) (at-if1 .if1 .left) (c .if2 .left) }
 
 pub journal-of-spec : {M : Type 1} → statement M
 journal-of-spec =
     tie.close
-    (tie.spec (λ c. search needs) (λ c. search needs) returns (λ c. search needs) (λ c. search needs) returns-2 returns-3)
+    (tie.spec (λ c. search needs) (λ c. search needs) (λ c. record { most = omega arith; own = λ _. sym (c .if1 .taken); none = λ l. absurd (omega arith) }) (λ c. search needs) (λ c. search needs) (λ c. record { most = omega arith; own = λ _. sym (c .if2 .taken); none = λ l. absurd (omega arith) }) returns-3)

@@ -42,9 +42,6 @@ add-end c =
     let e = words-end (journalWords (start .args .words .now)) (start .args .j) (start .pre .0) in
     omega (arith, start .pre)
 
-key-of-requires : tie.Need-key-of-requires
-key-of-requires c κs = omega (arith, c .place .ensures)
-
 mul-notes-ok : tie.Need-mul-notes-ok
 mul-notes-ok c =
     let start = c .before .before .before .before .before .before .before in
@@ -62,8 +59,7 @@ notes-ok-requires c κs =
     let at-key-of = c .before in
     let at-place = at-key-of .before in
     let at-if1 = at-place .before in
-    let start = at-if1 .before .before .before .before .before in
-    (omega (arith, start .pre, at-if1 .if1 .left), omega (arith, at-if1 .if1 .left), omega (arith, at-key-of .key-of .ensures), omega (arith, at-key-of .key-of .ensures, at-place .place .ensures))
+    (omega (arith, at-if1 .before .before .before .before .before .pre, at-if1 .if1 .left), omega (arith, at-if1 .if1 .left), omega (arith, at-key-of .key-of .ensures), omega (arith, at-key-of .key-of .ensures, at-place .place .ensures))
 
 returns-2 : tie.Need-returns-2
 unfolding journalRight
@@ -94,7 +90,7 @@ journal-ok-spec =
     (λ c. search needs)
     add-end
     (λ c κs. search needs)
-    key-of-requires
+    (λ c κs. omega (arith, c .place .ensures))
     mul-notes-ok
     (λ c. search needs) (λ c. search needs)
     part-notes-ok-end

@@ -17,9 +17,6 @@ Inv-loop holders words j₀ j = (j ≤ journalCount) × (all (journalRight holde
 abbrev μ-loop : tie.MeasureT-loop
 μ-loop holders words j₀ j = journalCount - j
 
-loop-holds : tie.Need-loop-holds Inv-loop μ-loop
-loop-holds c = (search needs, all-none _)
-
 returns : tie.Need-returns Inv-loop μ-loop
 returns c =
     let at-if1 = c in
@@ -50,7 +47,7 @@ journals-ok-spec =
     (tie.spec
     Inv-loop
     μ-loop
-    loop-holds
+    (λ c. (search needs, all-none _))
     (λ c κs. search needs)
     returns
     (λ c. search needs) (λ c. search needs)

@@ -16,9 +16,6 @@ Inv-loop bytes any₀ i₀ any i = (i ≤ length bytes) × ((eqb any 0 && zeros 
 abbrev μ-loop : tie.MeasureT-loop
 μ-loop bytes any₀ i₀ any i = length bytes - i
 
-loop-holds : tie.Need-loop-holds Inv-loop μ-loop
-loop-holds c = (search needs, refl)
-
 loop-again : tie.Need-loop-again Inv-loop μ-loop
 loop-again c =
     let at-loop-test = c .before in
@@ -29,10 +26,9 @@ returns : tie.Need-returns Inv-loop μ-loop
 returns c =
     let at-loop-test = c in
     let at-loop = at-loop-test .before in
-    let start = at-loop .before in
-    zeros-done (start .args .bytes .now) (eqb (at-loop .loop .any) 0) (at-loop .loop .i) (at-loop .loop .inv .0) (at-loop-test .loop-test .left) (at-loop .loop .inv .1)
+    zeros-done (at-loop .before .args .bytes .now) (eqb (at-loop .loop .any) 0) (at-loop .loop .i) (at-loop .loop .inv .0) (at-loop-test .loop-test .left) (at-loop .loop .inv .1)
 
 pub all-zero-spec : {M : Type 1} → statement M
 all-zero-spec =
     tie.close
-    (tie.spec Inv-loop μ-loop loop-holds (λ c. search needs) (λ c. search needs) (λ c. search needs) loop-again returns)
+    (tie.spec Inv-loop μ-loop (λ c. (search needs, refl)) (λ c. search needs) (λ c. search needs) (λ c. search needs) loop-again returns)

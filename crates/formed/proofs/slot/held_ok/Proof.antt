@@ -37,8 +37,7 @@ returns-3 : tie.Need-returns-3
 returns-3 c =
     let at-if3 = c in
     let at-key-chunk = at-if3 .before in
-    let at-key-entry = at-key-chunk .before .before .before .before in
-    let start = at-key-entry .before .before .before in
+    let start = at-key-chunk .before .before .before .before .before .before .before in
     refute _ (λ h. let z = at-if3 .if3 .taken in let k = at-key-chunk .key-chunk .ensures in let p = held-means (start .args .entries .now) (start .args .k) (start .args .chunk .now) h .1 in omega arith)
 
 returns-4 : tie.Need-returns-4

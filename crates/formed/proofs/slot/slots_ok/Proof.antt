@@ -18,9 +18,6 @@ Inv-loop entries holders bytes s₀ s = (s ≤ length holders) × (all (slotAt e
 abbrev μ-loop : tie.MeasureT-loop
 μ-loop entries holders bytes s₀ s = length holders - s
 
-loop-holds : tie.Need-loop-holds Inv-loop μ-loop
-loop-holds c = (search needs, all-none _)
-
 returns : tie.Need-returns Inv-loop μ-loop
 returns c =
     let at-if1 = c in
@@ -50,7 +47,7 @@ slots-ok-spec =
     (tie.spec
     Inv-loop
     μ-loop
-    loop-holds
+    (λ c. (search needs, all-none _))
     (λ c. search needs) (λ c. search needs) (λ c. search needs) (λ c. search needs) (λ c. search needs) (λ c. search needs) (λ c. search needs) (λ c κs. search needs)
     returns
     (λ c. search needs) (λ c. search needs)

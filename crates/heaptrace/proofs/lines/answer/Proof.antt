@@ -1,10 +1,11 @@
-use Rattle.heaptrace.proofs.Tells.{trace-at}
+use Rattle.trace_calls.proofs.Tells.{trace-at}
 use Rattle.heaptrace.proofs.Gathering.{roomy-bounded, same-run, same-held, next-place}
 use Rattle.store.specs.Mem.{mem}
-use Rattle.heaptrace.specs.Bounds.{Bounded, Space}
+use Rattle.heaptrace.specs.Bounds.{Bounded}
+use Rattle.trace_calls.specs.Space.{Space}
 use mathlib.Core.List.{[], _∷_}
-use Rattle.trace.proofs.Numerals.{reply-length}
-use Rattle.trace.specs.Text.{replyOf, textOf}
+use Rattle.trace_text.proofs.Numerals.{reply-length}
+use Rattle.trace_text.specs.Text.{replyOf, textOf}
 use mathlib.Core.Path.{_≡_, refl}
 use native.Mathlib.Omega.{arith}
 use lib.ListN.{length, length-append}
@@ -37,7 +38,7 @@ returns c =
     let q = at-put-reply .put-reply .ensures .place in (
       (omega arith, omega (arith, at-roomy .roomy .ensures .1, length-append (textOf (replyOf (at-take .take .result .reply))) (10 ∷ []), reply-length (replyOf (at-take .take .result .reply)))),
       record {
-        told = replyOf (at-take .take .result .reply);
+        reply = replyOf (at-take .take .result .reply);
         tells = trace-at (at-roomy .roomy .result .run) (start .args .state .run) (at-take .take .result .run) (mem (start .args .bytes .now) (start .args .keys .now) (start .args .order .now) (start .args .words .now)) (mem (at-take .take .last .0) (at-take .take .last .1 .0) (at-take .take .last .1 .1 .0) (at-take .take .last .1 .1 .1 .0)) (replyOf (at-take .take .result .reply)) (start .args .line .now) (at-roomy .roomy .result .held) (start .args .state .held) (same-run (start .args .state) (at-roomy .roomy .result) (at-roomy .roomy .ensures .0)) (same-held (start .args .state) (at-roomy .roomy .result) (at-roomy .roomy .ensures .0)) (at-take .take .ensures);
         at = at-roomy .roomy .result .out;
         after = next-place (start .args .state) (at-roomy .roomy .result) (at-roomy .roomy .ensures .0);

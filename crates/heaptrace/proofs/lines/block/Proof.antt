@@ -1,6 +1,7 @@
 use Rattle.heaptrace.proofs.Gathering.{roomy-bounded}
 use mathlib.Core.Logic.{inr}
-use Rattle.heaptrace.specs.Bounds.{Bounded, Space}
+use Rattle.heaptrace.specs.Bounds.{Bounded}
+use Rattle.trace_calls.specs.Space.{Space}
 use Prim.Native.Nat.{_-_}
 use mathlib.Core.Path.{_≡_, sym, _∙_}
 use native.Mathlib.Omega.{arith}
@@ -14,11 +15,6 @@ Inv-loop bytes₀ keys₀ order₀ words₀ line₀ output₀ input s₀ i₀ by
 abbrev μ-loop : tie.MeasureT-loop
 μ-loop bytes₀ keys₀ order₀ words₀ line₀ output₀ input s₀ i₀ bytes keys order words line output s i = length input - i
 
-loop-holds : tie.Need-loop-holds Inv-loop μ-loop
-loop-holds c =
-    let start = c .before .before .before .before .before .before .before in
-    start .pre
-
 turn-requires : tie.Need-turn-requires Inv-loop μ-loop
 turn-requires c κs =
     let at-loop-test = c .before .before .before .before .before .before in
@@ -28,8 +24,7 @@ turn-requires c κs =
 loop-less : tie.Need-loop-less Inv-loop μ-loop
 loop-less c =
     let at-turn = c .before .before .before .before .before .before .before .before .before .before .before .before .before in
-    let at-loop-test = at-turn .before .before .before .before .before .before .before in
-    omega (arith, at-turn .turn .ensures .1, at-loop-test .loop-test .taken)
+    omega (arith, at-turn .turn .ensures .1, at-turn .before .before .before .before .before .before .before .loop-test .taken)
 
 loop-again : tie.Need-loop-again Inv-loop μ-loop
 loop-again c =
@@ -90,7 +85,7 @@ block-spec =
     (tie.spec
     Inv-loop
     μ-loop
-    loop-holds
+    (λ c. c .before .before .before .before .before .before .before .pre)
     turn-requires
     loop-less
     loop-again

@@ -19,11 +19,6 @@ loop-holds c =
     let start = c in
     (omega arith, refl, omega arith, omega arith, gather-start (start .args .line .now) (start .args .piece .now) (start .args .held))
 
-same-length : tie.Need-same-length Inv-loop μ-loop
-same-length c =
-    let at-loop = c .before .before in
-    at-loop .loop .inv .1
-
 returns : tie.Need-returns Inv-loop μ-loop
 returns c =
     let at-if1 = c in
@@ -50,11 +45,6 @@ loop-again c =
     let u = at-if1 .if1 .left in
     (omega arith, simp length-set e, omega arith, omega arith, gather-more (start .args .line .now) (at-loop .loop .line) (start .args .piece .now) (start .args .held) (at-loop .loop .n) (at-loop .loop .i) (omega arith) t (at-loop .loop .inv .4))
 
-same-length-2 : tie.Need-same-length-2 Inv-loop μ-loop
-same-length-2 c =
-    let at-loop = c .before in
-    at-loop .loop .inv .1
-
 returns-2 : tie.Need-returns-2 Inv-loop μ-loop
 returns-2 c =
     let at-loop-test = c in
@@ -69,11 +59,11 @@ gather-spec =
     Inv-loop
     μ-loop
     loop-holds
-    same-length
+    (λ c. c .before .before .loop .inv .1)
     returns
     (λ c. search needs)
     slice-write-line
     (λ c. search needs) (λ c. search needs) (λ c. search needs)
     loop-again
-    same-length-2
+    (λ c. c .before .loop .inv .1)
     returns-2)

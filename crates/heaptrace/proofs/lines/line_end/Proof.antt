@@ -13,9 +13,6 @@ Inv-loop input from i₀ i = (from ≤ i) × (i ≤ length input) × ((k : ℕ) 
 abbrev μ-loop : tie.MeasureT-loop
 μ-loop input from i₀ i = length input - i
 
-loop-holds : tie.Need-loop-holds Inv-loop μ-loop
-loop-holds c = (omega arith, omega arith, λ k a b e. omega arith)
-
 returns : tie.Need-returns Inv-loop μ-loop
 returns c =
     let at-if1 = c in
@@ -41,7 +38,7 @@ line-end-spec =
     (tie.spec
     Inv-loop
     μ-loop
-    loop-holds
+    (λ c. (omega arith, omega arith, λ k a b e. omega arith))
     (λ c. search needs)
     returns
     (λ c. search needs) (λ c. omega arith)

@@ -11,10 +11,5 @@ returns c =
     let at-flush = c in
     let e : at-flush .flush .result .out ≡ 0 = ap (λ (x : State). x .out) (at-flush .flush .ensures) in (inr (at-flush .flush .ensures), omega arith)
 
-returns-2 : tie.Need-returns-2
-returns-2 c =
-    let at-if1 = c in
-    (inl refl, at-if1 .if1 .left)
-
 pub roomy-spec : {M : Type 1} → statement M
-roomy-spec = tie.close (tie.spec (λ c κs. search needs) returns returns-2)
+roomy-spec = tie.close (tie.spec (λ c κs. search needs) returns (λ c. (inl refl, c .if1 .left)))

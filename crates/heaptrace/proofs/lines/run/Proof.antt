@@ -1,4 +1,5 @@
-use Rattle.heaptrace.specs.Bounds.{Bounded, Space}
+use Rattle.heaptrace.specs.Bounds.{Bounded}
+use Rattle.trace_calls.specs.Space.{Space}
 use borrow.Author.Needs.{needs}
 use mathlib.Core.Path.{_≡_, refl, sym, _∙_}
 use lib.ListN.{length}
@@ -21,11 +22,6 @@ block-requires : tie.Need-block-requires Inv-loop μ-loop
 block-requires c κs =
     let at-loop = c .before .before .before .before .before .before .before .before .before .before .before .before .before in
     (at-loop .loop .inv .0, at-loop .loop .inv .1, at-loop .loop .inv .2, at-loop .loop .inv .3)
-
-loop-less : tie.Need-loop-less Inv-loop μ-loop
-loop-less c =
-    let at-reads-after = c in
-    at-reads-after .reads-after .ensures
 
 loop-again : tie.Need-loop-again Inv-loop μ-loop
 loop-again c =
@@ -75,8 +71,7 @@ same-length-5 c =
 
 same-length-6 : tie.Need-same-length-6 Inv-loop μ-loop
 same-length-6 c =
-    let at-loop = c .before .before .before .before .before .before .before .before .before .before .before .before .before .before .before .before .before .before in
-    at-loop .loop .inv .4
+    c .before .before .before .before .before .before .before .before .before .before .before .before .before .before .before .before .before .before .loop .inv .4
 
 same-length-7 : tie.Need-same-length-7 Inv-loop μ-loop
 same-length-7 c =
@@ -96,7 +91,7 @@ run-spec =
     (λ c κs. search needs) (λ c. search needs) (λ c. search needs) (λ c. search needs)
     block-requires
     (λ c κs. search needs)
-    loop-less
+    (λ c. c .reads-after .ensures)
     loop-again
     finish-requires
     same-length

@@ -11,8 +11,7 @@ abbrev μ-loop : tie.MeasureT-loop
 
 next-number-requires : tie.Need-next-number-requires Inv-loop μ-loop
 next-number-requires c κs =
-    let at-loop-test = c .before .before .before .before .before .before .before .before .before .before .before .before .before in
-    at-loop-test .loop-test .taken
+    c .before .before .before .before .before .before .before .before .before .before .before .before .before .loop-test .taken
 
 pub replay-spec : {M : Type 1} → statement M
 replay-spec =

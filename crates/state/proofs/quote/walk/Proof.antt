@@ -15,9 +15,6 @@ Inv-loop list gas bound left₀ reached₀ i₀ left reached i = (i ≤ length l
 abbrev μ-loop : tie.MeasureT-loop
 μ-loop list gas bound left₀ reached₀ i₀ left reached i = length list - i
 
-loop-holds : tie.Need-loop-holds Inv-loop μ-loop
-loop-holds c = (omega arith, (omega arith, refl))
-
 sub-t13 : tie.Need-sub-t13 Inv-loop μ-loop
 sub-t13 c =
     let at-access = c .before .before in
@@ -71,7 +68,7 @@ walk-spec =
     (tie.spec
     Inv-loop
     μ-loop
-    loop-holds
+    (λ c. (omega arith, (omega arith, refl)))
     (λ c. search needs) (λ c. search needs) (λ c κs. search needs)
     sub-t13
     cast-t14

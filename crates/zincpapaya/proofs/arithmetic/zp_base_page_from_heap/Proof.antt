@@ -7,14 +7,12 @@ use Rattle.zincpapaya.proofs.arithmetic.zp_base_page_from_heap.Tie as t
 give-base-requires : tie.Need-give-base-requires
 give-base-requires c κs =
     let at-base-page-from-heap = c in
-    let start = at-base-page-from-heap .before .before .before in
-    difference-nonzero (start .args .heap) 2 (at-base-page-from-heap .base-page-from-heap .ensures)
+    difference-nonzero (at-base-page-from-heap .before .before .before .args .heap) 2 (at-base-page-from-heap .base-page-from-heap .ensures)
 
 returns : tie.Need-returns
 returns c =
     let at-give-base = c .before .before in
-    let at-base-page-from-heap = at-give-base .before in
-    gives-same (at-give-base .give-base .ensures) (at-base-page-from-heap .base-page-from-heap .ensures)
+    gives-same (at-give-base .give-base .ensures) (at-give-base .before .base-page-from-heap .ensures)
 
 pub zp-base-page-from-heap-spec : {M : Type 1} → statement M
 zp-base-page-from-heap-spec = tie.close (tie.spec (λ c κs. tt) give-base-requires (λ c. search needs) returns)

@@ -9,8 +9,7 @@ returns : tie.Need-returns
 returns c =
     let at-give-number = c .before .before in
     let at-wide = at-give-number .before in
-    let at-code-page-from-base = at-wide .before .before in
-    value-given one refl (at-wide .wide .ensures ∙ at-code-page-from-base .code-page-from-base .ensures) (at-give-number .give-number .ensures)
+    value-given one refl (at-wide .wide .ensures ∙ at-wide .before .before .code-page-from-base .ensures) (at-give-number .give-number .ensures)
 
 pub zp-code-page-from-base-spec : {M : Type 1} → statement M
 zp-code-page-from-base-spec = tie.close (tie.spec (λ c κs. tt) (λ c κs. tt) (λ c κs. tt) (λ c. search needs) returns)

@@ -13,16 +13,14 @@ give-decoding-requires : tie.Need-give-decoding-requires
 give-decoding-requires c κs =
     let at-decode = c in
     let at-layout-of = at-decode .before .before in
-    let start = at-layout-of .before .before in
-    decoding-nonzero (at-layout-of .layout-of .result) (start .args .page) (at-decode .decode .ensures)
+    decoding-nonzero (at-layout-of .layout-of .result) (at-layout-of .before .before .args .page) (at-decode .decode .ensures)
 
 returns : tie.Need-returns
 returns c =
     let at-give-decoding = c .before .before in
     let at-decode = at-give-decoding .before in
     let at-layout-of = at-decode .before .before in
-    let start = at-layout-of .before .before in
-    gives-same (at-give-decoding .give-decoding .ensures) (ap (mapped pageNumbers) (at-decode .decode .ensures ∙ ap (λ (l : Layout). decoding l (start .args .page)) (at-layout-of .layout-of .ensures)))
+    gives-same (at-give-decoding .give-decoding .ensures) (ap (mapped pageNumbers) (at-decode .decode .ensures ∙ ap (λ (l : Layout). decoding l (at-layout-of .before .before .args .page)) (at-layout-of .layout-of .ensures)))
 
 pub zp-decode-spec : {M : Type 1} → statement M
 zp-decode-spec = tie.close (tie.spec (λ c κs. tt) (λ c κs. tt) give-decoding-requires (λ c. search needs) returns)

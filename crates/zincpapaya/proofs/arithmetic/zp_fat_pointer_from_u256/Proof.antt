@@ -10,8 +10,7 @@ returns : tie.Need-returns
 returns c =
     let at-give-pointer = c .before .before in
     let at-from-u256 = at-give-pointer .before in
-    let at-word-of = at-from-u256 .before .before in
-    gives-same (at-give-pointer .give-pointer .ensures) (ap done (at-from-u256 .from-u256 .ensures ∙ ap pointerOf (at-word-of .word-of .ensures)))
+    gives-same (at-give-pointer .give-pointer .ensures) (ap done (at-from-u256 .from-u256 .ensures ∙ ap pointerOf (at-from-u256 .before .before .word-of .ensures)))
 
 pub zp-fat-pointer-from-u256-spec : {M : Type 1} → statement M
 zp-fat-pointer-from-u256-spec = tie.close (tie.spec (λ c κs. tt) (λ c κs. tt) (λ c κs. tt) (λ c. search needs) returns)

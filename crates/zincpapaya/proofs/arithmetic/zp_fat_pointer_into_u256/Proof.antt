@@ -8,8 +8,7 @@ use Rattle.zincpapaya.proofs.arithmetic.zp_fat_pointer_into_u256.Tie as
 returns : tie.Need-returns
 returns c =
     let at-give-word = c .before .before in
-    let at-into-u256 = at-give-word .before in
-    gives-same (at-give-word .give-word .ensures) (ap done (at-into-u256 .into-u256 .ensures))
+    gives-same (at-give-word .give-word .ensures) (ap done (at-give-word .before .into-u256 .ensures))
 
 pub zp-fat-pointer-into-u256-spec : {M : Type 1} → statement M
 zp-fat-pointer-into-u256-spec = tie.close (tie.spec (λ c κs. tt) (λ c κs. tt) (λ c. search needs) returns)

@@ -1,6 +1,6 @@
 use mathlib.Core.Path.{_∙_}
 use Rattle.state.specs.Access.{frameGrown}
-use Rattle.reads.proofs.Answers.{passed, failed}
+use Rattle.index.proofs.Logic.{passed, failed}
 use Rattle.abi.proofs.Executing.{lengths, grow-unfit, grows}
 use borrow.Author.Needs.{needs}
 use Rattle.zincpapaya.proofs.arithmetic.zp_grow_heap.Statement.{statement}
@@ -9,8 +9,7 @@ use Rattle.zincpapaya.proofs.arithmetic.zp_grow_heap.Tie as tie
 returns : tie.Need-returns
 returns c =
     let at-if1 = c in
-    let at-lengths-fit = at-if1 .before in
-    grow-unfit (failed (at-lengths-fit .lengths-fit .ensures) (at-if1 .if1 .taken))
+    grow-unfit (failed (at-if1 .before .lengths-fit .ensures) (at-if1 .if1 .taken))
 
 frame-of-requires : tie.Need-frame-of-requires
 frame-of-requires c κs =
@@ -37,8 +36,7 @@ returns-2 c =
     let at-frame-of = at-area-of .before in
     let at-if1 = at-frame-of .before .before in
     let at-lengths-fit = at-if1 .before in
-    let start = at-lengths-fit .before .before .before .before .before in
-    grows (passed (at-lengths-fit .lengths-fit .ensures) (at-if1 .if1 .left)) (at-grow-frame .grow-frame .ensures ∙ (λ i. frameGrown (at-frame-of .frame-of .ensures i) (at-area-of .area-of .ensures i) (start .args .new-bound))) (at-put-growth .put-growth .ensures) (at-give-number .give-number .ensures) (at-wide .wide .ensures ∙ at-bit .bit .ensures)
+    grows (passed (at-lengths-fit .lengths-fit .ensures) (at-if1 .if1 .left)) (at-grow-frame .grow-frame .ensures ∙ (λ i. frameGrown (at-frame-of .frame-of .ensures i) (at-area-of .area-of .ensures i) (at-lengths-fit .before .before .before .before .before .args .new-bound))) (at-put-growth .put-growth .ensures) (at-give-number .give-number .ensures) (at-wide .wide .ensures ∙ at-bit .bit .ensures)
 
 pub zp-grow-heap-spec : {M : Type 1} → statement M
 zp-grow-heap-spec = tie.close (tie.spec (λ c κs. tt) (λ c. search needs) (λ c. search needs) returns frame-of-requires (λ c κs. tt) (λ c κs. tt) put-growth-requires (λ c κs. tt) (λ c κs. tt) (λ c κs. tt) (λ c. search needs) (λ c. search needs) returns-2)

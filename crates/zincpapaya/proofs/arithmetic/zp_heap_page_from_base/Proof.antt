@@ -7,14 +7,12 @@ use Rattle.zincpapaya.proofs.arithmetic.zp_heap_page_from_base.Tie as t
 give-page-requires : tie.Need-give-page-requires
 give-page-requires c κs =
     let at-heap-page-from-base = c in
-    let start = at-heap-page-from-base .before .before .before in
-    sum-nonzero (start .args .base) 2 (at-heap-page-from-base .heap-page-from-base .ensures)
+    sum-nonzero (at-heap-page-from-base .before .before .before .args .base) 2 (at-heap-page-from-base .heap-page-from-base .ensures)
 
 returns : tie.Need-returns
 returns c =
     let at-give-page = c .before .before in
-    let at-heap-page-from-base = at-give-page .before in
-    gives-same (at-give-page .give-page .ensures) (at-heap-page-from-base .heap-page-from-base .ensures)
+    gives-same (at-give-page .give-page .ensures) (at-give-page .before .heap-page-from-base .ensures)
 
 pub zp-heap-page-from-base-spec : {M : Type 1} → statement M
 zp-heap-page-from-base-spec = tie.close (tie.spec (λ c κs. tt) give-page-requires (λ c. search needs) returns)

@@ -13,8 +13,7 @@ give-base-requires c κs =
 returns : tie.Need-returns
 returns c =
     let at-give-base = c .before .before in
-    let at-next-page-group = at-give-base .before in
-    gives-same (at-give-base .give-base .ensures) (at-next-page-group .next-page-group .ensures)
+    gives-same (at-give-base .give-base .ensures) (at-give-base .before .next-page-group .ensures)
 
 pub zp-next-page-group-spec : {M : Type 1} → statement M
 zp-next-page-group-spec = tie.close (tie.spec (λ c κs. tt) give-base-requires (λ c. search needs) returns)

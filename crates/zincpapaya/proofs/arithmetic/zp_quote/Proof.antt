@@ -16,8 +16,7 @@ give-quote-requires c κs =
 returns : tie.Need-returns
 returns c =
     let at-give-quote = c .before .before in
-    let at-quote = at-give-quote .before in
-    gives-same (at-give-quote .give-quote .ensures) (ap (mapped endNumbers) (at-quote .quote .ensures))
+    gives-same (at-give-quote .give-quote .ensures) (ap (mapped endNumbers) (at-give-quote .before .quote .ensures))
 
 pub zp-quote-spec : {M : Type 1} → statement M
 zp-quote-spec = tie.close (tie.spec (λ c κs. tt) give-quote-requires (λ c. search needs) returns)

@@ -13,8 +13,7 @@ returns c =
     let at-wide2 = at-give-pair .before in
     let at-bit = at-wide2 .before in
     let at-wide = at-bit .before in
-    let at-use-gas = at-wide .before .before in
-    gives-same (at-give-pair .give-pair .ensures) (ap done (pair-is (at-wide .wide .ensures) (at-wide2 .wide2 .ensures ∙ at-bit .bit .ensures) ∙ ap gasNumbers (at-use-gas .use-gas .ensures)))
+    gives-same (at-give-pair .give-pair .ensures) (ap done (pair-is (at-wide .wide .ensures) (at-wide2 .wide2 .ensures ∙ at-bit .bit .ensures) ∙ ap gasNumbers (at-wide .before .before .use-gas .ensures)))
 
 pub zp-use-gas-spec : {M : Type 1} → statement M
 zp-use-gas-spec = tie.close (tie.spec (λ c κs. tt) (λ c κs. tt) (λ c κs. tt) (λ c κs. tt) (λ c κs. tt) (λ c. search needs) returns)

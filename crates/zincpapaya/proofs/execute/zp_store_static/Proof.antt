@@ -1,4 +1,4 @@
-use Rattle.reads.proofs.Answers.{passed, failed}
+use Rattle.index.proofs.Logic.{passed, failed}
 use Rattle.abi.proofs.Executing.{lengths, unfit, executes, store-static, static-store-is}
 use borrow.Author.Needs.{needs}
 use Rattle.zincpapaya.proofs.execute.zp_store_static.Statement.{statement}
@@ -7,8 +7,7 @@ use Rattle.zincpapaya.proofs.execute.zp_store_static.Tie as tie
 returns : tie.Need-returns
 returns c =
     let at-if1 = c in
-    let at-lengths-fit = at-if1 .before in
-    unfit (failed (at-lengths-fit .lengths-fit .ensures) (at-if1 .if1 .taken))
+    unfit (failed (at-if1 .before .lengths-fit .ensures) (at-if1 .if1 .taken))
 
 frame-of-requires : tie.Need-frame-of-requires
 frame-of-requires c κs =
@@ -32,8 +31,7 @@ returns-2 c =
     let at-operand-of = at-word-of .before in
     let at-frame-of = at-operand-of .before in
     let at-if1 = at-frame-of .before .before in
-    let at-lengths-fit = at-if1 .before in
-    executes (passed (at-lengths-fit .lengths-fit .ensures) (at-if1 .if1 .left)) store-static (static-store-is (at-frame-of .frame-of .ensures) (at-operand-of .operand-of .ensures) (at-word-of .word-of .ensures)) (at-store-static .store-static .result) (at-store-static .store-static .ensures .does) (at-report .report .ensures)
+    executes (passed (at-if1 .before .lengths-fit .ensures) (at-if1 .if1 .left)) store-static (static-store-is (at-frame-of .frame-of .ensures) (at-operand-of .operand-of .ensures) (at-word-of .word-of .ensures)) (at-store-static .store-static .result) (at-store-static .store-static .ensures .does) (at-report .report .ensures)
 
 pub zp-store-static-spec : {M : Type 1} → statement M
 zp-store-static-spec = tie.close (tie.spec (λ c κs. tt) (λ c. search needs) (λ c. search needs) returns frame-of-requires (λ c κs. tt) (λ c κs. tt) (λ c κs. tt) report-requires (λ c. search needs) (λ c. search needs) (λ c. search needs) (λ c. search needs) (λ c. search needs) (λ c. search needs) returns-2)

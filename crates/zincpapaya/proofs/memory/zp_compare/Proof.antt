@@ -14,8 +14,7 @@ give-verdict-requires c κs =
 returns : tie.Need-returns
 returns c =
     let at-give-verdict = c .before .before in
-    let at-compare = at-give-verdict .before .before in
-    gives-same (at-give-verdict .give-verdict .ensures) (at-compare .compare .ensures)
+    gives-same (at-give-verdict .give-verdict .ensures) (at-give-verdict .before .before .compare .ensures)
 
 pub zp-compare-spec : {M : Type 1} → statement M
 zp-compare-spec = tie.close (tie.spec (λ c κs. search needs) give-verdict-requires (λ c. search needs) returns)

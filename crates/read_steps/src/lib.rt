@@ -1,0 +1,207 @@
+// What the reads of a well-formed memory are made of.
+ghost use mathlib.Core.Path.{_≡_};
+ghost use mathlib.Core.Bool.{true};
+ghost use mathlib.Core.List.{List};
+ghost use Prim.Native.Nat.{ℕ, _+_, _*_, _%_, _<_, _≤_};
+ghost use lib.ListN.{length};
+ghost use Rattle.store.specs.Mem.{mem};
+ghost use Rattle.store.specs.Find.{Findable};
+ghost use Rattle.formed.specs.Parts.{slotOfChunk, byteAt};
+ghost use Rattle.formed.specs.Formed.{zeros};
+ghost use Rattle.formed.specs.WellFormed.{WellFormed};
+ghost use Rattle.view.specs.View.{viewOf};
+ghost use Rattle.view.specs.Steps.{run, padded};
+ghost use Rattle.read_steps.specs.Reading.{Put};
+use page_ids::Address;
+use page_ids::PageId;
+use store::head;
+
+// The lesser of two numbers above 0.
+fn least(a: usize, b: usize) -> usize
+    requires { ⌜ (0 < a) × (0 < b) ⌝ }
+    ensures { λ r. ⌜ (0 < r) × (r ≤ a) × (r ≤ b) ⌝ }
+{
+    if a < b {
+        return a;
+    }
+    b
+}
+
+// Puts n zeros to `out` from `to` on.
+pub fn fill(out: &mut [u8], to: usize, n: usize)
+    requires { ⌜ to + n ≤ length (now out) ⌝ }
+    ensures { λ _. ⌜ Put (λ i. 0) to n (now (out .entry)) (now (out .exit)) ⌝ }
+{
+    let mut i = 0;
+    while i < n {
+        out[to + i] = 0;
+        i += 1;
+    }
+}
+
+// The slot of chunk k of a page, or the number of slots where none holds it; no byte bears on it.
+fn slot_at(keys: &[u64], order: &[u32], words: &[u64], page: PageId, k: usize) -> usize
+    requires { ⌜ Findable (now keys) (now order) (now words) ⌝ }
+    ensures { λ r. ⌜ ((b : List ℕ) → r ≡ slotOfChunk (mem b (now (keys .entry)) (now (order .entry)) (now (words .entry))) (page .0) k) ⌝ }
+{
+    if k > store::LAST_CHUNK as usize {
+        return words[head::CHUNKS] as usize;
+    }
+    store::place_of(keys, order, words, page, k as u32)
+}
+
+// Reads n bytes of a page from address a on, which lie in one chunk, to `out` from `to` on.
+fn read_part(
+    bytes: &[u8],
+    keys: &[u64],
+    order: &[u32],
+    words: &[u64],
+    page: PageId,
+    a: usize,
+    n: usize,
+    out: &mut [u8],
+    to: usize,
+)
+    requires { ⌜ WellFormed (mem (now bytes) (now keys) (now order) (now words)) ⌝ }
+    requires { ⌜ (a % 256 + n ≤ 256) × (to + n ≤ length (now out)) ⌝ }
+    ensures { λ _. ⌜ Put (λ i. byteAt (mem (now (bytes .entry)) (now (keys .entry)) (now (order .entry)) (now (words .entry))) (page .0) (a + i)) to n (now (out .entry)) (now (out .exit)) ⌝ }
+{
+    let s = slot_at(keys, order, words, page, a / 256);
+    if s >= words[head::CHUNKS] as usize {
+        fill(out, to, n);
+        return;
+    }
+    bodies::copy(bytes, 256 * s + a % 256, out, to, n);
+}
+
+// Reads the bytes from `start` on, as many as `out` has.
+pub fn read_into(
+    bytes: &[u8],
+    keys: &[u64],
+    order: &[u32],
+    words: &[u64],
+    page: PageId,
+    start: Address,
+    out: &mut [u8],
+)
+    requires { ⌜ WellFormed (mem (now bytes) (now keys) (now order) (now words)) ⌝ }
+    requires { ⌜ length (now out) ≤ 4294967296 ⌝ }
+    ensures { λ _. ⌜ now (out .exit) ≡ run (viewOf (mem (now (bytes .entry)) (now (keys .entry)) (now (order .entry)) (now (words .entry)))) (page .0) (start .0) (length (now (out .entry))) ⌝ }
+{
+    let mut pos: usize = 0;
+    while pos < out.len() {
+        let a = start.0 as usize + pos;
+        let n = least(256 - a % 256, out.len() - pos);
+        read_part(bytes, keys, order, words, page, a, n, out, pos);
+        pos += n;
+    }
+}
+
+// Reads 32 bytes: from the slots that hints know, or else by search.
+pub fn read_word(
+    bytes: &[u8],
+    keys: &[u64],
+    order: &[u32],
+    words: &[u64],
+    page: PageId,
+    address: Address,
+) -> [u8; 32]
+    requires { ⌜ WellFormed (mem (now bytes) (now keys) (now order) (now words)) ⌝ }
+    ensures { λ r. ⌜ r ≡ run (viewOf (mem (now (bytes .entry)) (now (keys .entry)) (now (order .entry)) (now (words .entry)))) (page .0) (address .0) 32 ⌝ }
+{
+    let c = words[head::CHUNKS] as usize;
+    let s = store::hinted(keys, order, words, page, address.0 / 256);
+    if s < c {
+        let t = store::hinted_last(keys, order, words, page, address, s);
+        if t < c {
+            return bodies::word_in(bytes, s, t, (address.0 % 256) as usize);
+        }
+    }
+    search_word(bytes, keys, order, words, page, address)
+}
+
+// The same in one or two parts, each looked up by itself; a part of which no chunk is held is zero.
+fn search_word(
+    bytes: &[u8],
+    keys: &[u64],
+    order: &[u32],
+    words: &[u64],
+    page: PageId,
+    address: Address,
+) -> [u8; 32]
+    requires { ⌜ WellFormed (mem (now bytes) (now keys) (now order) (now words)) ⌝ }
+    ensures { λ r. ⌜ r ≡ run (viewOf (mem (now (bytes .entry)) (now (keys .entry)) (now (order .entry)) (now (words .entry)))) (page .0) (address .0) 32 ⌝ }
+{
+    let mut out = [0u8; 32];
+    let a = address.0 as usize;
+    let r = a % 256;
+    if r <= 224 {
+        read_part(bytes, keys, order, words, page, a, 32, &mut out, 0);
+        return out;
+    }
+    let n = 256 - r;
+    read_part(bytes, keys, order, words, page, a, n, &mut out, 0);
+    read_part(bytes, keys, order, words, page, a + n, 32 - n, &mut out, n);
+    out
+}
+
+// The 256 bytes of a chunk: a part of `bytes`, or the block of zeros where no slot holds the chunk.
+pub fn chunk_of<'a>(
+    bytes: &'a [u8],
+    keys: &[u64],
+    order: &[u32],
+    words: &[u64],
+    page: PageId,
+    number: u32,
+    block: &'a [u8],
+) -> &'a [u8]
+    requires { ⌜ WellFormed (mem (now bytes) (now keys) (now order) (now words)) ⌝ }
+    requires { ⌜ (length (now block) ≡ 256) × (zeros (now block) ≡ true) ⌝ }
+    ensures { λ r. ⌜ now r ≡ run (viewOf (mem (now (bytes .entry)) (now (keys .entry)) (now (order .entry)) (now (words .entry)))) (page .0) (256 * number) 256 ⌝ }
+{
+    let s = slot_at(keys, order, words, page, number as usize);
+    if s >= words[head::CHUNKS] as usize {
+        return block;
+    }
+    let at = 256 * s;
+    let end = at + 256;
+    &bytes[at..end]
+}
+
+// The n bytes from `start` on, and zeros after them.
+pub fn read_padded(
+    bytes: &[u8],
+    keys: &[u64],
+    order: &[u32],
+    words: &[u64],
+    page: PageId,
+    start: Address,
+    n: usize,
+) -> [u8; 32]
+    requires { ⌜ WellFormed (mem (now bytes) (now keys) (now order) (now words)) ⌝ }
+    requires { ⌜ n ≤ 32 ⌝ }
+    ensures { λ r. ⌜ r ≡ padded (run (viewOf (mem (now (bytes .entry)) (now (keys .entry)) (now (order .entry)) (now (words .entry)))) (page .0) (start .0) n) ⌝ }
+{
+    let mut out = [0u8; 32];
+    read_into(bytes, keys, order, words, page, start, &mut out[0..n]);
+    out
+}
+
+// The byte at an address.
+pub fn byte_at(
+    bytes: &[u8],
+    keys: &[u64],
+    order: &[u32],
+    words: &[u64],
+    page: PageId,
+    address: Address,
+) -> u8
+    requires { ⌜ WellFormed (mem (now bytes) (now keys) (now order) (now words)) ⌝ }
+    ensures { λ r. ⌜ r ≡ viewOf (mem (now (bytes .entry)) (now (keys .entry)) (now (order .entry)) (now (words .entry))) .bytes (page .0) (address .0) ⌝ }
+{
+    let s = slot_at(keys, order, words, page, (address.0 / 256) as usize);
+    if s >= words[head::CHUNKS] as usize {
+        return 0;
+    }
+    bytes[256 * s + (address.0 % 256) as usize]
+}

@@ -1,0 +1,265 @@
+-- The steps of a write, one after another.
+-- Assumes nothing.
+use mathlib.Core.Path.{_≡_, refl, sym, ap, _∙_, subst}
+use mathlib.Core.Bool.{Bool, true, false, _&&_, _||_, false≢true}
+use mathlib.Core.List.{List, [], _∷_}
+use Prim.Native.Nat.{ℕ, zero, suc, _+_, _*_, _-_, _/_, _^_, _<_, _≤_}
+use native.Mathlib.Omega.{arith}
+use lib.Dec.{ltb, leb}
+use lib.ListN.{length}
+use borrow.Author.Tests.{lt-ltb, le-leb, eq-eqb}
+use Rattle.view.proofs.Missing.{missing-same}
+use Rattle.view.specs.Calls.{firstRefusal}
+use Rattle.word.specs.Value.{wordBytes}
+use Rattle.page_ids.specs.declared.Layout.{Layout}
+use Rattle.store.specs.Keys.{lastChunk}
+use Rattle.store.specs.Mem.{Mem, layoutOf, journalWords, holders}
+use Rattle.formed.specs.Pages.{journalCount, journalPlace, journalPage}
+use Rattle.formed.proofs.Sense.{unlisted-holds}
+use Rattle.formed.proofs.Same.{tab-same}
+use Rattle.formed.specs.Parts.{Note}
+use Rattle.formed.specs.WellFormed.{WellFormed}
+use Rattle.formed.proofs.Pages.{is-fixed, place-lt}
+use Rattle.view.specs.View.{View, Setting, settingOf, viewOf}
+use Rattle.view.specs.Steps.{run, needs, missing, touchedCount, alignedCount, wordNotes, alignedNotes, written, wordWritten}
+use Rattle.view.specs.Checks.{undecodable}
+use Rattle.view.specs.Does.{Shows}
+use Rattle.view.specs.Inner.{listing, holding, noting, journalling, putting, ListAsks, HoldAsks, NoteAsks, PutAsks}
+use Rattle.view.proofs.Compose.{over-none, listed-held, listed-pool, listed-journal, written-is, plain-write, own-journal, unjournalled}
+use Rattle.journal.specs.Steps.{AlignedAsks, alignedFrom}
+use Rattle.bodies.proofs.Puts.{shows-then, shows-view}
+use Rattle.write_steps.specs.Asks.{PrepareAsks, JournalAsks}
+use Rattle.index.proofs.Counts.{used-free}
+use Rattle.formed.proofs.Sizes.{holders-long}
+use Rattle.view.specs.Checks.{wordWriteChecks, byteWriteChecks, allocateChecks}
+use Rattle.checks.proofs.Passed.{Room, decodable, word-passed, bytes-passed, allocate-passed}
+
+-- ---- ranges
+-- each byte's chunk is one of those touched
+pub touched-in : (a n x : ℕ) → x < n → (leb (a / 256) ((a + x) / 256) && ltb ((a + x) / 256) (a / 256 + touchedCount a n)) ≡ true
+touched-in a zero x l = absurd (omega arith)
+touched-in a (suc n) x l =
+    rw (le-leb (a / 256) ((a + x) / 256) (omega arith), lt-ltb ((a + x) / 256) (a / 256 + ((a + n) / 256 - a / 256 + 1)) (omega arith)) refl
+
+-- and none lies past the last
+pub touched-top : (a n : ℕ) → a + n ≤ 4294967327 → a / 256 + touchedCount a n ≤ lastChunk + 1
+touched-top a zero l = omega arith
+touched-top a (suc n) l = omega arith
+
+-- ---- the page is allocated, and its chunks held
+module _ (m : Mem) (p k n : ℕ) (asks : PrepareAsks m p k n) where
+  pub list-asks : ListAsks m p
+  list-asks = record { formed = asks .formed; page = asks .page; decodable = asks .decodable; entry = asks .entry }
+
+  module _ (m₁ : Mem) (listed : Shows (settingOf m) (listing m p) m₁) where
+    pub hold-asks : HoldAsks m₁ p k n
+    hold-asks = record {
+      formed = listed .formed;
+      listed = ap (λ (v : View). v .allocated p) (listed .view) ∙ ap (λ (b : Bool). b || viewOf m .allocated p) (eq-eqb p p refl);
+      top = asks .top;
+      room =
+          let e : missing (viewOf m₁ .held p) k n ≡ missing (viewOf m .held p) k n =
+          missing-same (viewOf m₁ .held p) (viewOf m .held p) (λ j. ap (λ (v : View). v .held p j) (listed .view) ∙ listed-held (layoutOf (m .words)) p (viewOf m) p j) k n in
+          let q : viewOf m₁ .pool ≡ viewOf m .pool = ap (λ (v : View). v .pool) (listed .view) ∙ listed-pool (layoutOf (m .words)) p (viewOf m) in
+          let r = asks .room in
+          omega arith;
+    }
+
+    pub prepared : (m₂ : Mem) → Shows (settingOf m₁) (holding p k n (viewOf m₁)) m₂ → Shows (settingOf m) (holding p k n (listing m p)) m₂
+    prepared m₂ held = shows-then (holding p k n) listed held
+
+-- ---- a call that passed its tests: k is the count of chunks that its n bytes at address a touch, as computed
+pub record Cleared (m : Mem) (p a n w k : ℕ) : Type 0 where
+  pub formed : WellFormed m
+  pub page : p ≤ 4294967295
+  pub known : undecodable (settingOf m) p ≡ false
+  pub room : Room (settingOf m) (viewOf m) p a n w
+  pub end : a + n ≤ 4294967327
+  pub count : k ≡ touchedCount a n
+
+module _ (m : Mem) (p a k : ℕ) (page : p ≤ 4294967295) where
+  pub word-cleared : a ≤ 4294967295 → (WellFormed m) × (firstRefusal (wordWriteChecks (settingOf m) (viewOf m) p a) ≡ 0) → k ≡ touchedCount a 32 → (n : ℕ) → n ≡ 32 → Cleared m p a n 1 k
+  word-cleared small asks e n is =
+      let h = word-passed (settingOf m) (viewOf m) p a (asks .1) in
+      subst (λ (x : ℕ). Cleared m p a x 1 k) (sym is) record { formed = asks .0; page = page; known = h .0; room = h .1; end = omega arith; count = e }
+
+  pub bytes-cleared : (n : ℕ) → (WellFormed m) × (firstRefusal (byteWriteChecks (settingOf m) (viewOf m) p a n) ≡ 0) → k ≡ touchedCount a n → Cleared m p a n (alignedCount a n) k
+  bytes-cleared n asks e =
+      let h = bytes-passed (settingOf m) (viewOf m) p a n (asks .1) in
+      let l = h .1 in
+      record { formed = asks .0; page = page; known = h .0; room = h .2; end = omega arith; count = e }
+
+-- contents for which the pool suffices are short: a page that is not allocated holds no chunk
+missing-all : (t : ℕ → Bool) → ((i : ℕ) → t i ≡ false) → (k n : ℕ) → missing t k n ≡ n
+unfolding missing
+missing-all t h k zero = refl
+missing-all t h k (suc n) = rw (missing-all t h k n, h (k + n)) (omega arith)
+
+contents-end : (m : Mem) → WellFormed m → (p n : ℕ) → viewOf m .allocated p ≡ false → needs (viewOf m) p 0 n ≤ viewOf m .pool → 0 + n ≤ 4294967327
+contents-end m f p n new room =
+    let e = missing-all (viewOf m .held p) (λ k. unlisted-holds m f p k new) (0 / 256) (touchedCount 0 n) in
+    let u = used-free (holders m) in
+    let g = holders-long m (f .lengths) in
+    let c = f .lengths .chunks-hi in
+    short n (omega arith)
+  where
+    short : (n : ℕ) → touchedCount 0 n ≤ 65536 → 0 + n ≤ 4294967327
+    short zero l = omega arith
+    short (suc n) l = omega arith
+
+pub contents-cleared : (m : Mem) (p n k : ℕ) → p ≤ 4294967295 → (WellFormed m) × (firstRefusal (allocateChecks (settingOf m) (viewOf m) p n) ≡ 0) → k ≡ touchedCount 0 n → Cleared m p 0 n 0 k
+contents-cleared m p n k page asks e =
+    let h = allocate-passed (settingOf m) (viewOf m) p 0 n (asks .1) in
+    record { formed = asks .0; page = page; known = h .0; room = h .3; end = contents-end m (asks .0) p n (h .2) (h .3 .chunks); count = e }
+
+-- an empty page
+pub allocate-asks : (m : Mem) (p : ℕ) → p ≤ 4294967295 → (WellFormed m) × (firstRefusal (allocateChecks (settingOf m) (viewOf m) p 0) ≡ 0) → ListAsks m p
+allocate-asks m p page asks =
+    let h = allocate-passed (settingOf m) (viewOf m) p 0 0 (asks .1) in
+    record { formed = asks .0; page = page; decodable = decodable (settingOf m) p (h .0); entry = h .3 .entry }
+
+-- a fixed page alone has a journal
+pub contents-unjournalled : (m : Mem) (p n : ℕ) → (WellFormed m) × (firstRefusal (allocateChecks (settingOf m) (viewOf m) p n) ≡ 0) → (j : ℕ) → j < journalCount → p ≡ journalPage (layoutOf (m .words)) j → ⊥
+contents-unjournalled m p n asks j k own =
+    let h = allocate-passed (settingOf m) (viewOf m) p 0 n (asks .1) in
+    false≢true (sym (h .1) ∙ is-fixed (layoutOf (m .words)) p (journalPlace j) (place-lt j k) own)
+
+module _ (m : Mem) (p a n w k : ℕ) (c : Cleared m p a n w k) where
+  pub count-small : k < 2 ^ 32
+  count-small = let t = touched-top a n (c .end) in let e = c .count in omega arith
+
+  pub prepare-asks : PrepareAsks m p (a / 256) k
+  prepare-asks = subst (PrepareAsks m p (a / 256)) (sym (c .count)) record {
+    formed = c .formed;
+    page = c .page;
+    decodable = decodable (settingOf m) p (c .known);
+    entry = c .room .entry;
+    top = touched-top a n (c .end);
+    room = c .room .chunks;
+  }
+
+  module _ (m₂ : Mem) (done : Shows (settingOf m) (holding p (a / 256) k (listing m p)) m₂) where
+    pub ready : Shows (settingOf m) (holding p (a / 256) (touchedCount a n) (listing m p)) m₂
+    ready = subst (λ (i : ℕ). Shows (settingOf m) (holding p (a / 256) i (listing m p)) m₂) (c .count) done
+
+    pub held-now : (x : ℕ) → x < n → viewOf m₂ .held p ((a + x) / 256) ≡ true
+    held-now x l =
+        ap (λ (v : View). v .held p ((a + x) / 256)) (ready .view)
+        ∙ ap (λ (b : Bool). (b && (leb (a / 256) ((a + x) / 256) && ltb ((a + x) / 256) (a / 256 + touchedCount a n))) || listing m p .held p ((a + x) / 256)) (eq-eqb p p refl)
+        ∙ ap (λ (b : Bool). b || listing m p .held p ((a + x) / 256)) (touched-in a n x l)
+
+    layout-now : layoutOf (m₂ .words) ≡ layoutOf (m .words)
+    layout-now = ap (λ (s : Setting). s .layout) (ready .setting)
+
+    pub journal-asks : JournalAsks m₂ p a n w
+    journal-asks = record {
+      formed = ready .formed;
+      held = held-now;
+      room = λ j l q.
+          let e : viewOf m₂ .journal j ≡ viewOf m .journal j = ap (λ (v : View). v .journal j) (ready .view) ∙ listed-journal (layoutOf (m .words)) p (viewOf m) j in
+          let s : journalWords (m₂ .words) ≡ journalWords (m .words) = ap (λ (s : Setting). s .journalWords) (ready .setting) in
+          let h = c .room .words j l (q ∙ ap (λ (t : Layout). journalPage t j) layout-now) in
+          let g : length (viewOf m₂ .journal j) ≡ length (viewOf m .journal j) = ap length e in
+          omega arith;
+    }
+
+-- ---- the words are journalled
+module _ (m : Mem) (p a n w : ℕ) (asks : JournalAsks m p a n w) (f : ℕ → List Note) where
+  abbrev l : Layout
+  l = layoutOf (m .words)
+
+  pub journal-own : (j : ℕ) → j < journalCount → p ≡ journalPage l j → (m' : Mem) → Shows (settingOf m) (noting j (f (journalPage l j)) (viewOf m)) m' → Shows (settingOf m) (journalling l p (f p) (viewOf m)) m'
+  journal-own j k own m' shown =
+      shows-view shown (ap (λ (q : ℕ). noting j (f q) (viewOf m)) (sym own) ∙ own-journal l p (f p) (viewOf m) (asks .formed .layout) j k own)
+
+  pub journal-none : ((j : ℕ) → j < journalCount → p ≡ journalPage l j → ⊥) → Shows (settingOf m) (journalling l p (f p) (viewOf m)) m
+  journal-none none = record { formed = asks .formed; setting = refl; view = sym (unjournalled l p (f p) (viewOf m) none) }
+
+pub note-asks : (m : Mem) (p a : ℕ) → a ≤ 4294967295 → JournalAsks m p a 32 1 → (j : ℕ) → j < journalCount → p ≡ journalPage (layoutOf (m .words)) j → NoteAsks m j a
+note-asks m p a small asks j k own = record {
+  formed = asks .formed;
+  which = k;
+  address = small;
+  held = λ x l. subst (λ (q : ℕ). viewOf m .held q ((a + x) / 256) ≡ true) own (asks .held x l);
+  room = let h = asks .room j k own in omega arith;
+}
+
+-- the chunk of each aligned word is that of one of the bytes
+pub aligned-top : (a n : ℕ) → a + n ≤ 2 ^ 32 → 32 * (a / 32 + alignedCount a n) ≤ 4294967296
+aligned-top a zero l = omega arith
+aligned-top a (suc n) l = omega arith
+
+aligned-byte : (a n i : ℕ) → i < alignedCount a n → ((x : ℕ) → x < n → (a + x) / 256 ≡ 32 * (a / 32 + i) / 256 → ⊥) → ⊥
+aligned-byte a zero i l none = omega arith
+aligned-byte a (suc n) zero l none = none 0 (omega arith) (omega arith)
+aligned-byte a (suc n) (suc i) l none = none (32 * (a / 32 + suc i) - a) (omega arith) (omega arith)
+
+pub aligned-asks : (m : Mem) (p a n : ℕ) → a + n ≤ 2 ^ 32 → JournalAsks m p a n (alignedCount a n) → (j : ℕ) → j < journalCount → p ≡ journalPage (layoutOf (m .words)) j → (i : ℕ) → i ≡ alignedCount a n → AlignedAsks m j (a / 32) i
+aligned-asks m p a n small asks j k own i is = subst (AlignedAsks m j (a / 32)) (sym is) record {
+  formed = asks .formed;
+  which = k;
+  top = aligned-top a n small;
+  held = λ i l. by-chunk i l;
+  room = asks .room j k own;
+}
+  where
+    decide : (b : Bool) → ((b ≡ true → ⊥) → ⊥) → b ≡ true
+    decide true h = refl
+    decide false h = absurd (h false≢true)
+
+    by-chunk : (i : ℕ) → i < alignedCount a n → viewOf m .held (journalPage (layoutOf (m .words)) j) (32 * (a / 32 + i) / 256) ≡ true
+    by-chunk i l =
+        decide _ (λ no. aligned-byte a n i l (λ x lx e.
+        no (subst (λ (q : ℕ). viewOf m .held q (32 * (a / 32 + i) / 256) ≡ true) own (subst (λ (c : ℕ). viewOf m .held p c ≡ true) e (asks .held x lx)))))
+
+-- as many words are journalled as were counted
+pub counted-by : (m : Mem) (a n j i : ℕ) → i ≡ alignedCount a n → (m' : Mem) → Shows (settingOf m) (noting j (alignedFrom (viewOf m) (journalPage (layoutOf (m .words)) j) (a / 32) i) (viewOf m)) m' → Shows (settingOf m) (noting j (alignedNotes (viewOf m) (journalPage (layoutOf (m .words)) j) a n) (viewOf m)) m'
+counted-by m a n j i is m' shown = subst (λ (x : ℕ). Shows (settingOf m) (noting j (alignedFrom (viewOf m) (journalPage (layoutOf (m .words)) j) (a / 32) x) (viewOf m)) m') is shown
+
+-- ---- the notes are those of the memory before
+run-same : (v w : View) (p x n : ℕ) → ((b : ℕ) → v .bytes p b ≡ w .bytes p b) → run v p x n ≡ run w p x n
+run-same v w p x n h = tab-same n _ _ (λ i. h (x + i))
+
+pub word-notes-same : (v w : View) (p a : ℕ) → ((b : ℕ) → v .bytes p b ≡ w .bytes p b) → wordNotes v p a ≡ wordNotes w p a
+word-notes-same v w p a h = ap (λ (o : List ℕ). record { address = a; old = o } ∷ []) (run-same v w p a 32 h)
+
+pub aligned-notes-same : (v w : View) (p a n : ℕ) → ((b : ℕ) → v .bytes p b ≡ w .bytes p b) → alignedNotes v p a n ≡ alignedNotes w p a n
+aligned-notes-same v w p a n h = tab-same (alignedCount a n) _ _ (λ i. ap (λ (o : List ℕ). record { address = 32 * (a / 32 + i); old = o }) (run-same v w p (32 * (a / 32 + i)) 32 h))
+
+-- ---- the bytes are put
+module _ (m : Mem) (p a : ℕ) (bs : List ℕ) (w k : ℕ) (c : Cleared m p a (length bs) w k) (m₂ : Mem) (done : Shows (settingOf m) (holding p (a / 256) k (listing m p)) m₂) where
+  now : Shows (settingOf m) (holding p (a / 256) (touchedCount a (length bs)) (listing m p)) m₂
+  now = ready m p a (length bs) w k c m₂ done
+
+  held : (x : ℕ) → x < length bs → viewOf m₂ .held p ((a + x) / 256) ≡ true
+  held = held-now m p a (length bs) w k c m₂ done
+
+  -- a page without a journal
+  pub plain-asks : PutAsks m₂ p a (length bs)
+  plain-asks = record { formed = now .formed; held = held; top = c .end }
+
+  pub plain-done : (notes : List Note) → ((j : ℕ) → j < journalCount → p ≡ journalPage (layoutOf (m .words)) j → ⊥) → (m₄ : Mem) → Shows (settingOf m₂) (putting p a bs (viewOf m₂)) m₄ → Shows (settingOf m) (written (layoutOf (m .words)) p a bs notes (viewOf m)) m₄
+  plain-done notes n m₄ put = shows-view (shows-then (putting p a bs) now put) (plain-write (layoutOf (m .words)) p (viewOf m) a bs notes n)
+
+  -- a page that may have one
+  module _ (notes : View → List Note) (same : (v w : View) → ((b : ℕ) → v .bytes p b ≡ w .bytes p b) → notes v ≡ notes w) where
+    pub put-asks : (m₃ : Mem) → Shows (settingOf m₂) (journalling (layoutOf (m₂ .words)) p (notes (viewOf m₂)) (viewOf m₂)) m₃ → PutAsks m₃ p a (length bs)
+    put-asks m₃ noted = record { formed = noted .formed; held = λ x l. ap (λ (v : View). v .held p ((a + x) / 256)) (noted .view) ∙ held x l; top = c .end }
+
+    pub write-done : (m₄ : Mem) → Shows (settingOf m₂) (putting p a bs (journalling (layoutOf (m₂ .words)) p (notes (viewOf m₂)) (viewOf m₂))) m₄ → Shows (settingOf m) (written (layoutOf (m .words)) p a bs (notes (viewOf m)) (viewOf m)) m₄
+    write-done m₄ put =
+        let L = layoutOf (m .words) in
+        let H : View = holding p (a / 256) (touchedCount a (length bs)) (listing m p) in
+        let e : layoutOf (m₂ .words) ≡ L = ap (λ (s : Setting). s .layout) (now .setting) in
+        let q : notes (viewOf m₂) ≡ notes (viewOf m) = ap notes (now .view) ∙ same H (viewOf m) (λ b. over-none p 0 (viewOf m .bytes) p b) in
+        let v : journalling (layoutOf (m₂ .words)) p (notes (viewOf m₂)) (viewOf m₂) ≡ journalling L p (notes (viewOf m)) H =
+        ap (λ (t : Layout). journalling t p (notes (viewOf m₂)) (viewOf m₂)) e ∙ ap (λ (ns : List Note). journalling L p ns (viewOf m₂)) q ∙ ap (journalling L p (notes (viewOf m))) (now .view) in
+        record {
+          formed = put .formed;
+          setting = put .setting ∙ now .setting;
+          view = put .view ∙ ap (putting p a bs) v ∙ written-is L p (viewOf m) a bs (notes (viewOf m));
+        }
+
+-- the bytes of a word, as written
+pub word-shown : (m : Mem) (p a n : ℕ) (bs : List ℕ) → bs ≡ wordBytes n → (m' : Mem) → Shows (settingOf m) (wordWritten (layoutOf (m .words)) p a bs (viewOf m)) m' → Shows (settingOf m) (wordWritten (layoutOf (m .words)) p a (wordBytes n) (viewOf m)) m'
+word-shown m p a n bs e m' shown = subst (λ (b : List ℕ). Shows (settingOf m) (wordWritten (layoutOf (m .words)) p a b (viewOf m)) m') e shown

@@ -1,0 +1,50 @@
+-- What the steps of a write ask, and what one that may do nothing leaves.
+-- Assumes nothing.
+use mathlib.Core.Path.{_≡_}
+use mathlib.Core.Bool.{Bool, true, false, _||_}
+use mathlib.Core.List.{List}
+use Prim.Native.Nat.{ℕ, _+_, _/_, _<_, _≤_}
+use lib.ListN.{length}
+use Rattle.store.specs.Keys.{lastChunk}
+use Rattle.page_ids.specs.declared.Layout.{Layout}
+use Rattle.store.specs.Mem.{Mem, layoutOf, slotCount, journalWords}
+use Rattle.formed.specs.Pages.{fixed, dynamic, journalCount, journalPage}
+use Rattle.formed.specs.Parts.{slotOfChunk}
+use Rattle.formed.specs.WellFormed.{WellFormed}
+use Rattle.view.specs.View.{View, settingOf, viewOf}
+use Rattle.view.specs.Steps.{missing, wordNotes, wordWritten}
+use Rattle.view.specs.Does.{Shows}
+use Rattle.view.specs.Inner.{journalling, putting}
+
+-- page p can be allocated, and hold the n chunks from k on
+pub record PrepareAsks (m : Mem) (p k n : ℕ) : Type 0 where
+  pub formed : WellFormed m
+  pub page : p ≤ 4294967295
+  pub decodable : (fixed (layoutOf (m .words)) p || dynamic (layoutOf (m .words)) p) ≡ true
+  pub entry : viewOf m .allocated p ≡ false → 0 < viewOf m .entriesLeft
+  pub top : k + n ≤ lastChunk + 1
+  pub room : missing (viewOf m .held p) k n ≤ viewOf m .pool
+
+-- page p holds the chunks of n bytes at address a, and if it has a journal, that has room for w words
+pub record JournalAsks (m : Mem) (p a n w : ℕ) : Type 0 where
+  pub formed : WellFormed m
+  pub held : (x : ℕ) → x < n → viewOf m .held p ((a + x) / 256) ≡ true
+  pub room : (j : ℕ) → j < journalCount → p ≡ journalPage (layoutOf (m .words)) j → length (viewOf m .journal j) + w ≤ journalWords (m .words)
+
+-- the slots s and t hold the first and the last chunk of the word at address a of page p, and if the page has a journal, that has room for a word
+pub record WordAsks (m : Mem) (p a s t : ℕ) : Type 0 where
+  pub formed : WellFormed m
+  pub first : slotOfChunk m p (a / 256) ≡ s
+  pub last : slotOfChunk m p ((a + 31) / 256) ≡ t
+  pub first-in : s < slotCount (m .words)
+  pub last-in : t < slotCount (m .words)
+  pub room : (j : ℕ) → j < journalCount → p ≡ journalPage (layoutOf (m .words)) j → length (viewOf m .journal j) + 1 ≤ journalWords (m .words)
+
+-- the word at address a of page p is journalled, if the page has a journal, and ws put in its place
+abbrev pub wordPut : Layout → ℕ → ℕ → List ℕ → View → View
+wordPut l p a ws v = putting p a ws (journalling l p (wordNotes v p a) v)
+
+-- the word ws was written to address a of page p, and r says so; or the memory is as it was
+pub record WrittenOrLeft (m : Mem) (p a : ℕ) (ws : List ℕ) (r : Bool) (m' : Mem) : Type 0 where
+  pub written : r ≡ true → Shows (settingOf m) (wordWritten (layoutOf (m .words)) p a ws (viewOf m)) m'
+  pub left : r ≡ false → m' ≡ m

@@ -1,0 +1,207 @@
+// What a write or an allocation does once it is not refused: the page is allocated, its chunks are held, the words journalled, the bytes put.
+ghost use mathlib.Core.Path.{_≡_};
+ghost use Prim.Native.Nat.{_+_, _≤_, _^_};
+ghost use lib.ListN.{length};
+ghost use Rattle.view.specs.Calls.{firstRefusal};
+ghost use Rattle.store.specs.Mem.{mem, layoutOf};
+ghost use Rattle.formed.specs.WellFormed.{WellFormed};
+ghost use Rattle.view.specs.View.{settingOf, viewOf};
+ghost use Rattle.view.specs.Steps.{alignedCount, wordNotes, alignedNotes, wordWritten, bytesWritten, contentsAllocated};
+ghost use Rattle.view.specs.Checks.{wordWriteChecks, byteWriteChecks, allocateChecks};
+ghost use Rattle.view.specs.Does.{Shows};
+ghost use Rattle.view.specs.Inner.{listing, holding, journalling};
+ghost use Rattle.write_steps.specs.Asks.{PrepareAsks, JournalAsks, WordAsks, wordPut, WrittenOrLeft};
+use page_ids::Address;
+use page_ids::PageId;
+use store::head;
+
+// The page is allocated and holds the chunks first, .., first + count - 1.
+fn prepare(
+    bytes: &[u8],
+    keys: &mut [u64],
+    order: &mut [u32],
+    words: &mut [u64],
+    page: PageId,
+    first: u32,
+    count: u32,
+)
+    requires { ⌜ PrepareAsks (mem (now bytes) (now keys) (now order) (now words)) (page .0) first count ⌝ }
+    ensures { λ _. ⌜ Shows (settingOf (mem (now (bytes .entry)) (now (keys .entry)) (now (order .entry)) (now (words .entry)))) (holding (page .0) first count (listing (mem (now (bytes .entry)) (now (keys .entry)) (now (order .entry)) (now (words .entry))) (page .0))) (mem (now (bytes .entry)) (now (keys .exit)) (now (order .exit)) (now (words .exit))) ⌝ }
+{
+    pages::list_page(bytes, keys, order, words, page);
+    chunks::hold_chunks(bytes, keys, order, words, page, first, count);
+}
+
+// The word at an address, whose chunks are held at the slots s and t, is journalled, if its page has a journal.
+fn journal_found(
+    bytes: &mut [u8],
+    keys: &[u64],
+    order: &[u32],
+    words: &mut [u64],
+    page: PageId,
+    address: Address,
+    s: usize,
+    t: usize,
+)
+    requires { ⌜ WordAsks (mem (now bytes) (now keys) (now order) (now words)) (page .0) (address .0) s t ⌝ }
+    ensures { λ _. ⌜ Shows (settingOf (mem (now (bytes .entry)) (now (keys .entry)) (now (order .entry)) (now (words .entry)))) (journalling (layoutOf (now (words .entry))) (page .0) (wordNotes (viewOf (mem (now (bytes .entry)) (now (keys .entry)) (now (order .entry)) (now (words .entry)))) (page .0) (address .0)) (viewOf (mem (now (bytes .entry)) (now (keys .entry)) (now (order .entry)) (now (words .entry))))) (mem (now (bytes .exit)) (now (keys .entry)) (now (order .entry)) (now (words .exit))) ⌝ }
+{
+    let j = formed::journals::journal_of(words, page);
+    if j < head::JOURNAL_COUNT {
+        journal::note_found(bytes, keys, order, words, j, address, s, t);
+    }
+}
+
+// Each aligned word that n bytes touch is journalled, if their page has a journal.
+fn journal_range(
+    bytes: &mut [u8],
+    keys: &[u64],
+    order: &[u32],
+    words: &mut [u64],
+    page: PageId,
+    start: Address,
+    n: usize,
+)
+    requires { ⌜ (JournalAsks (mem (now bytes) (now keys) (now order) (now words)) (page .0) (start .0) n (alignedCount (start .0) n)) × ((start .0) + n ≤ 2 ^ 32) ⌝ }
+    ensures { λ _. ⌜ Shows (settingOf (mem (now (bytes .entry)) (now (keys .entry)) (now (order .entry)) (now (words .entry)))) (journalling (layoutOf (now (words .entry))) (page .0) (alignedNotes (viewOf (mem (now (bytes .entry)) (now (keys .entry)) (now (order .entry)) (now (words .entry)))) (page .0) (start .0) n) (viewOf (mem (now (bytes .entry)) (now (keys .entry)) (now (order .entry)) (now (words .entry))))) (mem (now (bytes .exit)) (now (keys .entry)) (now (order .entry)) (now (words .exit))) ⌝ }
+{
+    let count = checks::aligned(start, n) as u32;
+    let j = formed::journals::journal_of(words, page);
+    if j < head::JOURNAL_COUNT {
+        journal::note_aligned(bytes, keys, order, words, j, start.0 / 32, count);
+    }
+}
+
+// The word at an address, whose chunks are held at the slots s and t, is journalled, if its page has a journal, and another put in its place.
+fn write_at(
+    bytes: &mut [u8],
+    keys: &[u64],
+    order: &[u32],
+    words: &mut [u64],
+    page: PageId,
+    address: Address,
+    s: usize,
+    t: usize,
+    value: [u8; 32],
+)
+    requires { ⌜ WordAsks (mem (now bytes) (now keys) (now order) (now words)) (page .0) (address .0) s t ⌝ }
+    ensures { λ _. ⌜ Shows (settingOf (mem (now (bytes .entry)) (now (keys .entry)) (now (order .entry)) (now (words .entry)))) (wordPut (layoutOf (now (words .entry))) (page .0) (address .0) value (viewOf (mem (now (bytes .entry)) (now (keys .entry)) (now (order .entry)) (now (words .entry))))) (mem (now (bytes .exit)) (now (keys .entry)) (now (order .entry)) (now (words .exit))) ⌝ }
+{
+    journal_found(bytes, keys, order, words, page, address, s, t);
+    bodies::put_word(bytes, s, t, (address.0 % 256) as usize, value);
+}
+
+// A word whose chunks are found by their hints is written at once. Any other is left.
+fn write_found(
+    bytes: &mut [u8],
+    keys: &[u64],
+    order: &[u32],
+    words: &mut [u64],
+    page: PageId,
+    address: Address,
+    value: [u8; 32],
+) -> bool
+    requires { ⌜ (WellFormed (mem (now bytes) (now keys) (now order) (now words))) × (firstRefusal (wordWriteChecks (settingOf (mem (now bytes) (now keys) (now order) (now words))) (viewOf (mem (now bytes) (now keys) (now order) (now words))) (page .0) (address .0)) ≡ 0) ⌝ }
+    ensures { λ r. ⌜ WrittenOrLeft (mem (now (bytes .entry)) (now (keys .entry)) (now (order .entry)) (now (words .entry))) (page .0) (address .0) value r (mem (now (bytes .exit)) (now (keys .entry)) (now (order .entry)) (now (words .exit))) ⌝ }
+{
+    let c = words[head::CHUNKS] as usize;
+    let s = store::hinted(keys, order, words, page, address.0 / 256);
+    if s >= c {
+        return false;
+    }
+    let t = store::hinted_last(keys, order, words, page, address, s);
+    if t >= c {
+        return false;
+    }
+    write_at(bytes, keys, order, words, page, address, s, t, value);
+    true
+}
+
+// A word is written to a page that holds its chunks.
+fn write_held(
+    bytes: &mut [u8],
+    keys: &[u64],
+    order: &[u32],
+    words: &mut [u64],
+    page: PageId,
+    address: Address,
+    value: [u8; 32],
+)
+    requires { ⌜ JournalAsks (mem (now bytes) (now keys) (now order) (now words)) (page .0) (address .0) 32 1 ⌝ }
+    ensures { λ _. ⌜ Shows (settingOf (mem (now (bytes .entry)) (now (keys .entry)) (now (order .entry)) (now (words .entry)))) (wordPut (layoutOf (now (words .entry))) (page .0) (address .0) value (viewOf (mem (now (bytes .entry)) (now (keys .entry)) (now (order .entry)) (now (words .entry))))) (mem (now (bytes .exit)) (now (keys .entry)) (now (order .entry)) (now (words .exit))) ⌝ }
+{
+    let s = store::place_of(keys, order, words, page, address.0 / 256);
+    let t = store::place_of_last(keys, order, words, page, address, s);
+    write_at(bytes, keys, order, words, page, address, s, t, value);
+}
+
+// A word is written whether or not its page is allocated, its chunks are held and its page has a journal.
+fn write_new(
+    bytes: &mut [u8],
+    keys: &mut [u64],
+    order: &mut [u32],
+    words: &mut [u64],
+    page: PageId,
+    address: Address,
+    value: [u8; 32],
+)
+    requires { ⌜ (WellFormed (mem (now bytes) (now keys) (now order) (now words))) × (firstRefusal (wordWriteChecks (settingOf (mem (now bytes) (now keys) (now order) (now words))) (viewOf (mem (now bytes) (now keys) (now order) (now words))) (page .0) (address .0)) ≡ 0) ⌝ }
+    ensures { λ _. ⌜ Shows (settingOf (mem (now (bytes .entry)) (now (keys .entry)) (now (order .entry)) (now (words .entry)))) (wordWritten (layoutOf (now (words .entry))) (page .0) (address .0) value (viewOf (mem (now (bytes .entry)) (now (keys .entry)) (now (order .entry)) (now (words .entry))))) (mem (now (bytes .exit)) (now (keys .exit)) (now (order .exit)) (now (words .exit))) ⌝ }
+{
+    let count = checks::touched(address, 32) as u32;
+    prepare(bytes, keys, order, words, page, address.0 / 256, count);
+    write_held(bytes, keys, order, words, page, address, value);
+}
+
+pub fn write_word(
+    bytes: &mut [u8],
+    keys: &mut [u64],
+    order: &mut [u32],
+    words: &mut [u64],
+    page: PageId,
+    address: Address,
+    value: [u8; 32],
+)
+    requires { ⌜ (WellFormed (mem (now bytes) (now keys) (now order) (now words))) × (firstRefusal (wordWriteChecks (settingOf (mem (now bytes) (now keys) (now order) (now words))) (viewOf (mem (now bytes) (now keys) (now order) (now words))) (page .0) (address .0)) ≡ 0) ⌝ }
+    ensures { λ _. ⌜ Shows (settingOf (mem (now (bytes .entry)) (now (keys .entry)) (now (order .entry)) (now (words .entry)))) (wordWritten (layoutOf (now (words .entry))) (page .0) (address .0) value (viewOf (mem (now (bytes .entry)) (now (keys .entry)) (now (order .entry)) (now (words .entry))))) (mem (now (bytes .exit)) (now (keys .exit)) (now (order .exit)) (now (words .exit))) ⌝ }
+{
+    if write_found(bytes, keys, order, words, page, address, value) {
+        return;
+    }
+    write_new(bytes, keys, order, words, page, address, value);
+}
+
+pub fn write_range(
+    bytes: &mut [u8],
+    keys: &mut [u64],
+    order: &mut [u32],
+    words: &mut [u64],
+    page: PageId,
+    start: Address,
+    src: &[u8],
+)
+    requires { ⌜ (WellFormed (mem (now bytes) (now keys) (now order) (now words))) × (firstRefusal (byteWriteChecks (settingOf (mem (now bytes) (now keys) (now order) (now words))) (viewOf (mem (now bytes) (now keys) (now order) (now words))) (page .0) (start .0) (length (now src))) ≡ 0) ⌝ }
+    ensures { λ _. ⌜ Shows (settingOf (mem (now (bytes .entry)) (now (keys .entry)) (now (order .entry)) (now (words .entry)))) (bytesWritten (layoutOf (now (words .entry))) (page .0) (start .0) (now (src .entry)) (viewOf (mem (now (bytes .entry)) (now (keys .entry)) (now (order .entry)) (now (words .entry))))) (mem (now (bytes .exit)) (now (keys .exit)) (now (order .exit)) (now (words .exit))) ⌝ }
+{
+    let count = checks::touched(start, src.len()) as u32;
+    prepare(bytes, keys, order, words, page, start.0 / 256, count);
+    journal_range(bytes, keys, order, words, page, start, src.len());
+    bodies::write_from(bytes, keys, order, words, page, start, src);
+}
+
+// The page is allocated with contents from address 0.
+pub fn fill(
+    bytes: &mut [u8],
+    keys: &mut [u64],
+    order: &mut [u32],
+    words: &mut [u64],
+    page: PageId,
+    contents: &[u8],
+)
+    requires { ⌜ (WellFormed (mem (now bytes) (now keys) (now order) (now words))) × (firstRefusal (allocateChecks (settingOf (mem (now bytes) (now keys) (now order) (now words))) (viewOf (mem (now bytes) (now keys) (now order) (now words))) (page .0) (length (now contents))) ≡ 0) ⌝ }
+    ensures { λ _. ⌜ Shows (settingOf (mem (now (bytes .entry)) (now (keys .entry)) (now (order .entry)) (now (words .entry)))) (contentsAllocated (layoutOf (now (words .entry))) (page .0) (now (contents .entry)) (viewOf (mem (now (bytes .entry)) (now (keys .entry)) (now (order .entry)) (now (words .entry))))) (mem (now (bytes .exit)) (now (keys .exit)) (now (order .exit)) (now (words .exit))) ⌝ }
+{
+    let count = checks::touched(Address(0), contents.len()) as u32;
+    prepare(bytes, keys, order, words, page, 0, count);
+    bodies::write_from(bytes, keys, order, words, page, Address(0), contents);
+}

@@ -2,7 +2,7 @@
 // The table of chunk holders and the table of pages are both of this form.
 ghost use mathlib.Core.Path.{_≡_};
 ghost use mathlib.Core.Bool.{true};
-ghost use Prim.Native.Nat.{ℕ, _+_, _<_, _≤_};
+ghost use Prim.Native.Nat.{ℕ, _+_, _^_, _<_, _≤_};
 ghost use lib.ListN.{length, getD, set};
 ghost use Rattle.index.specs.Index.{all, rises, usedCount, indexed, seek, LowerBound, MovedUp, Insertable, Cleared, MovedDown, Removed};
 
@@ -56,6 +56,21 @@ pub fn index_ok(keys: &[u64], order: &[u32], n: usize) -> bool
     rising(keys, order, n)
 }
 
+// By how many bits a step is shifted: by none where x is below k, else by so many that nothing is left.
+fn away(x: u64, k: u64) -> usize
+    ensures { λ r. ⌜ (r < 64) × (x < k → r ≡ 0) × (k ≤ x → r ≡ 63) ⌝ }
+{
+    if x < k { 0 } else { 63 }
+}
+
+// `half` where x is below k, else 0. A shift makes no branch, which a search would mispredict at every second step.
+fn step(half: usize, x: u64, k: u64) -> usize
+    requires { ⌜ half < 2 ^ 63 ⌝ }
+    ensures { λ r. ⌜ (x < k → r ≡ half) × (k ≤ x → r ≡ 0) ⌝ }
+{
+    half >> away(x, k)
+}
+
 // The first rank whose key is at least k. `base` and `len` bracket it, and `base` moves up by a half or not at all.
 pub fn rank_below(keys: &[u64], order: &[u32], n: usize, k: u64) -> usize
     requires { ⌜ (n ≤ length (now order)) × (all (rises (now keys) (now order)) n ≡ true) ⌝ }
@@ -66,8 +81,7 @@ pub fn rank_below(keys: &[u64], order: &[u32], n: usize, k: u64) -> usize
     while 0 < len {
         let half = (len + 1) / 2;
         let s = order[base + half - 1] as usize;
-        let step = if keys[s] < k { half } else { 0 };
-        base += step;
+        base += step(half, keys[s], k);
         len -= half;
     }
     base

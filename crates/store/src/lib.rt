@@ -131,12 +131,15 @@ fn ones(c: u64) -> u64 {
     e | (e >> 16)
 }
 
-// The place of the hint for a chunk of a page. The last place of the order has the mask; the multiplier spreads the pages apart.
+// The factor that spreads the pages over the hints. Among odd factors of 16 bits few let so few hints of up to 100 pages share a place.
+const HINT_FACTOR: u64 = 45449;
+
+// The place of the hint for a chunk of a page. The last place of the order has the mask.
 fn hint_place(order: &[u32], page: PageId, chunk: u32) -> usize
     requires { ⌜ 0 < length (now order) ⌝ }
 {
     let n = order.len();
-    let x = (page.0 as u64 * 40503 + chunk as u64) & order[n - 1] as u64;
+    let x = (page.0 as u64 * HINT_FACTOR + chunk as u64) & order[n - 1] as u64;
     std::num::wrapping_sub_usize(std::num::wrapping_sub_usize(n, x as usize), 2)
 }
 

@@ -1,20 +1,19 @@
 -- Lists of checks: the number of the first refusal, and the contract of a call that is refused or passes them all.
 -- Assumes nothing.
 use mathlib.Core.Path.{_≡_, refl, sym, ap, _∙_}
-use mathlib.Core.Bool.{Bool, true, false, not, false≢true}
+use mathlib.Core.Bool.{Bool, true, false, true≢false, false≢true}
 use mathlib.Core.List.{List, [], _∷_}
 use Prim.Native.Nat.{ℕ, suc}
 use native.Mathlib.Omega.{arith}
-use borrow.Author.Tests.{not-false}
 use Rattle.outcome.specs.Outcome.{Outcome, refused, panicked, done, carriedOut, firstOf, refusalNumber}
 use Rattle.store.specs.Mem.{Mem}
 use Rattle.formed.specs.Formed.{wellFormed}
 use Rattle.formed.specs.WellFormed.{WellFormed}
-use Rattle.formed.proofs.Meaning.{well-formed-means}
+use Rattle.formed.proofs.Meaning.{well-formed-passes}
 use Rattle.view.specs.View.{View, Setting}
 use Rattle.view.specs.Checks.{Check, onMemory}
 use Rattle.view.specs.Does.{Does, Shows}
-use Rattle.view.specs.Calls.{Value, nothing, firstRefusal}
+use Rattle.view.specs.Calls.{Call, Value, CallDoes, nothing, firstRefusal}
 
 -- a check that holds gives its number; one that does not leaves it to the rest
 pub first-holds : (b : Bool) (n : ℕ) (rest : List (Check Value)) → b ≡ true → n ≡ firstRefusal ((b, refused n) ∷ rest)
@@ -43,19 +42,22 @@ pub none-done : {checks : List (Check Value)} → Refusals checks → firstRefus
 none-done end e = refl
 none-done (next {b} {n} {rest} r) e = let h = none-first b n rest e in rw (h .0) (none-done r (h .1))
 
--- ---- the contract of a call, refused or done
-module _ (m : Mem) (checks : List (Check Value)) (s : Setting) (v : View) where
-  pub refused-does : (n : ℕ) → n ≡ refusalNumber (onMemory m checks nothing) → (n ≡ 0 → ⊥) → Does m (onMemory m checks nothing) s v (refused n) m
+-- ---- the contract of a call
+-- on a memory that is not well formed
+pub ill-does : (m : Mem) (c : Call) → wellFormed m ≡ false → CallDoes m c (refused 3) m
+ill-does m c e = record { answer = rw e refl; kept = λ _. refl; changed = λ h. absurd (true≢false (sym h ∙ rw e refl)) }
+
+-- on a well-formed one, refused or done
+module _ (m : Mem) (formed : WellFormed m) (checks : List (Check Value)) (s : Setting) (v : View) where
+  passes : onMemory m checks nothing ≡ firstOf checks (done nothing)
+  passes = rw (well-formed-passes m formed) refl
+
+  pub refused-does : (n : ℕ) → n ≡ firstRefusal checks → (n ≡ 0 → ⊥) → Does m (onMemory m checks nothing) s v (refused n) m
   refused-does n e z =
-      let t = refusal-told (onMemory m checks nothing) n e z in
+      let t = refusal-told (firstOf checks (done nothing)) n e z ∙ sym passes in
       record { answer = t; kept = λ _. refl; changed = λ c. absurd (false≢true (ap carriedOut t ∙ c)) }
 
-  pub passed-formed : refusalNumber (onMemory m checks nothing) ≡ 0 → WellFormed m × (firstRefusal checks ≡ 0)
-  passed-formed e =
-      let h = none-first (not (wellFormed m)) 2 checks e in
-      (well-formed-means m (not-false (wellFormed m) (h .0)), h .1)
-
-  pub done-does : Refusals checks → refusalNumber (onMemory m checks nothing) ≡ 0 → {m' : Mem} → Shows s v m' → Does m (onMemory m checks nothing) s v (done nothing) m'
+  pub done-does : Refusals checks → firstRefusal checks ≡ 0 → {m' : Mem} → Shows s v m' → Does m (onMemory m checks nothing) s v (done nothing) m'
   done-does r e shows =
-      let t = none-done (next {b = not (wellFormed m)} {n = 2} {rest = checks} r) e in
+      let t = passes ∙ none-done r e in
       record { answer = sym t; kept = λ c. absurd (false≢true (sym c ∙ ap carriedOut t)); changed = λ _. shows }

@@ -1,7 +1,7 @@
 -- The number that the tests give, from what each of them told.
 -- Assumes nothing.
 use mathlib.Core.Path.{_≡_, sym, ap, _∙_}
-use mathlib.Core.Bool.{Bool, true, false, not}
+use mathlib.Core.Bool.{Bool, true, false}
 use mathlib.Core.List.{List, _∷_}
 use Prim.Native.Nat.{ℕ, zero, suc, _+_, _-_, _/_, _^_, _<_, _≤_}
 use native.Mathlib.Omega.{arith}
@@ -9,25 +9,17 @@ use lib.Dec.{ltb}
 use lib.ListN.{length}
 use borrow.Author.Tests.{lt-ltb, le-ltb}
 use Rattle.view.proofs.Refused.{first-holds, first-fails}
-use Rattle.outcome.specs.Outcome.{refused, refusalNumber}
+use Rattle.outcome.specs.Outcome.{refused}
 use Rattle.page_ids.specs.Decode.{Page, decoded, isNone, isFixed}
 use Rattle.store.specs.Mem.{Mem, headLength}
 use Rattle.formed.specs.Pages.{fixed}
-use Rattle.formed.specs.Formed.{wellFormed, narrow}
+use Rattle.formed.specs.Formed.{narrow}
 use Rattle.formed.specs.WellFormed.{WellFormed}
 use Rattle.formed.proofs.Sizes.{narrow-test}
 use Rattle.view.specs.View.{View, Setting}
 use Rattle.view.specs.Steps.{touchedCount, alignedCount}
-use Rattle.view.specs.Checks.{Check, undecodable, capacityChecksAt, onMemory, byteWriteChecks, allocateChecks, capacityChecks}
-use Rattle.view.specs.Calls.{Value, nothing, firstRefusal}
-
--- ---- 3
-module _ (m : Mem) (checks : List (Check Value)) where
-  pub ill-chosen : wellFormed m ≡ false → 3 ≡ refusalNumber (onMemory m checks nothing)
-  ill-chosen e = first-holds (not (wellFormed m)) 3 checks (ap not e)
-
-  pub well-chosen : wellFormed m ≡ true → (r : ℕ) → r ≡ firstRefusal checks → r ≡ refusalNumber (onMemory m checks nothing)
-  well-chosen e r q = q ∙ first-fails (not (wellFormed m)) (refused 3) checks (ap not e)
+use Rattle.view.specs.Checks.{Check, undecodable, capacityChecksAt, byteWriteChecks, allocateChecks, capacityChecks}
+use Rattle.view.specs.Calls.{Value, firstRefusal}
 
 -- ---- what reading the layout asks
 pub layout-asks : (m : Mem) → WellFormed m → (headLength ≤ length (m .words)) × (narrow (m .words) ≡ true)

@@ -1,12 +1,11 @@
-// Which refusal a write or an allocation gets, or 0: the tests in the order of 01's table.
+// Which refusal a write to a well-formed memory or an allocation in it gets, or 0: the tests in the order of 01's table.
 ghost use mathlib.Core.Path.{_≡_};
 ghost use mathlib.Core.Bool.{true, not, _&&_};
 ghost use Prim.Native.Nat.{_+_, _<_, _≤_, _^_};
 ghost use lib.Dec.{eqb, ltb};
 ghost use lib.ListN.{length};
-ghost use Rattle.view.specs.Calls.{nothing, firstRefusal};
+ghost use Rattle.view.specs.Calls.{firstRefusal};
 ghost use Rattle.page_ids.specs.Decode.{pageOf, decoded};
-ghost use Rattle.outcome.specs.Outcome.{refusalNumber};
 ghost use Rattle.store.specs.Mem.{mem, headLength, layoutOf};
 ghost use Rattle.store.specs.Hold.{Indexed};
 ghost use Rattle.formed.specs.Pages.{journalCount};
@@ -14,7 +13,7 @@ ghost use Rattle.formed.specs.Formed.{narrow};
 ghost use Rattle.formed.specs.WellFormed.{WellFormed};
 ghost use Rattle.view.specs.View.{settingOf, viewOf};
 ghost use Rattle.view.specs.Steps.{missing, touchedCount, alignedCount};
-ghost use Rattle.view.specs.Checks.{overfull, capacityChecks, onMemory, wordWriteChecks, byteWriteChecks, allocateChecks};
+ghost use Rattle.view.specs.Checks.{overfull, capacityChecks, wordWriteChecks, byteWriteChecks, allocateChecks};
 ghost use Rattle.checks.specs.Missing.{lacksAt};
 use page_ids::Address;
 use page_ids::DecodedPage;
@@ -158,8 +157,8 @@ pub fn decode(words: &[u64], page: PageId) -> DecodedPage
     page_ids::decode_page(formed::head::layout_of(words), page)
 }
 
-// A word write to a well-formed memory.
-pub fn word_checks(
+// A word write.
+pub fn word_refusal(
     bytes: &[u8],
     keys: &[u64],
     order: &[u32],
@@ -186,24 +185,8 @@ pub fn word_checks(
     )
 }
 
-pub fn word_refusal(
-    bytes: &[u8],
-    keys: &[u64],
-    order: &[u32],
-    words: &[u64],
-    page: PageId,
-    address: Address,
-) -> u32
-    ensures { λ r. ⌜ r ≡ refusalNumber (onMemory (mem (now (bytes .entry)) (now (keys .entry)) (now (order .entry)) (now (words .entry))) (wordWriteChecks (settingOf (mem (now (bytes .entry)) (now (keys .entry)) (now (order .entry)) (now (words .entry)))) (viewOf (mem (now (bytes .entry)) (now (keys .entry)) (now (order .entry)) (now (words .entry)))) (page .0) (address .0)) nothing) ⌝ }
-{
-    if !formed::well_formed(bytes, keys, order, words) {
-        return 3;
-    }
-    word_checks(bytes, keys, order, words, page, address)
-}
-
-// A write of n bytes to a well-formed memory.
-fn bytes_checks(
+// A write of n bytes.
+pub fn bytes_refusal(
     bytes: &[u8],
     keys: &[u64],
     order: &[u32],
@@ -235,25 +218,8 @@ fn bytes_checks(
     )
 }
 
-pub fn bytes_refusal(
-    bytes: &[u8],
-    keys: &[u64],
-    order: &[u32],
-    words: &[u64],
-    page: PageId,
-    start: Address,
-    n: usize,
-) -> u32
-    ensures { λ r. ⌜ r ≡ refusalNumber (onMemory (mem (now (bytes .entry)) (now (keys .entry)) (now (order .entry)) (now (words .entry))) (byteWriteChecks (settingOf (mem (now (bytes .entry)) (now (keys .entry)) (now (order .entry)) (now (words .entry)))) (viewOf (mem (now (bytes .entry)) (now (keys .entry)) (now (order .entry)) (now (words .entry)))) (page .0) (start .0) n) nothing) ⌝ }
-{
-    if !formed::well_formed(bytes, keys, order, words) {
-        return 3;
-    }
-    bytes_checks(bytes, keys, order, words, page, start, n)
-}
-
-// An allocation with n bytes of contents in a well-formed memory.
-fn allocate_checks(
+// An allocation with n bytes of contents.
+pub fn allocate_refusal(
     bytes: &[u8],
     keys: &[u64],
     order: &[u32],
@@ -276,20 +242,4 @@ fn allocate_checks(
     }
     let count = touched(Address(0), n);
     capacity_refusal(bytes, keys, order, words, page, 0, count, 0)
-}
-
-pub fn allocate_refusal(
-    bytes: &[u8],
-    keys: &[u64],
-    order: &[u32],
-    words: &[u64],
-    page: PageId,
-    n: usize,
-) -> u32
-    ensures { λ r. ⌜ r ≡ refusalNumber (onMemory (mem (now (bytes .entry)) (now (keys .entry)) (now (order .entry)) (now (words .entry))) (allocateChecks (settingOf (mem (now (bytes .entry)) (now (keys .entry)) (now (order .entry)) (now (words .entry)))) (viewOf (mem (now (bytes .entry)) (now (keys .entry)) (now (order .entry)) (now (words .entry)))) (page .0) n) nothing) ⌝ }
-{
-    if !formed::well_formed(bytes, keys, order, words) {
-        return 3;
-    }
-    allocate_checks(bytes, keys, order, words, page, n)
 }

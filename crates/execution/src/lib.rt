@@ -120,7 +120,7 @@ fn store_refusal(
     requires { ⌜ WellFormed (mem (now bytes) (now keys) (now order) (now words)) ⌝ }
     ensures { λ r. ⌜ r ≡ firstRefusal (wordWriteChecks (settingOf (mem (now (bytes .entry)) (now (keys .entry)) (now (order .entry)) (now (words .entry)))) (viewOf (mem (now (bytes .entry)) (now (keys .entry)) (now (order .entry)) (now (words .entry)))) (page .0) (address .0) ++ hookChecks (hookOf hook) (address .0) (value (word .limbs))) ⌝ }
 {
-    let refusal = checks::word_checks(bytes, keys, order, words, page, address);
+    let refusal = checks::word_refusal(bytes, keys, order, words, page, address);
     if refusal != 0 {
         return refusal;
     }

@@ -1,44 +1,81 @@
-use mathlib.Core.Path.{sym, _∙_}
-use borrow.Author.Tests.{not-true, not-false}
+use mathlib.Core.Path.{refl, sym, _∙_}
+use mathlib.Core.List.{_∷_}
+use native.Mathlib.Omega.{arith}
 use borrow.Author.Needs.{needs}
 use Rattle.store.specs.Mem.{mem}
-use Rattle.formed.proofs.Meaning.{well-formed-means}
 use Rattle.view.specs.View.{settingOf, viewOf}
-use Rattle.view.specs.Checks.{allocateChecks}
-use Rattle.checks.proofs.Chosen.{ill-chosen, well-chosen}
+use Rattle.view.specs.Checks.{capacityChecksAt}
+use Rattle.checks.proofs.Chosen.{layout-asks, chunks-fit, room-chosen, chosen-4, allocate-5, allocate-6, allocate-room}
+use Rattle.outcome.specs.Outcome.{refused}
+use Rattle.formed.specs.Pages.{fixed}
 use Rattle.checks.proofs.allocate_refusal.Statement.{statement}
 use Rattle.checks.proofs.allocate_refusal.Tie as tie
 
 returns : tie.Need-returns
 returns c =
     let at-if1 = c in
-    let at-well-formed = at-if1 .before in
-    let start = at-well-formed .before .before .before .before .before in
+    let at-is-undecodable = at-if1 .before in
+    let at-decode = at-is-undecodable .before in
+    let start = at-decode .before .before .before .before .before in
     let m = mem (start .args .bytes .now) (start .args .keys .now) (start .args .order .now) (start .args .words .now) in
-    ill-chosen m (allocateChecks (settingOf m) (viewOf m) (start .args .page .0) (start .args .n)) (sym (at-well-formed .well-formed .ensures) ∙ not-true _ (at-if1 .if1 .taken))
-
-allocate-checks-requires : tie.Need-allocate-checks-requires
-allocate-checks-requires c κs =
-    let at-if1 = c in
-    let at-well-formed = at-if1 .before in
-    let start = at-well-formed .before .before .before .before .before in
-    let m = mem (start .args .bytes .now) (start .args .keys .now) (start .args .order .now) (start .args .words .now) in
-    well-formed-means m (sym (at-well-formed .well-formed .ensures) ∙ not-false _ (at-if1 .if1 .left))
+    chosen-4 (settingOf m) (viewOf m) (start .args .page .0) _ (at-decode .decode .ensures) ((fixed (settingOf m .layout) (start .args .page .0), refused 5) ∷ (viewOf m .allocated (start .args .page .0), refused 6) ∷ capacityChecksAt (settingOf m) (viewOf m) (start .args .page .0) 0 (start .args .n) 0) (sym (at-is-undecodable .is-undecodable .ensures) ∙ at-if1 .if1 .taken)
 
 returns-2 : tie.Need-returns-2
 returns-2 c =
-    let at-allocate-checks = c in
-    let at-if1 = at-allocate-checks .before in
-    let at-well-formed = at-if1 .before in
-    let start = at-well-formed .before .before .before .before .before in
+    let at-if2 = c in
+    let at-is-fixed = at-if2 .before in
+    let at-if1 = at-is-fixed .before in
+    let at-is-undecodable = at-if1 .before in
+    let at-decode = at-is-undecodable .before in
+    let start = at-decode .before .before .before .before .before in
     let m = mem (start .args .bytes .now) (start .args .keys .now) (start .args .order .now) (start .args .words .now) in
-    well-chosen m (allocateChecks (settingOf m) (viewOf m) (start .args .page .0) (start .args .n)) (sym (at-well-formed .well-formed .ensures) ∙ not-false _ (at-if1 .if1 .left)) _ (at-allocate-checks .allocate-checks .ensures)
+    allocate-5 (settingOf m) (viewOf m) (start .args .page .0) _ (at-decode .decode .ensures) (start .args .n) (sym (at-is-undecodable .is-undecodable .ensures) ∙ at-if1 .if1 .left) (sym (at-is-fixed .is-fixed .ensures) ∙ at-if2 .if2 .taken)
+
+returns-3 : tie.Need-returns-3
+returns-3 c =
+    let at-if3 = c in
+    let at-is-allocated = at-if3 .before in
+    let at-if2 = at-is-allocated .before in
+    let at-is-fixed = at-if2 .before in
+    let at-if1 = at-is-fixed .before in
+    let at-is-undecodable = at-if1 .before in
+    let at-decode = at-is-undecodable .before in
+    let start = at-decode .before .before .before .before .before in
+    let m = mem (start .args .bytes .now) (start .args .keys .now) (start .args .order .now) (start .args .words .now) in
+    allocate-6 (settingOf m) (viewOf m) (start .args .page .0) _ (at-decode .decode .ensures) (start .args .n) (sym (at-is-undecodable .is-undecodable .ensures) ∙ at-if1 .if1 .left) (sym (at-is-fixed .is-fixed .ensures) ∙ at-if2 .if2 .left) (sym (at-is-allocated .is-allocated .ensures) ∙ at-if3 .if3 .taken)
+
+capacity-refusal-requires : tie.Need-capacity-refusal-requires
+capacity-refusal-requires c κs =
+    let at-touched = c in
+    let start = at-touched .before .before .before .before .before .before .before .before .before .before .before .before in
+    (start .pre, chunks-fit 0 (start .args .n) _ (at-touched .touched .ensures) (omega arith), omega arith)
+
+returns-4 : tie.Need-returns-4
+returns-4 c =
+    let at-capacity-refusal = c in
+    let at-touched = at-capacity-refusal .before in
+    let at-if3 = at-touched .before in
+    let at-is-allocated = at-if3 .before in
+    let at-if2 = at-is-allocated .before in
+    let at-is-fixed = at-if2 .before in
+    let at-if1 = at-is-fixed .before in
+    let at-is-undecodable = at-if1 .before in
+    let at-decode = at-is-undecodable .before in
+    let start = at-decode .before .before .before .before .before in
+    let m = mem (start .args .bytes .now) (start .args .keys .now) (start .args .order .now) (start .args .words .now) in
+    allocate-room (settingOf m) (viewOf m) (start .args .page .0) _ (at-decode .decode .ensures) (start .args .n) (sym (at-is-undecodable .is-undecodable .ensures) ∙ at-if1 .if1 .left) (sym (at-is-fixed .is-fixed .ensures) ∙ at-if2 .if2 .left) (sym (at-is-allocated .is-allocated .ensures) ∙ at-if3 .if3 .left) _ (room-chosen 0 (start .args .n) _ (at-touched .touched .ensures) (settingOf m) (viewOf m) (start .args .page .0) 0 0 _ refl (at-capacity-refusal .capacity-refusal .ensures))
 
 pub allocate-refusal-spec : {M : Type 1} → statement M
 allocate-refusal-spec =
     tie.close
     (tie.spec
+    (λ c κs. layout-asks _ (c .before .before .before .before .pre))
     (λ c κs. search needs)
     returns
-    allocate-checks-requires
-    returns-2)
+    (λ c κs. search needs)
+    returns-2
+    (λ c κs. c .before .before .before .before .before .before .before .before .before .pre)
+    returns-3
+    (λ c κs. search needs)
+    capacity-refusal-requires
+    returns-4)

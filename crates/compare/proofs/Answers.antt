@@ -1,7 +1,7 @@
 -- The six numbers of a layout, and which check decides a comparison.
 -- Assumes nothing.
-use mathlib.Core.Path.{_≡_, sym, _∙_}
-use mathlib.Core.Bool.{Bool, true, false, not, _&&_}
+use mathlib.Core.Path.{_≡_}
+use mathlib.Core.Bool.{Bool, true, false, _&&_}
 use mathlib.Core.List.{List}
 use Prim.Native.Nat.{ℕ, zero, suc, _<_}
 use native.Mathlib.Omega.{arith}
@@ -12,7 +12,9 @@ use Rattle.outcome.specs.Outcome.{refused, done}
 use Rattle.index.proofs.Logic.{and-left, and-right}
 use Rattle.store.specs.Mem.{Mem, layoutOf}
 use Rattle.formed.specs.Formed.{wellFormed}
+use Rattle.formed.specs.WellFormed.{WellFormed}
 use Rattle.formed.proofs.Bools.{refute}
+use Rattle.formed.proofs.Meaning.{well-formed-passes}
 use Rattle.view.specs.View.{viewOf}
 use Rattle.view.specs.Steps.{alike}
 use Rattle.view.specs.Checks.{sameLayout}
@@ -75,14 +77,12 @@ module _ (m n : Mem) where
   pub left-ill : wellFormed m ≡ false → refused 3 ≡ comparisonOf m n
   left-ill f = rw f
 
-  module _ (f : wellFormed m ≡ true) where
-    pub right-ill : wellFormed n ≡ false → refused 3 ≡ comparisonOf m n
-    right-ill g = rw (f, g)
+  pub right-ill : wellFormed m ≡ true → wellFormed n ≡ false → refused 3 ≡ comparisonOf m n
+  right-ill f g = rw (f, g)
 
-    module _ (g : wellFormed n ≡ true) where
-      pub layouts-differ : sameLayout (layoutOf (m .words)) (layoutOf (n .words)) ≡ false → refused 1 ≡ comparisonOf m n
-      layouts-differ s = rw (f, g, s)
+  module _ (f : WellFormed m) (g : WellFormed n) where
+    pub layouts-differ : sameLayout (layoutOf (m .words)) (layoutOf (n .words)) ≡ false → refused 1 ≡ comparisonOf m n
+    layouts-differ s = rw (well-formed-passes m f, well-formed-passes n g, s)
 
-      module _ (s : sameLayout (layoutOf (m .words)) (layoutOf (n .words)) ≡ true) where
-        pub decided : (b : Bool) → alike (viewOf m) (viewOf n) ≡ b → done (verdict b) ≡ comparisonOf m n
-        decided b e = rw (f, g, s, e)
+    pub decided : sameLayout (layoutOf (m .words)) (layoutOf (n .words)) ≡ true → (b : Bool) → alike (viewOf m) (viewOf n) ≡ b → done (verdict b) ≡ comparisonOf m n
+    decided s b e = rw (well-formed-passes m f, well-formed-passes n g, s, e)

@@ -1,9 +1,9 @@
 -- The answers of the reads: which check decides.
 -- Assumes nothing.
 use mathlib.Core.Path.{_≡_, refl, sym, ap, _∙_}
-use mathlib.Core.Bool.{Bool, true, false, cond, not, _&&_, false≢true}
+use mathlib.Core.Bool.{true, false, cond, _&&_, false≢true}
 use mathlib.Core.List.{List, []}
-use Prim.Native.Nat.{ℕ, zero, suc, _+_, _*_, _-_, _≤_, _<_}
+use Prim.Native.Nat.{ℕ, _*_, _-_, _≤_, _<_}
 use native.Mathlib.Omega.{arith}
 use lib.Dec.{eqb}
 use lib.ListN.{length, getD}
@@ -11,13 +11,14 @@ use borrow.Author.Tests.{lt-ltb, le-ltb, eq-eqb, ne-eqb, eqb-true}
 use Rattle.formed.proofs.Same.{tab-long}
 use Rattle.index.proofs.Logic.{and-left, and-right}
 use Rattle.outcome.specs.Outcome.{Outcome, refused, done, carriedOut, firstOf}
-use Rattle.store.specs.Mem.{Mem, dynamicLength, journalLength}
+use Rattle.store.specs.Mem.{Mem, journalLength}
 use Rattle.formed.specs.Formed.{zeros, wellFormed}
 use Rattle.formed.specs.Pages.{journalCount}
 use Rattle.formed.specs.Parts.{journal}
-use Rattle.formed.proofs.Meaning.{well-formed-means}
+use Rattle.formed.specs.WellFormed.{WellFormed}
+use Rattle.formed.proofs.Meaning.{well-formed-passes}
 use Rattle.view.specs.View.{View, viewOf}
-use Rattle.view.specs.Steps.{run, padded}
+use Rattle.view.specs.Steps.{run}
 use Rattle.view.specs.Checks.{Check, onMemory, partialChecks, rangeChecks, lookupChecks}
 use Rattle.view.specs.Calls.{shown}
 use Rattle.reads.specs.Calls.{ReadDoes, RangeDoes}
@@ -29,6 +30,9 @@ module _ {A : Type 0} (m : Mem) (checks : List (Check A)) (a : A) where
 
   pub well : wellFormed m ≡ true → onMemory m checks a ≡ firstOf checks (done a)
   well f = rw f
+
+  pub on-formed : WellFormed m → onMemory m checks a ≡ firstOf checks (done a)
+  on-formed f = well (well-formed-passes m f)
 
 -- ---- the other checks
 module _ {A : Type 0} (a : A) (start end : ℕ) where
@@ -88,19 +92,12 @@ module _ (m : Mem) (s : List ℕ) where
   pub show-none : wellFormed m ≡ false → [] ≡ cond (wellFormed m) s []
   show-none f = rw f
 
-  pub show-all : wellFormed m ≡ true → s ≡ cond (wellFormed m) s []
-  show-all f = rw f
+  pub show-all : WellFormed m → s ≡ cond (wellFormed m) s []
+  show-all f = rw (well-formed-passes m f)
 
--- the numbers of the head
-module _ (m : Mem) (f : wellFormed m ≡ true) where
-  pub head-long : 16 ≤ length (m .words)
-  head-long = let w = well-formed-means m f .lengths .in-words in omega arith
-
-  pub length-small : dynamicLength (m .words) ≤ 4294967295
-  length-small = well-formed-means m f .encoded .length-width
-
-  pub mark-small : (j : ℕ) → j < journalCount → journalLength (m .words) j ≤ 4294967295
-  mark-small j l = let w = well-formed-means m f .in-capacity j l in let r = well-formed-means m f .lengths .journal-hi in omega arith
+-- the lengths of the journals
+pub mark-small : (m : Mem) → WellFormed m → (j : ℕ) → j < journalCount → journalLength (m .words) j ≤ 4294967295
+mark-small m f j l = let w = f .in-capacity j l in let r = f .lengths .journal-hi in omega arith
 
 pub marks-are : (m : Mem) → _≡_ {A = ℕ × ℕ} (getD (m .words) 12 0, getD (m .words) 13 0) (length (viewOf m .journal 0), length (viewOf m .journal 1))
 unfolding journal

@@ -1,25 +1,23 @@
-// Reads of a lent memory. A call tests first that the memory is well formed (refusal 3); the steps ask it.
+// Reads of a lent memory. A call tests first that the memory is well formed (refusal 3); `on_formed` has what is left of it.
 // vm2: the reading half of `Heaps`.
 use outcome::Answer;
 use page_ids::Address;
 use page_ids::PageId;
-use store::head;
 use word::Word;
 ghost use mathlib.Core.Path.{_≡_};
-ghost use mathlib.Core.Bool.{_&&_};
 ghost use mathlib.Core.List.{[]};
 ghost use Prim.Native.Nat.{_-_};
-ghost use lib.Dec.{eqb};
 ghost use lib.ListN.{length};
 ghost use Rattle.outcome.specs.Outcome.{answered, unitOutcome};
 ghost use Rattle.word.specs.Value.{value, bigEndian};
 ghost use Rattle.store.specs.Mem.{mem};
-ghost use Rattle.formed.specs.Formed.{zeros};
 ghost use Rattle.view.specs.View.{viewOf};
 ghost use Rattle.view.specs.Steps.{run, padded};
 ghost use Rattle.view.specs.Checks.{onMemory, partialChecks, rangeChecks, lookupChecks};
 ghost use Rattle.view.specs.Calls.{shownOf};
 ghost use Rattle.reads.specs.Calls.{wordOutcome, byteOutcome, lengthOutcome, snapshotOutcome, ReadDoes, RangeDoes};
+
+pub mod on_formed;
 
 // A word, or a refusal and the word 0.
 pub struct WordRead {
@@ -42,26 +40,6 @@ pub struct Marks {
     pub refusal: u32,
     pub heap: u32,
     pub aux: u32,
-}
-
-// How far `end` lies past `start`: 0 where it does not.
-fn span(start: Address, end: Address) -> u32
-    ensures { λ r. ⌜ r ≡ (end .0) - (start .0) ⌝ }
-{
-    if end.0 < start.0 {
-        return 0;
-    }
-    end.0 - start.0
-}
-
-// Whether a block is 256 zero bytes.
-fn is_zero_block(block: &[u8]) -> bool
-    ensures { λ r. ⌜ r ≡ (eqb (length (now (block .entry))) 256 && zeros (now (block .entry))) ⌝ }
-{
-    if block.len() != 256 {
-        return false;
-    }
-    formed::slot::all_zero(block)
 }
 
 // A refused read of a word.
@@ -90,11 +68,7 @@ pub fn read_u256(
     if !formed::well_formed(bytes, keys, order, words) {
         return no_word(3);
     }
-    let read = read_steps::read_word(bytes, keys, order, words, page, address);
-    WordRead {
-        refusal: 0,
-        word: word::from_big_endian(read),
-    }
+    on_formed::read_u256(bytes, keys, order, words, page, address)
 }
 
 // A word of the bytes from `start` to `end`, which lead it; zeros follow. More than 32 bytes are refused with 8; a reversed range has none.
@@ -112,15 +86,7 @@ pub fn read_u256_partially(
     if !formed::well_formed(bytes, keys, order, words) {
         return no_word(3);
     }
-    let n = span(start, end);
-    if n > 32 {
-        return no_word(8);
-    }
-    let read = read_steps::read_padded(bytes, keys, order, words, page, start, n as usize);
-    WordRead {
-        refusal: 0,
-        word: word::from_big_endian(read),
-    }
+    on_formed::read_u256_partially(bytes, keys, order, words, page, start, end)
 }
 
 // The bytes from `start` to `end`, into an output of their number.
@@ -139,12 +105,7 @@ pub fn read_range_big_endian(
     if !formed::well_formed(bytes, keys, order, words) {
         return Answer::Refused(3);
     }
-    let n = span(start, end);
-    if output.len() != n as usize {
-        return Answer::Refused(8);
-    }
-    read_steps::read_into(bytes, keys, order, words, page, start, output);
-    Answer::Done
+    on_formed::read_range_big_endian(bytes, keys, order, words, page, start, end, output)
 }
 
 pub fn read_byte(
@@ -163,10 +124,7 @@ pub fn read_byte(
             byte: 0,
         };
     }
-    ByteRead {
-        refusal: 0,
-        byte: read_steps::byte_at(bytes, keys, order, words, page, address),
-    }
+    on_formed::read_byte(bytes, keys, order, words, page, address)
 }
 
 // 01's dynamic length: above every group of an allocated page; a truncation alone lowers it.
@@ -179,10 +137,7 @@ pub fn dynamic_len(bytes: &[u8], keys: &[u64], order: &[u32], words: &[u64]) -> 
             length: 0,
         };
     }
-    LengthRead {
-        refusal: 0,
-        length: words[head::DYNAMIC_LENGTH] as u32,
-    }
+    on_formed::dynamic_len(bytes, keys, order, words)
 }
 
 pub fn snapshot(bytes: &[u8], keys: &[u64], order: &[u32], words: &[u64]) -> Marks
@@ -195,11 +150,7 @@ pub fn snapshot(bytes: &[u8], keys: &[u64], order: &[u32], words: &[u64]) -> Mar
             aux: 0,
         };
     }
-    Marks {
-        refusal: 0,
-        heap: words[head::HEAP_JOURNAL] as u32,
-        aux: words[head::AUX_JOURNAL] as u32,
-    }
+    on_formed::snapshot(bytes, keys, order, words)
 }
 
 // The bytes of a chunk, held or not; an empty part where the lookup is refused. `chunk_check` says why.
@@ -218,10 +169,7 @@ pub fn chunk<'a>(
     if !formed::well_formed(bytes, keys, order, words) {
         return &block[0..0];
     }
-    if !is_zero_block(block) {
-        return &block[0..0];
-    }
-    read_steps::chunk_of(bytes, keys, order, words, page, number, block)
+    on_formed::chunk(bytes, keys, order, words, page, number, block)
 }
 
 pub fn chunk_check(
@@ -238,8 +186,5 @@ pub fn chunk_check(
     if !formed::well_formed(bytes, keys, order, words) {
         return Answer::Refused(3);
     }
-    if !is_zero_block(block) {
-        return Answer::Refused(8);
-    }
-    Answer::Done
+    on_formed::chunk_check(bytes, keys, order, words, page, number, block)
 }

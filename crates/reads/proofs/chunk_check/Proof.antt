@@ -1,9 +1,10 @@
-use mathlib.Core.Path.{sym, _∙_}
+use mathlib.Core.Path.{sym}
 use borrow.Author.Needs.{needs}
 use Rattle.store.specs.Mem.{mem}
+use Rattle.formed.proofs.Meaning.{well-formed-means}
 use Rattle.view.specs.Checks.{lookupChecks}
 use Rattle.index.proofs.Logic.{passed, failed}
-use Rattle.reads.proofs.Answers.{ill, well, lookup-bad, lookup-good}
+use Rattle.reads.proofs.Answers.{ill}
 use Rattle.reads.proofs.chunk_check.Statement.{statement}
 use Rattle.reads.proofs.chunk_check.Tie as tie
 
@@ -15,26 +16,17 @@ returns c =
     let m = mem (start .args .bytes .now) (start .args .keys .now) (start .args .order .now) (start .args .words .now) in
     sym (ill m (lookupChecks (start .args .block .now)) tt (failed (at-well-formed .well-formed .ensures) (at-if1 .if1 .taken)))
 
-returns-2 : tie.Need-returns-2
-returns-2 c =
-    let at-if2 = c in
-    let at-is-zero-block = at-if2 .before in
-    let at-if1 = at-is-zero-block .before in
+chunk-check-requires : tie.Need-chunk-check-requires
+chunk-check-requires c κs =
+    let at-if1 = c in
     let at-well-formed = at-if1 .before in
-    let start = at-well-formed .before .before .before .before .before .before in
-    let m = mem (start .args .bytes .now) (start .args .keys .now) (start .args .order .now) (start .args .words .now) in
-    sym (well m (lookupChecks (start .args .block .now)) tt (passed (at-well-formed .well-formed .ensures) (at-if1 .if1 .left)) ∙ lookup-bad tt (start .args .block .now) (failed (at-is-zero-block .is-zero-block .ensures) (at-if2 .if2 .taken)))
-
-returns-3 : tie.Need-returns-3
-returns-3 c =
-    let at-if2 = c in
-    let at-is-zero-block = at-if2 .before in
-    let at-if1 = at-is-zero-block .before in
-    let at-well-formed = at-if1 .before in
-    let start = at-well-formed .before .before .before .before .before .before in
-    let m = mem (start .args .bytes .now) (start .args .keys .now) (start .args .order .now) (start .args .words .now) in
-    sym (well m (lookupChecks (start .args .block .now)) tt (passed (at-well-formed .well-formed .ensures) (at-if1 .if1 .left)) ∙ lookup-good tt (start .args .block .now) (passed (at-is-zero-block .is-zero-block .ensures) (at-if2 .if2 .left)))
+    well-formed-means _ (passed (at-well-formed .well-formed .ensures) (at-if1 .if1 .left))
 
 pub chunk-check-spec : {M : Type 1} → statement M
 chunk-check-spec =
-    tie.close (tie.spec (λ c κs. search needs) returns (λ c κs. search needs) returns-2 returns-3)
+    tie.close
+    (tie.spec
+    (λ c κs. search needs)
+    returns
+    chunk-check-requires
+    (λ c. search needs))

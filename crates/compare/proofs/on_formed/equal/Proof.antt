@@ -1,8 +1,8 @@
 use mathlib.Core.Path.{sym, _∙_}
 use Rattle.store.specs.Mem.{Mem, mem}
 use Rattle.compare.proofs.Halves.{second-half, first-fails}
-use Rattle.compare.proofs.equal.Statement.{statement}
-use Rattle.compare.proofs.equal.Tie as tie
+use Rattle.compare.proofs.on_formed.equal.Statement.{statement}
+use Rattle.compare.proofs.on_formed.equal.Tie as tie
 
 -- the two memories
 abbrev left : tie.Start → Mem

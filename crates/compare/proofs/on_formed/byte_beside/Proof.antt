@@ -3,8 +3,8 @@ use Prim.Native.Nat.{_+_, _*_}
 use native.Mathlib.Omega.{arith}
 use lib.ListN.{take, List·getD-eq-default}
 use lib.Seq.{getD-take, length-take-le}
-use Rattle.compare.proofs.byte_beside.Statement.{statement}
-use Rattle.compare.proofs.byte_beside.Tie as tie
+use Rattle.compare.proofs.on_formed.byte_beside.Statement.{statement}
+use Rattle.compare.proofs.on_formed.byte_beside.Tie as tie
 
 returns : tie.Need-returns
 returns c =

@@ -1,8 +1,8 @@
 use lib.ListN.{length}
 use borrow.Author.Tests.{eq-eqb, ne-eqb}
 use borrow.Author.Needs.{needs}
-use Rattle.reads.proofs.is_zero_block.Statement.{statement}
-use Rattle.reads.proofs.is_zero_block.Tie as tie
+use Rattle.reads.proofs.on_formed.is_zero_block.Statement.{statement}
+use Rattle.reads.proofs.on_formed.is_zero_block.Tie as tie
 
 returns : tie.Need-returns
 returns c =

@@ -9,8 +9,8 @@ use Rattle.store.specs.Mem.{Mem, mem}
 use Rattle.formed.specs.WellFormed.{slotByte}
 use Rattle.compare.proofs.Meaning.{beside, entry-width}
 use Rattle.compare.proofs.Walk.{Ranks, Seen, entry-at, held-few, ranked-pos, ranked-lt, ranked-key, seen-none, past-slot, past-page, past-free, all-seen, page-here, page-gone, byte-same, byte-other}
-use Rattle.compare.proofs.covered.Statement.{statement}
-use Rattle.compare.proofs.covered.Tie as tie
+use Rattle.compare.proofs.on_formed.covered.Statement.{statement}
+use Rattle.compare.proofs.on_formed.covered.Tie as tie
 
 abbrev Inv-loop : tie.InvT-loop
 Inv-loop left-bytes left-keys left-order left-words right-bytes right-keys right-order right-words slots pages held right-slots right-pages equal₀ i e listed f s key t j₀ equal j =

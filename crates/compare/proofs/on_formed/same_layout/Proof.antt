@@ -4,8 +4,8 @@ use native.Mathlib.Omega.{arith}
 use lib.ListN.{getD}
 use borrow.Author.Count.{below-more}
 use Rattle.compare.proofs.Answers.{layout-other, layout-same}
-use Rattle.compare.proofs.same_layout.Statement.{statement}
-use Rattle.compare.proofs.same_layout.Tie as tie
+use Rattle.compare.proofs.on_formed.same_layout.Statement.{statement}
+use Rattle.compare.proofs.on_formed.same_layout.Tie as tie
 
 abbrev Inv-loop : tie.InvT-loop
 Inv-loop left right i₀ i = (i ≤ 6) × ((k : ℕ) → k < i → getD left k 0 ≡ getD right k 0)

@@ -1,0 +1,23 @@
+use mathlib.Core.List.{[]}
+use mathlib.Core.Path.{refl, sym, ap, _∙_}
+use borrow.Author.Needs.{needs}
+use Rattle.outcome.specs.Outcome.{done}
+use Rattle.word.specs.Value.{value, bigEndian}
+use Rattle.store.specs.Mem.{mem}
+use Rattle.view.specs.View.{viewOf}
+use Rattle.view.specs.Steps.{run}
+use Rattle.reads.proofs.Answers.{on-formed, read-done}
+use Rattle.reads.proofs.on_formed.read_u256.Statement.{statement}
+use Rattle.reads.proofs.on_formed.read_u256.Tie as tie
+
+returns : tie.Need-returns
+returns c =
+    let at-from-big-endian = c in
+    let at-read-word = at-from-big-endian .before in
+    let start = at-read-word .before .before .before .before .before in
+    let m = mem (start .args .bytes .now) (start .args .keys .now) (start .args .order .now) (start .args .words .now) in
+    read-done _ _ (value (at-from-big-endian .from-big-endian .result .limbs)) 0 refl
+    (on-formed m [] (bigEndian (run (viewOf m) (start .args .page .0) (start .args .address .0) 32)) (start .pre) ∙ ap done (sym (at-from-big-endian .from-big-endian .ensures ∙ ap bigEndian (at-read-word .read-word .ensures))))
+
+pub read-u256-spec : {M : Type 1} → statement M
+read-u256-spec = tie.close (tie.spec (λ c κs. search needs) (λ c κs. search needs) returns)

@@ -1,4 +1,5 @@
-//! Links `libzincpapaya.a`, which `rt staticlib zincpapaya` writes.
+//! Links the archives that `rt staticlib` writes: `libzincpapaya.a`, with the calls that test the
+//! memory first, and `libowned.a`, with those of a memory that `Heaps` owns.
 
 use std::{
     env,
@@ -6,20 +7,24 @@ use std::{
     process,
 };
 
-const ARCHIVE: &str = "libzincpapaya.a";
-
 fn main() {
     println!("cargo:rerun-if-changed=build.rs");
     println!("cargo:rerun-if-env-changed=ZINCPAPAYA_LIB");
     let folder = folder();
-    let archive = folder.join(ARCHIVE);
-    println!("cargo:rerun-if-changed={}", archive.display());
-    if !archive.is_file() {
-        explain(&archive);
+    println!("cargo:rustc-link-search=native={}", folder.display());
+    let missing: Vec<_> = archives().iter().filter(|name| !linked(&folder, name)).collect();
+    if !missing.is_empty() {
+        missing.into_iter().for_each(|name| explain(&folder, name));
         process::exit(1);
     }
-    println!("cargo:rustc-link-search=native={}", folder.display());
-    println!("cargo:rustc-link-lib=static=zincpapaya");
+}
+
+/// With the feature `tested` no call of `libowned.a` is left.
+fn archives() -> &'static [&'static str] {
+    match env::var_os("CARGO_FEATURE_TESTED") {
+        Some(_) => &["zincpapaya"],
+        None => &["zincpapaya", "owned"],
+    }
 }
 
 /// The folder that `ZINCPAPAYA_LIB` names, or else the repository's `target/staticlib`.
@@ -33,8 +38,17 @@ fn folder() -> PathBuf {
     }
 }
 
-fn explain(archive: &Path) {
-    eprintln!("zincpapaya: there is no {}", archive.display());
-    eprintln!("zincpapaya: run `rt staticlib zincpapaya` first, in the repository's own folder,");
-    eprintln!("zincpapaya: or let ZINCPAPAYA_LIB name the folder that has {ARCHIVE}");
+/// Links an archive; tells whether it is there.
+fn linked(folder: &Path, name: &str) -> bool {
+    let archive = folder.join(format!("lib{name}.a"));
+    println!("cargo:rerun-if-changed={}", archive.display());
+    println!("cargo:rustc-link-lib=static={name}");
+    archive.is_file()
+}
+
+fn explain(folder: &Path, name: &str) {
+    let archive = format!("lib{name}.a");
+    eprintln!("zincpapaya: there is no {}", folder.join(&archive).display());
+    eprintln!("zincpapaya: run `rt staticlib {name}` first, in the repository's own folder,");
+    eprintln!("zincpapaya: or let ZINCPAPAYA_LIB name the folder that has {archive}");
 }

@@ -3,12 +3,14 @@ ghost use mathlib.Core.Path.{_≡_};
 ghost use mathlib.Core.Bool.{true, not, _&&_};
 ghost use Prim.Native.Nat.{_+_, _<_, _≤_, _^_};
 ghost use lib.Dec.{eqb, ltb};
-ghost use lib.ListN.{length};
+ghost use lib.ListN.{length, drop};
+ghost use Rattle.index.specs.Index.{seek};
 ghost use Rattle.view.specs.Calls.{firstRefusal};
 ghost use Rattle.page_ids.specs.Decode.{pageOf, decoded};
-ghost use Rattle.store.specs.Mem.{mem, headLength, layoutOf};
-ghost use Rattle.store.specs.Hold.{Indexed};
+ghost use Rattle.store.specs.Mem.{mem, headLength, layoutOf, slotCount};
+ghost use Rattle.store.specs.Find.{Findable};
 ghost use Rattle.formed.specs.Pages.{journalCount};
+ghost use Rattle.formed.specs.Parts.{entryOf};
 ghost use Rattle.formed.specs.Formed.{narrow};
 ghost use Rattle.formed.specs.WellFormed.{WellFormed};
 ghost use Rattle.view.specs.View.{settingOf, viewOf};
@@ -52,48 +54,58 @@ pub fn is_allocated(bytes: &[u8], keys: &[u64], order: &[u32], words: &[u64], pa
     (e as u64) < words[head::PAGES] + head::FIXED_PAGES
 }
 
-// 9: the page needs an entry and none is left.
-fn no_entry(bytes: &[u8], keys: &[u64], order: &[u32], words: &[u64], page: PageId) -> bool
-    requires { ⌜ WellFormed (mem (now bytes) (now keys) (now order) (now words)) ⌝ }
+// 9: the page needs an entry and none is left. The page's entry is e.
+fn no_entry(
+    bytes: &[u8],
+    keys: &[u64],
+    order: &[u32],
+    words: &[u64],
+    page: PageId,
+    e: usize,
+) -> bool
+    requires { ⌜ (WellFormed (mem (now bytes) (now keys) (now order) (now words))) × (e ≡ entryOf (mem (now bytes) (now keys) (now order) (now words)) (page .0)) ⌝ }
     ensures { λ r. ⌜ r ≡ (not (viewOf (mem (now (bytes .entry)) (now (keys .entry)) (now (order .entry)) (now (words .entry))) .allocated (page .0)) && eqb (viewOf (mem (now (bytes .entry)) (now (keys .entry)) (now (order .entry)) (now (words .entry))) .entriesLeft) 0) ⌝ }
 {
-    if is_allocated(bytes, keys, order, words, page) {
+    if (e as u64) < words[head::PAGES] + head::FIXED_PAGES {
         return false;
     }
     words[head::ENTRIES] == words[head::PAGES] + head::FIXED_PAGES
 }
 
-// Whether the page at entry e does not hold chunk k.
-fn lacks(keys: &[u64], order: &[u32], words: &[u64], e: usize, k: u64) -> bool
-    requires { ⌜ (Indexed (now keys) (now order) (now words)) × (e ≤ 4100) ⌝ }
+// Whether the page at entry e does not hold chunk k: by a hint, or else by search.
+fn lacks(keys: &[u64], order: &[u32], words: &[u64], page: PageId, e: usize, k: u64) -> bool
+    requires { ⌜ (Findable (now keys) (now order) (now words)) × (e ≤ 4100) × (e ≡ seek (drop (slotCount (now words)) (now keys)) ((page .0) + 1)) ⌝ }
     ensures { λ r. ⌜ r ≡ lacksAt (now (keys .entry)) (now (words .entry)) e k ⌝ }
 {
     if k > store::LAST_CHUNK as u64 {
         return true;
     }
-    let s = store::slot_at_entry(keys, order, words, e, k);
-    words[head::CHUNKS] <= s as u64
+    let c = words[head::CHUNKS] as usize;
+    if store::hinted(keys, order, words, page, k as u32) < c {
+        return false;
+    }
+    c <= store::slot_at_entry(keys, order, words, e, k)
 }
 
-// 10: more of the chunks first, .., first + count - 1 are missing than the pool has. It stops as soon as that is sure.
+// 10: more of the chunks first, .., first + count - 1 are missing than the pool has. The page's entry is e. It stops as soon as that is sure.
 fn short_of_chunks(
     bytes: &[u8],
     keys: &[u64],
     order: &[u32],
     words: &[u64],
     page: PageId,
+    e: usize,
     first: u64,
     count: u64,
 ) -> bool
-    requires { ⌜ (WellFormed (mem (now bytes) (now keys) (now order) (now words))) × (first + count < 2 ^ 64) ⌝ }
+    requires { ⌜ (WellFormed (mem (now bytes) (now keys) (now order) (now words))) × (e ≡ entryOf (mem (now bytes) (now keys) (now order) (now words)) (page .0)) × (first + count < 2 ^ 64) ⌝ }
     ensures { λ r. ⌜ r ≡ ltb (viewOf (mem (now (bytes .entry)) (now (keys .entry)) (now (order .entry)) (now (words .entry))) .pool) (missing (viewOf (mem (now (bytes .entry)) (now (keys .entry)) (now (order .entry)) (now (words .entry))) .held (page .0)) first count) ⌝ }
 {
     let pool = store::pool_count(keys, order, words);
-    let e = store::entry_of(keys, order, words, page);
     let mut missing: u64 = 0;
     let mut i: u64 = 0;
     while i < count {
-        if lacks(keys, order, words, e, first + i) {
+        if lacks(keys, order, words, page, e, first + i) {
             if missing == pool {
                 return true;
             }
@@ -105,7 +117,7 @@ fn short_of_chunks(
 }
 
 // 11: w more words do not fit the page's journal.
-fn short_of_words(
+pub fn short_of_words(
     bytes: &[u8],
     keys: &[u64],
     order: &[u32],
@@ -137,10 +149,11 @@ pub fn capacity_refusal(
     requires { ⌜ (WellFormed (mem (now bytes) (now keys) (now order) (now words))) × (first + count < 2 ^ 64) × (w ≤ 2 ^ 60) ⌝ }
     ensures { λ r. ⌜ r ≡ firstRefusal (capacityChecks (settingOf (mem (now (bytes .entry)) (now (keys .entry)) (now (order .entry)) (now (words .entry)))) (viewOf (mem (now (bytes .entry)) (now (keys .entry)) (now (order .entry)) (now (words .entry)))) (page .0) first count w) ⌝ }
 {
-    if no_entry(bytes, keys, order, words, page) {
+    let e = store::entry_of(keys, order, words, page);
+    if no_entry(bytes, keys, order, words, page, e) {
         return 9;
     }
-    if short_of_chunks(bytes, keys, order, words, page, first, count) {
+    if short_of_chunks(bytes, keys, order, words, page, e, first, count) {
         return 10;
     }
     if short_of_words(bytes, keys, order, words, page, w) {

@@ -3,36 +3,37 @@
 use mathlib.Core.Path.{_≡_, refl, sym, ap, _∙_, subst, subst₂}
 use mathlib.Core.Bool.{Bool, true, false, cond, not, _&&_, false≢true}
 use mathlib.Core.List.{List, [], _∷_, _++_}
-use Prim.Native.Nat.{ℕ, _+_, _*_, _%_, _^_, _<_, _≤_}
+use Prim.Native.Nat.{ℕ, zero, suc, _+_, _%_, _^_, _<_, _≤_}
 use native.Mathlib.Omega.{arith}
 use native.Mathlib.Nat.{mod-eq-of-lt}
 use lib.Dec.{ltb}
 use borrow.Author.Tests.{lt-ltb, le-ltb, ltb-false, not-true, not-false}
-use Rattle.outcome.specs.Outcome.{Outcome, refused, panicked, done, carriedOut, firstOf}
+use Rattle.outcome.specs.Outcome.{Outcome, refused, panicked, done, carriedOut, refusalNumber, answered, firstOf}
 use Rattle.word.specs.Value.{bigEndian, wordBytes, lastAddress}
 use Rattle.fat_pointer.specs.declared.FatPointer.{FatPointer}
 use Rattle.fat_pointer.specs.Pointer.{pointerOf}
 use Rattle.state.specs.declared.Frame.{Frame}
 use Rattle.state.specs.declared.Area.{Area}
 use Rattle.state.specs.declared.FrameStep.{FrameStep}
-use Rattle.state.specs.Access.{newBound, frameAccessed}
+use Rattle.state.specs.Access.{frameAccessed}
 use Rattle.state.proofs.Laws.{frame-within}
 use Rattle.store.specs.Mem.{Mem, layoutOf}
 use Rattle.formed.specs.Formed.{wellFormed}
 use Rattle.formed.specs.WellFormed.{WellFormed}
-use Rattle.formed.proofs.Meaning.{well-formed-means}
+use Rattle.formed.proofs.Meaning.{well-formed-means, well-formed-passes}
 use Rattle.view.proofs.Refused.{Refusals}
 use Rattle.view.specs.View.{View, settingOf, viewOf}
 use Rattle.view.specs.Steps.{run, padded, wordWritten}
 use Rattle.view.specs.Checks.{Check, wordWriteChecks}
 use Rattle.view.specs.Does.{Shows}
 use Rattle.view.specs.Instructions.{Operand, Hook, InstructionResult, running, onHook, heapOf, staticOf, frameAlone, panic, incremented, hooked, staticChecks, staticLoaded, staticStored, readFrom, readCount, pointed}
-use Rattle.view.specs.Calls.{Call, Value, Load, Store, LoadPointer, LoadStatic, StoreStatic, instructionResult, outcomeOf, nextOf, answerOf, firstRefusal}
+use Rattle.view.specs.Calls.{Call, Value, WriteWord, nothing, CallDoes, Load, Store, LoadPointer, LoadStatic, StoreStatic, instructionResult, outcomeOf, nextOf, answerOf, firstRefusal}
+use Rattle.write_steps.proofs.Found.{number-refused, number-done}
 use Rattle.execution.specs.Executions.{stopOf, resultOf, statusOutcome, executionOutcome, Ends, Runs, carried, unpaid, staticStep, loadOutcome, Loads, storeOutcome, Stores}
 use Rattle.execution.specs.declared.Execution.{Execution}
 use Rattle.execution.specs.declared.ExecutionStatus.{ExecutionStatus}
 use Rattle.execution.specs.declared.ExecutionStatus.the-variants.{Running, SuspendedOnHook, Panicked, Refused}
-use Rattle.execution.proofs.Lists.{by-number, by-none, never-last, fifteen, store-refusals, store-passed}
+use Rattle.execution.proofs.Lists.{by-number, by-none, never-last, never-none, more-number, more-none, fifteen, write-refusals, store-refusals}
 
 -- ---- numbers
 -- the address of an operand within the limit is its number
@@ -94,6 +95,21 @@ told-stop : (hit : Bool) (k : ℕ) (g : InstructionResult) → statusOutcome (co
 told-stop true k g = refl
 told-stop false k g = refl
 
+-- ---- what a word write tells by its number k
+number-told : (k : ℕ) → refusalNumber (answered {A = Value} k nothing) ≡ k
+number-told zero = refl
+number-told (suc k) = refl
+
+module _ (m : Mem) (p a n k : ℕ) (m' : Mem) (d : CallDoes m (WriteWord p a n) (answered k nothing) m') where
+  number-is : WellFormed m → k ≡ firstRefusal (wordWriteChecks (settingOf m) (viewOf m) p a)
+  number-is f = sym (number-told k) ∙ ap refusalNumber (d .answer ∙ well m (WriteWord p a n) (well-formed-passes m f))
+
+  number-kept : (k ≡ 0 → ⊥) → m' ≡ m
+  number-kept z = let e = number-refused m (WriteWord p a n) k m' z d in e .kept (sym (ap carriedOut (e .answer)))
+
+  number-shown : k ≡ 0 → Shows (settingOf m) (wordWritten (layoutOf (m .words)) p a (wordBytes n) (viewOf m)) m'
+  number-shown z = let e = number-done m (WriteWord p a n) k m' z d in e .changed (sym (ap carriedOut (e .answer)))
+
 -- ---- load and store of page p with the step s
 paid-first : (s : FrameStep) (rest : List (Check Value)) (o : Outcome Value) → not (s .paid) ≡ false → firstOf (unpaid s ++ rest) o ≡ firstOf rest o
 paid-first s rest o e = rw e
@@ -111,11 +127,11 @@ module _ (m : Mem) (p : ℕ) (x : Operand) (s : FrameStep) where
     at-operand : a ≡ x .word
     at-operand = address ∙ address-is (x .word) (limit (not-false _ paid))
 
-    pub load-done : WellFormed m → (w : ℕ) (bs : List ℕ) → w ≡ bigEndian bs → bs ≡ run (viewOf m) p a 32 → (r : Execution) → r .status ≡ Running
+    pub load-done : WellFormed m → (w : ℕ) → w ≡ bigEndian (run (viewOf m) p a 32) → (r : Execution) → r .status ≡ Running
         → resultOf r ≡ carried Running w (incremented (x .word)) (x .tag) (s .frame) → Loads m p x s r
-    load-done formed w bs e d r q g f =
+    load-done formed w e r q g f =
         let given = carried Running (bigEndian (run (viewOf m) p (x .word) 32)) (incremented (x .word)) (x .tag) (s .frame) in
-        done-ends m f r given (told-running r given q (g ∙ carried-is (e ∙ ap bigEndian (d ∙ ap (λ (b : ℕ). run (viewOf m) p b 32) at-operand)))) (paid-first s [] (done (instructionResult given)) paid)
+        done-ends m f r given (told-running r given q (g ∙ carried-is (e ∙ ap (λ (b : ℕ). bigEndian (run (viewOf m) p b 32)) at-operand))) (paid-first s [] (done (instructionResult given)) paid)
         (shows-itself m formed)
 
     module _ (n : ℕ) (h : Hook) (f : Frame) where
@@ -134,32 +150,52 @@ module _ (m : Mem) (p : ℕ) (x : Operand) (s : FrameStep) where
       refusals : Refusals (tests (x .word))
       refusals = store-refusals (settingOf m) (viewOf m) p (x .word) (hooked h (x .word)) n
 
-      pub store-refused : (k : ℕ) → k ≡ firstRefusal (tests a) → (k ≡ 0 → ⊥) → (r : Execution) → r .status ≡ Refused k → resultOf r ≡ frameAlone f → Stores m p x n h f s r m
+      store-refused : (k : ℕ) → k ≡ firstRefusal (tests a) → (k ≡ 0 → ⊥) → (r : Execution) → r .status ≡ Refused k → resultOf r ≡ frameAlone f → Stores m p x n h f s r m
       store-refused k q z r t g = refused-ends m f r k t g (tested ∙ by-number refusals k (q ∙ tests-same) z (done (instructionResult given)))
 
-      pub store-done : firstRefusal (tests a) ≡ 0 → {m' : Mem} (bs : List ℕ) → bs ≡ wordBytes n → Shows (settingOf m) (wordWritten (layoutOf (m .words)) p a bs (viewOf m)) m'
-          → (r : Execution) (t : ExecutionStatus) (w : ℕ) → t ≡ cond (hooked h a) (SuspendedOnHook (n % 2 ^ 32)) Running → w ≡ 0 → r .status ≡ t
-          → resultOf r ≡ carried t w (incremented (x .word)) false (s .frame) → Stores m p x n h f s r m'
-      store-done q {m'} bs d shown r t w u z v g =
-          done-ends m f r given answers (tested ∙ by-none refusals none (done (instructionResult given)))
-          (subst₂ (λ (b : ℕ) (c : List ℕ). Shows (settingOf m) (wordWritten (layoutOf (m .words)) p b c (viewOf m)) m') at-operand d shown)
-        where
-          none : firstRefusal (tests (x .word)) ≡ 0
-          none = sym tests-same ∙ q
+      -- the hook is hit by a value that is too wide
+      pub store-wide : (b : Bool) → b ≡ (hooked h a && ltb 4294967295 n) → b ≡ true → (k : ℕ) → k ≡ firstRefusal (wordWriteChecks (settingOf m) (viewOf m) p a ++ ((true, refused 15) ∷ []))
+          → (r : Execution) → r .status ≡ Refused k → resultOf r ≡ frameAlone f → Stores m p x n h f s r m
+      store-wide b is e k q =
+          store-refused k (q ∙ ap (λ (c : Bool). firstRefusal (wordWriteChecks (settingOf m) (viewOf m) p a ++ ((c, refused 15) ∷ []))) (sym e ∙ is))
+          (λ z. never-none (write-refusals (settingOf m) (viewOf m) p a) (sym q ∙ z))
 
-          stops : t ≡ cond (hooked h (x .word)) (SuspendedOnHook (n % 2 ^ 32)) Running
-          stops = u ∙ ap (λ (b : ℕ). cond (hooked h b) (SuspendedOnHook (n % 2 ^ 32)) Running) at-operand
+      -- the word write answered the number k
+      module _ (formed : WellFormed m) (k : ℕ) (m' : Mem) (d : CallDoes m (WriteWord p a n) (answered k nothing) m') where
+        pub store-refused-by : (k ≡ 0 → ⊥) → (r : Execution) → r .status ≡ Refused k → resultOf r ≡ frameAlone f → Stores m p x n h f s r m'
+        store-refused-by z r t g =
+            subst (λ (y : Mem). Stores m p x n h f s r y) (sym (number-kept m p a n k m' d z))
+            (store-refused k (more-number (fifteen (hooked h a) n) (write-refusals (settingOf m) (viewOf m) p a) k (number-is m p a n k m' d formed) z) z r t g)
 
-          stop-is : stopOf t ≡ cond (hooked h (x .word)) (onHook n) running
-          stop-is = ap stopOf stops ∙ suspended (hooked h (x .word)) n (store-passed (settingOf m) (viewOf m) p (x .word) (hooked h (x .word)) n none .1)
+        pub store-done : (b : Bool) → b ≡ (hooked h a && ltb 4294967295 n) → b ≡ false → k ≡ 0
+            → (r : Execution) (t : ExecutionStatus) (w : ℕ) → t ≡ cond (hooked h a) (SuspendedOnHook (n % 2 ^ 32)) Running → w ≡ 0 → r .status ≡ t
+            → resultOf r ≡ carried t w (incremented (x .word)) false (s .frame) → Stores m p x n h f s r m'
+        store-done b is e q r t w u z v g =
+            done-ends m f r given answers (tested ∙ by-none refusals none (done (instructionResult given)))
+            (subst (λ (c : ℕ). Shows (settingOf m) (wordWritten (layoutOf (m .words)) p c (wordBytes n) (viewOf m)) m') at-operand (number-shown m p a n k m' d q))
+          where
+            narrow : (hooked h a && ltb 4294967295 n) ≡ false
+            narrow = sym is ∙ e
 
-          given-is : resultOf r ≡ given
-          given-is = g ∙ (λ i. record { word = z i; operand = record { word = incremented (x .word); tag = false }; frame = s .frame; stop = stop-is i })
+            none : firstRefusal (tests (x .word)) ≡ 0
+            none =
+                sym tests-same
+                ∙ sym (more-none (fifteen (hooked h a) n) (write-refusals (settingOf m) (viewOf m) p a) (sym (number-is m p a n k m' d formed) ∙ q))
+                ∙ ap (λ (c : Bool). firstRefusal ((c, refused 15) ∷ [])) narrow
 
-          answers : executionOutcome r ≡ done (instructionResult given)
-          answers =
-              ap (λ (y : ExecutionStatus). statusOutcome y (resultOf r)) (v ∙ stops) ∙ told-stop (hooked h (x .word)) (n % 2 ^ 32) (resultOf r)
-              ∙ ap (λ (y : InstructionResult). done (instructionResult y)) given-is
+            stops : t ≡ cond (hooked h (x .word)) (SuspendedOnHook (n % 2 ^ 32)) Running
+            stops = u ∙ ap (λ (b : ℕ). cond (hooked h b) (SuspendedOnHook (n % 2 ^ 32)) Running) at-operand
+
+            stop-is : stopOf t ≡ cond (hooked h (x .word)) (onHook n) running
+            stop-is = ap stopOf stops ∙ suspended (hooked h (x .word)) n (ap (λ (c : ℕ). hooked h c && ltb 4294967295 n) (sym at-operand) ∙ narrow)
+
+            given-is : resultOf r ≡ given
+            given-is = g ∙ (λ i. record { word = z i; operand = record { word = incremented (x .word); tag = false }; frame = s .frame; stop = stop-is i })
+
+            answers : executionOutcome r ≡ done (instructionResult given)
+            answers =
+                ap (λ (y : ExecutionStatus). statusOutcome y (resultOf r)) (v ∙ stops) ∙ told-stop (hooked h (x .word)) (n % 2 ^ 32) (resultOf r)
+                ∙ ap (λ (y : InstructionResult). done (instructionResult y)) given-is
 
 -- ---- the instructions: the step s and the page p are theirs
 module _ (m : Mem) (f : Frame) (x : Operand) (s : FrameStep) where

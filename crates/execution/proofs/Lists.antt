@@ -6,7 +6,7 @@ use mathlib.Core.List.{List, [], _∷_, _++_}
 use Prim.Native.Nat.{ℕ}
 use native.Mathlib.Omega.{arith}
 use lib.Dec.{ltb}
-use Rattle.view.proofs.Refused.{none-first, Refusals, end, next}
+use Rattle.view.proofs.Refused.{Refusals, end, next}
 use Rattle.outcome.specs.Outcome.{Outcome, refused, firstOf}
 use Rattle.view.specs.View.{View, Setting}
 use Rattle.view.specs.Checks.{Check, wordWriteChecks}
@@ -47,6 +47,10 @@ module _ (rest : List (Check Value)) where
   both-none (next {b = true} {n = k} r) e = absurd (omega arith)
   both-none (next {b = false} r) e = both-none r e
 
+-- .. the last of which holds
+pub never-none : {checks : List (Check Value)} → Refusals checks → firstRefusal (checks ++ ((true, refused 15) ∷ [])) ≡ 0 → ⊥
+never-none r e = let h = both-none ((true, refused 15) ∷ []) r e .1 in omega arith
+
 -- ---- the refusals of a word write, and 15 after them
 abbrev pub fifteen : Bool → ℕ → List (Check Value)
 fifteen hit n = (hit && ltb 4294967295 n, refused 15) ∷ []
@@ -58,8 +62,3 @@ module _ (s : Setting) (v : View) (p a : ℕ) where
   module _ (hit : Bool) (n : ℕ) where
     pub store-refusals : Refusals (wordWriteChecks s v p a ++ fifteen hit n)
     store-refusals = next (next (next (next (next end))))
-
-    pub store-passed : firstRefusal (wordWriteChecks s v p a ++ fifteen hit n) ≡ 0 → (firstRefusal (wordWriteChecks s v p a) ≡ 0) × ((hit && ltb 4294967295 n) ≡ false)
-    store-passed e =
-        let h = both-none (fifteen hit n) write-refusals e in
-        (h .0, none-first (hit && ltb 4294967295 n) 14 [] (h .1) .0)

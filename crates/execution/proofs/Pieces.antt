@@ -2,15 +2,12 @@
 -- Assumes nothing.
 use mathlib.Core.Path.{_≡_, refl, ap, _∙_}
 use mathlib.Core.Bool.{Bool, true, false, cond, not, _&&_, false≢true, true≢false}
-use mathlib.Core.List.{[], _∷_}
 use mathlib.Core.Logic.{⊎-elim}
 use Prim.Native.Nat.{ℕ, _%_, _^_, _<_, _≤_, min}
 use native.Mathlib.Omega.{arith}
 use lib.Dec.{ltb}
-use borrow.Author.Tests.{lt-ltb, le-ltb, le-leb, lt-leb, ltb-true, ltb-false}
-use Rattle.view.specs.Calls.{firstRefusal}
+use borrow.Author.Tests.{lt-ltb, le-ltb, ltb-false}
 use Rattle.index.proofs.Logic.{lt-or-ge}
-use Rattle.outcome.specs.Outcome.{refused}
 use Rattle.word.specs.Value.{lastAddress}
 use Rattle.state.specs.declared.Frame.{Frame}
 use Rattle.state.specs.declared.Area.{Area}
@@ -21,7 +18,6 @@ use Rattle.view.proofs.Order.{emptied}
 use Rattle.execution.specs.Executions.{carried}
 use Rattle.execution.specs.declared.ExecutionStatus.{ExecutionStatus}
 use Rattle.execution.specs.declared.ExecutionStatus.the-variants.{Running, SuspendedOnHook}
-use Rattle.execution.proofs.Lists.{fifteen}
 use Rattle.execution.proofs.Laws.{address-is}
 
 -- ---- the access
@@ -46,18 +42,16 @@ hook-on true b e = refl
 hook-on false b e = absurd (true≢false e)
 
 module _ (hit : Bool) (n : ℕ) where
-  pub missed : hit ≡ false → 0 ≡ firstRefusal (fifteen hit n)
-  missed e = rw e refl
+  pub not-wide : hit ≡ false → false ≡ (hit && ltb 4294967295 n)
+  not-wide e = rw e refl
 
-  pub fits-32 : ltb n (2 ^ 32) ≡ true → 0 ≡ firstRefusal (fifteen hit n)
-  fits-32 e = let l = ltb-true n (2 ^ 32) e in rw (le-ltb 4294967295 n (omega arith)) (go hit)
-    where
-      go : (b : Bool) → 0 ≡ firstRefusal (((b && false), refused 15) ∷ [])
-      go true = refl
-      go false = refl
-
-  pub too-wide : hit ≡ true → ltb n (2 ^ 32) ≡ false → 15 ≡ firstRefusal (fifteen hit n)
-  too-wide e q = let l = ltb-false n (2 ^ 32) q in rw (e, lt-ltb 4294967295 n (omega arith)) refl
+  pub wide-by : hit ≡ true → (b : Bool) → b ≡ ltb n (2 ^ 32) → not b ≡ (hit && ltb 4294967295 n)
+  wide-by e b q =
+      ap not q
+      ∙ ⊎-elim
+      (λ (l : n < 2 ^ 32). rw (e, lt-ltb n (2 ^ 32) l, le-ltb 4294967295 n (omega arith)) refl)
+      (λ (l : 2 ^ 32 ≤ n). rw (e, le-ltb n (2 ^ 32) l, lt-ltb 4294967295 n (omega arith)) refl)
+      (lt-or-ge n (2 ^ 32))
 
   pub stop-hit : hit ≡ true → (k : ℕ) → k ≡ n % 2 ^ 32 → SuspendedOnHook k ≡ cond hit (SuspendedOnHook (n % 2 ^ 32)) Running
   stop-hit e k q = rw e (ap SuspendedOnHook q)

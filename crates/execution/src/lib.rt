@@ -1,10 +1,12 @@
 // What the instructions are made of: their operands and answers, the pages and the growth, the hook, loads and stores of a well-formed memory.
 ghost use mathlib.Core.Path.{_≡_};
-ghost use mathlib.Core.Bool.{true, false, cond};
-ghost use mathlib.Core.List.{_++_};
+ghost use mathlib.Core.Bool.{true, false, cond, _&&_};
+ghost use mathlib.Core.List.{[], _∷_, _++_};
 ghost use Prim.Native.Nat.{_-_, _%_, _^_, _≤_, min};
+ghost use lib.Dec.{ltb};
 ghost use lib.ListN.{length};
 ghost use Rattle.view.specs.Calls.{firstRefusal};
+ghost use Rattle.outcome.specs.Outcome as outcome;
 ghost use Rattle.word.specs.Value.{value, lastAddress};
 ghost use Rattle.state.specs.Access.{frameAccessed};
 ghost use Rattle.store.specs.Mem.{mem, layoutOf, headLength};
@@ -12,7 +14,7 @@ ghost use Rattle.formed.specs.Formed.{narrow};
 ghost use Rattle.formed.specs.WellFormed.{WellFormed};
 ghost use Rattle.view.specs.View.{settingOf, viewOf};
 ghost use Rattle.view.specs.Checks.{wordWriteChecks};
-ghost use Rattle.view.specs.Instructions.{heapOf, staticOf, frameAlone, panic, hooked, hookChecks, incremented};
+ghost use Rattle.view.specs.Instructions.{heapOf, staticOf, frameAlone, panic, hooked, incremented};
 ghost use Rattle.execution.specs.Executions.{operandOf, hookOf, resultOf, carried, staticStep, Loads, Stores};
 use page_ids::Address;
 use page_ids::PageId;
@@ -97,7 +99,7 @@ pub fn reach_static(frame: Frame, operand: Word) -> FrameStep
 
 // ---- the hook
 
-fn hits(hook: Hook, address: Address) -> bool
+pub fn hits(hook: Hook, address: Address) -> bool
     ensures { λ r. ⌜ r ≡ hooked (hookOf hook) (address .0) ⌝ }
 {
     if !hook.on {
@@ -106,29 +108,31 @@ fn hits(hook: Hook, address: Address) -> bool
     address.0 == hook.address.0
 }
 
-// Which refusal a store to a well-formed memory gets, or 0.
-fn store_refusal(
+// 15: the hook is hit by a value of more than 32 bits.
+fn stops_wide(hook: Hook, address: Address, word: Word) -> bool
+    ensures { λ r. ⌜ r ≡ (hooked (hookOf hook) (address .0) && ltb 4294967295 (value (word .limbs))) ⌝ }
+{
+    if !hits(hook, address) {
+        return false;
+    }
+    !word::fits_u32(word)
+}
+
+// Which refusal such a store gets: that of a word write, or else 15.
+fn wide_refusal(
     bytes: &[u8],
     keys: &[u64],
     order: &[u32],
     words: &[u64],
     page: PageId,
     address: Address,
-    word: Word,
-    hook: Hook,
 ) -> u32
     requires { ⌜ WellFormed (mem (now bytes) (now keys) (now order) (now words)) ⌝ }
-    ensures { λ r. ⌜ r ≡ firstRefusal (wordWriteChecks (settingOf (mem (now (bytes .entry)) (now (keys .entry)) (now (order .entry)) (now (words .entry)))) (viewOf (mem (now (bytes .entry)) (now (keys .entry)) (now (order .entry)) (now (words .entry)))) (page .0) (address .0) ++ hookChecks (hookOf hook) (address .0) (value (word .limbs))) ⌝ }
+    ensures { λ r. ⌜ r ≡ firstRefusal (wordWriteChecks (settingOf (mem (now (bytes .entry)) (now (keys .entry)) (now (order .entry)) (now (words .entry)))) (viewOf (mem (now (bytes .entry)) (now (keys .entry)) (now (order .entry)) (now (words .entry)))) (page .0) (address .0) ++ ((true, outcome.refused 15) ∷ [])) ⌝ }
 {
     let refusal = checks::word_refusal(bytes, keys, order, words, page, address);
     if refusal != 0 {
         return refusal;
-    }
-    if !hits(hook, address) {
-        return 0;
-    }
-    if word::fits_u32(word) {
-        return 0;
     }
     15
 }
@@ -144,7 +148,7 @@ fn stop_of(hook: Hook, address: Address, word: Word) -> ExecutionStatus
 
 // ---- the answers
 
-fn no_word() -> Word
+pub fn no_word() -> Word
     ensures { λ r. ⌜ value (r .limbs) ≡ 0 ⌝ }
 {
     let limbs = [0u64; 4];
@@ -225,8 +229,7 @@ pub fn load_at(
         return panicked(after);
     }
     let address = Address(word::low_u32(operand.word));
-    let read = read_steps::read_word(bytes, keys, order, words, page, address);
-    let word = word::from_big_endian(read);
+    let word = read_steps::read_word(bytes, keys, order, words, page, address);
     carried_out(
         ExecutionStatus::Running,
         word,
@@ -258,12 +261,14 @@ pub fn store_at(
         return panicked(after);
     }
     let address = Address(word::low_u32(operand.word));
-    let number = store_refusal(bytes, keys, order, words, page, address, word, hook);
+    if stops_wide(hook, address, word) {
+        let refusal = wide_refusal(bytes, keys, order, words, page, address);
+        return refused(refusal, before);
+    }
+    let number = write_steps::write_word(bytes, keys, order, words, page, address, word);
     if number != 0 {
         return refused(number, before);
     }
-    let value = word::to_big_endian(word);
-    write_steps::write_word(bytes, keys, order, words, page, address, value);
     let status = stop_of(hook, address, word);
     carried_out(status, no_word(), operand, false, after)
 }

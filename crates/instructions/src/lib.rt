@@ -1,17 +1,17 @@
-// The five heap instructions, each one step: it tests the memory, panics or is refused, or does its work. vm2: heap_access.rs.
-// Which register an operand comes from, and goes to, is the caller's.
+// The five heap instructions, each one step. It tests first that the memory is well formed (refusal 3); `on_formed` has what is left of it.
+// Which register an operand comes from, and goes to, is the caller's. vm2: heap_access.rs.
 ghost use Rattle.word.specs.Value.{value};
 ghost use Rattle.store.specs.Mem.{mem};
 ghost use Rattle.view.specs.Calls.{Call};
 ghost use Rattle.execution.specs.Executions.{operandOf, hookOf, Runs};
 use execution::Execution;
-use execution::ExecutionStatus;
 use execution::Hook;
 use execution::Operand;
-use page_ids::Address;
 use state::Area;
 use state::Frame;
 use word::Word;
+
+pub mod on_formed;
 
 // Reads the word at the operand, in the page of an area, and pays for the area's growth.
 pub fn load(
@@ -28,9 +28,7 @@ pub fn load(
     if !formed::well_formed(bytes, keys, order, words) {
         return execution::refused(3, frame);
     }
-    let page = execution::page_of(frame, area);
-    let step = execution::reach(frame, area, operand.word);
-    execution::load_at(bytes, keys, order, words, page, operand, step)
+    on_formed::load(bytes, keys, order, words, frame, area, operand)
 }
 
 // Writes a word at the operand, in the page of an area, and pays for the area's growth; stops on the hook.
@@ -50,20 +48,7 @@ pub fn store(
     if !formed::well_formed(bytes, keys, order, words) {
         return execution::refused(3, frame);
     }
-    let page = execution::page_of(frame, area);
-    let step = execution::reach(frame, area, operand.word);
-    execution::store_at(
-        bytes,
-        keys,
-        order,
-        words,
-        page,
-        operand,
-        word,
-        hook,
-        frame,
-        step,
-    )
+    on_formed::store(bytes, keys, order, words, frame, area, operand, word, hook)
 }
 
 // Reads the bytes that a pointer shows from its offset on, at most 32; they lead the word, and zeros follow.
@@ -80,24 +65,7 @@ pub fn load_pointer(
     if !formed::well_formed(bytes, keys, order, words) {
         return execution::refused(3, frame);
     }
-    if !operand.tagged {
-        return execution::panicked(frame);
-    }
-    let pointer = fat_pointer::from_u256(operand.word);
-    if pointer.offset > word::LAST_ADDRESS {
-        return execution::panicked(frame);
-    }
-    if pointer.length > 4294967295 - pointer.start {
-        return execution::refused(14, frame);
-    }
-    let end = pointer.start + pointer.length;
-    let first = pointer.start + execution::lesser(pointer.offset, pointer.length);
-    let n = execution::count(first, end);
-    let page = pointer.memory_page;
-    let start = Address(first);
-    let read = read_steps::read_padded(bytes, keys, order, words, page, start, n);
-    let word = word::from_big_endian(read);
-    execution::carried_out(ExecutionStatus::Running, word, operand, true, frame)
+    on_formed::load_pointer(bytes, keys, order, words, frame, operand)
 }
 
 // Reads the word at the operand in the static page.
@@ -114,9 +82,7 @@ pub fn load_static(
     if !formed::well_formed(bytes, keys, order, words) {
         return execution::refused(3, frame);
     }
-    let page = execution::static_page(words);
-    let step = execution::reach_static(frame, operand.word);
-    execution::load_at(bytes, keys, order, words, page, operand, step)
+    on_formed::load_static(bytes, keys, order, words, frame, operand)
 }
 
 // Writes a word at the operand in the static page.
@@ -134,22 +100,5 @@ pub fn store_static(
     if !formed::well_formed(bytes, keys, order, words) {
         return execution::refused(3, frame);
     }
-    let page = execution::static_page(words);
-    let step = execution::reach_static(frame, operand.word);
-    let off = Hook {
-        on: false,
-        address: Address(0),
-    };
-    execution::store_at(
-        bytes,
-        keys,
-        order,
-        words,
-        page,
-        operand,
-        word,
-        off,
-        frame,
-        step,
-    )
+    on_formed::store_static(bytes, keys, order, words, frame, operand, word)
 }

@@ -17,7 +17,8 @@ use Rattle.compare.proofs.compare.Kinds as compare-kinds
 use Rattle.compare.proofs.compare.Reads as compare-reads
 use Rattle.lists.proofs.Compares.{left-call, right-call, both-call}
 use Rattle.lists.proofs.Inhabited.{Answers, ref}
-use Rattle.lists.specs.Steps.{Step, Went, did-compare-left, did-compare-right, did-compare-both}
+use Rattle.lists.specs.Went.{Went}
+use Rattle.lists.specs.Steps.{Step, did-compare-left, did-compare-right, did-compare-both}
 
 -- an answer that tells the outcome
 record Tells (o : Outcome Value) : Type 0 where

@@ -16,28 +16,11 @@ use Rattle.reads.proofs.Calls.{word-call, partial-call, range-call, byte-call, 
 use Rattle.lists.proofs.Compares.{left-call, right-call, both-call}
 use Rattle.plain.specs.Claim.{Contracts}
 use Rattle.plain.proofs.Good.{never}
-use Rattle.lists.specs.Steps.{Step, lent, rest, did-open, did-read-word, did-read-partial, did-read-range, did-read-byte, did-dynamic-length, did-lookup, did-lookup-check, did-snapshot, did-write-word, did-write-bytes, did-allocate, did-allocate-with, did-free, did-window, did-truncate, did-compare-left, did-compare-right, did-compare-both, did-rollback, did-delete-history, did-load, did-store, did-load-pointer, did-load-static, did-store-static}
-
--- a refused lookup shows an empty part, so a lookup meets the shared contract only on a well-formed memory
-abbrev pub Shown : Mem → Call → Type 0
-Shown m c = (p k : ℕ) (z : List ℕ) → c ≡ Lookup p k z → wellFormed m ≡ true
-
--- an opening does its own; any other call what is shared
-pub record Meets (m : Mem) (c : Call) (o : Outcome Value) (m' : Mem) : Type 0 where
-  pub opens : (s : Setting) (calldata : List ℕ) → c ≡ Open s calldata → OpenDoes m s calldata o m'
-  pub calls : ((s : Setting) (calldata : List ℕ) → c ≡ Open s calldata → ⊥) → Shown m c → CallDoes m c o m'
-
-by-open : {m m' : Mem} {o : Outcome Value} (s : Setting) (calldata : List ℕ) → OpenDoes m s calldata o m' → Meets m (Open s calldata) o m'
-by-open {m} {m'} {o} s calldata d = record {
-  opens = λ t bs e.
-      let a : s ≡ t = cc in
-      let b : calldata ≡ bs = cc in
-      subst (λ (x : Setting). OpenDoes m x bs o m') a (subst (λ (x : List ℕ). OpenDoes m s x o m') b d);
-  calls = λ n. absurd (n s calldata refl);
-}
-
-by-call : {m m' : Mem} {o : Outcome Value} (c : Call) → ((s : Setting) (calldata : List ℕ) → c ≡ Open s calldata → ⊥) → (Shown m c → CallDoes m c o m') → Meets m c o m'
-by-call c n d = record { opens = λ s calldata e. absurd (n s calldata e); calls = λ _. d }
+use Rattle.lists.specs.Went.{lent, rest}
+use Rattle.lists.proofs.Linked.{linked-does}
+use Rattle.lists.proofs.Owned.{owned-does}
+use Rattle.lists.proofs.Meets.{Shown, Meets, by-open, by-call}
+use Rattle.lists.specs.Steps.{Step, linked, owned, did-open, did-read-word, did-read-partial, did-read-range, did-read-byte, did-dynamic-length, did-lookup, did-lookup-check, did-snapshot, did-write-word, did-write-bytes, did-allocate, did-allocate-with, did-free, did-window, did-truncate, did-compare-left, did-compare-right, did-compare-both, did-rollback, did-delete-history, did-load, did-store, did-load-pointer, did-load-static, did-store-static}
 
 -- each line is the contract itself, that of a read by its law
 pub does : {m m' : Mem} {c : Call} {o : Outcome Value} → Step m c o m' → Meets m c o m'
@@ -67,6 +50,8 @@ does (did-store w) = by-call _ (λ s d e. never (cc)) (λ _. w .ensures .does)
 does (did-load-pointer w) = by-call _ (λ s d e. never (cc)) (λ _. w .ensures .does)
 does (did-load-static w) = by-call _ (λ s d e. never (cc)) (λ _. w .ensures .does)
 does (did-store-static w) = by-call _ (λ s d e. never (cc)) (λ _. w .ensures .does)
+does (linked x) = linked-does x
+does (owned x) = owned-does x
 
 -- on a memory of setting s and view v, what is shared is said of s and v
 pub of-shown : {m m' : Mem} (c : Call) {o : Outcome Value} {s : Setting} {v : View} → Shows s v m → CallDoes m c o m' → Does m (outcomeOf s c v) s (nextOf s c v) o m'

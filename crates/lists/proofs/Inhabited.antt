@@ -10,7 +10,7 @@ use lib.Dec.{ltb, eqb}
 use lib.ListN.{length, set}
 use borrow.Author.Tests.{eqb-true}
 use denote.Ref.{RefT}
-use Rattle.view.proofs.Refused.{Refusals, next, refused-does, passed-formed, done-does}
+use Rattle.view.proofs.Refused.{Refusals, end, next, ill-does, refused-does, done-does}
 use Rattle.formed.proofs.Same.{tab-long}
 use Rattle.outcome.specs.Outcome.{Outcome, refused, panicked, done, carriedOut, answered, refusalNumber, answerOutcome, unitOutcome}
 use Rattle.outcome.specs.declared.Answer.{Answer}
@@ -21,7 +21,7 @@ use Rattle.formed.specs.Formed.{wellFormed, zeros}
 use Rattle.formed.specs.WellFormed.{WellFormed}
 use Rattle.view.specs.View.{View, viewOf, Setting, settingOf}
 use Rattle.view.specs.Steps.{run, padded, touchedCount, alignedCount}
-use Rattle.view.specs.Checks.{onMemory, partialChecks, rangeChecks, lookupChecks, countsRight, lengthsRight, Check, wordWriteChecks, byteWriteChecks, allocateChecks}
+use Rattle.view.specs.Checks.{onMemory, rollbackChecks, partialChecks, rangeChecks, lookupChecks, countsRight, lengthsRight, Check, wordWriteChecks, byteWriteChecks, allocateChecks}
 use Rattle.view.specs.Calls.{Call, Value, ReadWord, ReadPartial, ReadRange, ReadByte, DynamicLength, Lookup, LookupCheck, Snapshot, bytes, shown, answerOf, Open, Rollback, DeleteHistory, nothing, CallDoes, OpenDoes, Allocate, WriteWord, WriteBytes, nextOf, firstRefusal}
 use Rattle.reads.specs.declared.WordRead.{WordRead}
 use Rattle.reads.specs.declared.ByteRead.{ByteRead}
@@ -37,7 +37,7 @@ use Rattle.opening.specs.Opening.{openingOutcome, OpenAsks}
 use Rattle.opening.proofs.Starts.{head-width}
 use Rattle.opening.proofs.Refusals.{open-asks, calldata-asks, open-refused, open-done}
 use Rattle.journal.proofs.Cuts.{forget-shows}
-use Rattle.history.proofs.History.{not-formed, call-refused, rollback-refused, rollback-asks, rollback-done, forget-done}
+use Rattle.history.proofs.History.{rollback-refusals, rollback-asks}
 use Rattle.checks.proofs.Passed.{room-refusals}
 use Rattle.lists.proofs.Writing.{word-there, bytes-there, contents-there}
 use Rattle.lists.proofs.Reach.{Reached, started-there, calldata-there, rolled-there}
@@ -328,6 +328,34 @@ setting-same {m} {m'} f h =
     let a₄ = a .in-words in
     record { bytes = omega arith; keys = omega arith; order = omega arith; words = omega arith }
 
+-- the memory that a call leaves where it is carried out, and the step to it
+record Carried (m : Mem) (c : Call) : Type 0 where
+  after : Mem
+  shows : Shows (settingOf m) (nextOf (settingOf m) c (viewOf m)) after
+  step : CallDoes m c (done nothing) after → Step m c (done nothing) after
+
+-- ---- a call that goes by a list of tests: it is refused where the memory is not well formed or a test holds, else carried out
+module _ (m : Mem) (c : Call) (checks : List (Check Value)) (tests : Refusals checks) (is : answerOf m c ≡ onMemory m checks nothing)
+    (refuse : (n : ℕ) → CallDoes m c (refused n) m → Step m c (refused n) m) (carry : WellFormed m → firstRefusal checks ≡ 0 → Carried m c) where
+  ended : {o : Outcome Value} {m' : Mem} → (CallDoes m c o m' → Step m c o m') → CallDoes m c o m' → Goes m c (answerOf m c)
+  ended {o} {m'} step d = record { after = m'; step = subst (λ (x : Outcome Value). Step m c x m') (d .answer) (step d) }
+
+  turned : {m' : Mem} {o : Outcome Value} → Does m (onMemory m checks nothing) (settingOf m) (nextOf (settingOf m) c (viewOf m)) o m' → CallDoes m c o m'
+  turned {m'} {o} d = subst (λ (x : Outcome Value). Does m x (settingOf m) (nextOf (settingOf m) c (viewOf m)) o m') (sym is) d
+
+  on-formed : WellFormed m → (n : ℕ) → n ≡ firstRefusal checks → Goes m c (answerOf m c)
+  on-formed f zero e =
+      let t = carry f (sym e) in
+      ended (t .step) (turned (done-does m f checks (settingOf m) (nextOf (settingOf m) c (viewOf m)) tests (sym e) (t .shows)))
+  on-formed f (suc n) e = ended (refuse (suc n)) (turned (refused-does m f checks (settingOf m) (nextOf (settingOf m) c (viewOf m)) (suc n) e (λ z. omega arith)))
+
+  tested : Goes m c (answerOf m c)
+  tested = go (wellFormed m) refl
+    where
+      go : (b : Bool) → wellFormed m ≡ b → Goes m c (answerOf m c)
+      go true e = on-formed (well-formed-means m e) (firstRefusal checks) refl
+      go false e = ended (refuse 3) (ill-does m c e)
+
 -- ---- history
 module _ (heap aux : ℕ) (m : Mem) where
   roll-back : (r : Answer) (bs ws : List ℕ) → length bs ≡ length (m .bytes) → length ws ≡ length (m .words) → CallDoes m (Rollback heap aux) (answerOutcome nothing r) (mem bs (m .keys) (m .order) ws)
@@ -345,18 +373,12 @@ module _ (heap aux : ℕ) (m : Mem) where
       })
 
   pub can-roll-back : Goes m (Rollback heap aux) (answerOf m (Rollback heap aux))
-  can-roll-back = go (refusalNumber (answerOf m (Rollback heap aux))) refl
-    where
-      go : (n : ℕ) → n ≡ refusalNumber (answerOf m (Rollback heap aux)) → Goes m (Rollback heap aux) (answerOf m (Rollback heap aux))
-      go zero e =
-          let asks = rollback-asks m heap aux 0 e refl in
-          let t = rolled-there m heap aux asks in
-          let l = setting-same (asks .formed) (t .shows) in
-          let d = rollback-done m heap aux 0 e refl (mem (t .bytes) (m .keys) (m .order) (t .words)) (t .shows) in
-          record { after = _; step = subst (λ (o : Outcome Value). Step m (Rollback heap aux) o (mem (t .bytes) (m .keys) (m .order) (t .words))) (d .answer) (roll-back Done (t .bytes) (t .words) (l .bytes) (l .words) d) }
-      go (suc n) e =
-          let d = rollback-refused m heap aux (suc n) e (λ z. omega arith) in
-          record { after = m; step = subst (λ (o : Outcome Value). Step m (Rollback heap aux) o m) (d .answer) (roll-back (Refused (suc n)) (m .bytes) (m .words) refl refl d) }
+  can-roll-back =
+      tested m (Rollback heap aux) (rollbackChecks (viewOf m) heap aux) (rollback-refusals m heap aux) refl (λ n. roll-back (Refused n) (m .bytes) (m .words) refl refl)
+      (λ f e.
+      let t = rolled-there m heap aux (rollback-asks m heap aux f e) in
+      let l = setting-same f (t .shows) in
+      record { after = _; shows = t .shows; step = roll-back Done (t .bytes) (t .words) (l .bytes) (l .words) })
 
 delete : (m : Mem) (r : Answer) (ws : List ℕ) → length ws ≡ length (m .words) → CallDoes m DeleteHistory (answerOutcome nothing r) (mem (m .bytes) (m .keys) (m .order) ws) → Step m DeleteHistory (answerOutcome nothing r) (mem (m .bytes) (m .keys) (m .order) ws)
 delete m r ws lw d =
@@ -372,39 +394,22 @@ delete m r ws lw d =
     })
 
 pub can-delete : (m : Mem) → Goes m DeleteHistory (answerOf m DeleteHistory)
-can-delete m = go (wellFormed m) refl
-  where
-    go : (b : Bool) → wellFormed m ≡ b → Goes m DeleteHistory (answerOf m DeleteHistory)
-    go true e =
-        let f = well-formed-means m e in
-        let h = forget-shows (m .bytes) (m .keys) (m .order) (m .words) f in
-        let ws = set (set (m .words) 12 0) 13 0 in
-        let l = setting-same f h in
-        let d = forget-done m e (mem (m .bytes) (m .keys) (m .order) ws) h in
-        record { after = _; step = subst (λ (o : Outcome Value). Step m DeleteHistory o (mem (m .bytes) (m .keys) (m .order) ws)) (d .answer) (delete m Done ws (l .words) d) }
-    go false e =
-        let d = call-refused m DeleteHistory 3 (not-formed m DeleteHistory e) in
-        record { after = m; step = subst (λ (o : Outcome Value). Step m DeleteHistory o m) (d .answer) (delete m (Refused 3) (m .words) refl d) }
+can-delete m =
+    tested m DeleteHistory [] end refl (λ n. delete m (Refused n) (m .words) refl)
+    (λ f e.
+    let h = forget-shows (m .bytes) (m .keys) (m .order) (m .words) f in
+    record { after = _; shows = h; step = delete m Done (set (set (m .words) 12 0) 13 0) (setting-same f h .words) })
 
--- ---- a call that goes by a list of tests: where one holds it is refused, else there is the memory that it leaves
+-- ---- a call that is lent every buffer to change
 module _ (m : Mem) (c : Call) (checks : List (Check Value)) (tests : Refusals checks) (is : answerOf m c ≡ onMemory m checks nothing)
     (step : (r : Answer) (m' : Mem) → Same m m' → CallDoes m c (answerOutcome nothing r) m' → Step m c (answerOutcome nothing r) m')
     (there : (WellFormed m) × (firstRefusal checks ≡ 0) → Reached (settingOf m) (nextOf (settingOf m) c (viewOf m))) where
   pub goes : Goes m c (answerOf m c)
-  goes = go (refusalNumber (onMemory m checks nothing)) refl
-    where
-      turned : {m' : Mem} {o : Outcome Value} → Does m (onMemory m checks nothing) (settingOf m) (nextOf (settingOf m) c (viewOf m)) o m' → CallDoes m c o m'
-      turned {m'} {o} d = subst (λ (x : Outcome Value). Does m x (settingOf m) (nextOf (settingOf m) c (viewOf m)) o m') (sym is) d
-
-      go : (n : ℕ) → n ≡ refusalNumber (onMemory m checks nothing) → Goes m c (answerOf m c)
-      go zero e =
-          let f = passed-formed m checks (settingOf m) (viewOf m) (sym e) in
-          let t = there f in
-          let d = turned (done-does m checks (settingOf m) (nextOf (settingOf m) c (viewOf m)) tests (sym e) (t .shows)) in
-          record { after = t .memory; step = subst (λ (o : Outcome Value). Step m c o (t .memory)) (d .answer) (step Done (t .memory) (setting-same (f .0) (t .shows)) d) }
-      go (suc n) e =
-          let d = turned (refused-does m checks (settingOf m) (nextOf (settingOf m) c (viewOf m)) (suc n) e (λ z. omega arith)) in
-          record { after = m; step = subst (λ (o : Outcome Value). Step m c o m) (d .answer) (step (Refused (suc n)) m (same m) d) }
+  goes =
+      tested m c checks tests is (λ n. step (Refused n) m (same m))
+      (λ f e.
+      let t = there (f, e) in
+      record { after = t .memory; shows = t .shows; step = step Done (t .memory) (setting-same f (t .shows)) })
 
 -- ---- writes and allocations, of a page and an address of 32 bits, as the code's have
 module _ (p a : ℕ) (page : p ≤ 4294967295) (address : a ≤ 4294967295) where

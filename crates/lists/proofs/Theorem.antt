@@ -24,10 +24,58 @@ use Rattle.instructions.proofs.store.Met as store-met
 use Rattle.instructions.proofs.load_pointer.Met as pointer-met
 use Rattle.instructions.proofs.load_static.Met as load-static-met
 use Rattle.instructions.proofs.store_static.Met as store-static-met
+use Rattle.zincpapaya.proofs.memory.zp_open.Met as zp-open-met
+use Rattle.zincpapaya.proofs.memory.zp_read_u256.Met as zp-read-u256-met
+use Rattle.zincpapaya.proofs.memory.zp_read_u256_partially.Met as zp-read-u256-partially-met
+use Rattle.zincpapaya.proofs.memory.zp_read_range_big_endian.Met as zp-read-range-big-endian-met
+use Rattle.zincpapaya.proofs.memory.zp_read_byte.Met as zp-read-byte-met
+use Rattle.zincpapaya.proofs.memory.zp_dynamic_len.Met as zp-dynamic-len-met
+use Rattle.zincpapaya.proofs.memory.zp_snapshot.Met as zp-snapshot-met
+use Rattle.zincpapaya.proofs.memory.zp_chunk.Met as zp-chunk-met
+use Rattle.zincpapaya.proofs.memory.zp_write_u256.Met as zp-write-u256-met
+use Rattle.zincpapaya.proofs.memory.zp_write_bytes.Met as zp-write-bytes-met
+use Rattle.zincpapaya.proofs.memory.zp_allocate_at.Met as zp-allocate-at-met
+use Rattle.zincpapaya.proofs.memory.zp_allocate_with_content_at.Met as zp-allocate-with-content-at-met
+use Rattle.zincpapaya.proofs.memory.zp_deallocate.Met as zp-deallocate-met
+use Rattle.zincpapaya.proofs.memory.zp_compact_to_window.Met as zp-compact-to-window-met
+use Rattle.zincpapaya.proofs.memory.zp_truncate_dynamic_to.Met as zp-truncate-dynamic-to-met
+use Rattle.zincpapaya.proofs.memory.zp_compare.Met as zp-compare-met
+use Rattle.zincpapaya.proofs.memory.zp_rollback.Met as zp-rollback-met
+use Rattle.zincpapaya.proofs.memory.zp_delete_history.Met as zp-delete-history-met
+use Rattle.zincpapaya.proofs.execute.zp_load.Met as zp-load-met
+use Rattle.zincpapaya.proofs.execute.zp_store.Met as zp-store-met
+use Rattle.zincpapaya.proofs.execute.zp_load_pointer.Met as zp-load-pointer-met
+use Rattle.zincpapaya.proofs.execute.zp_load_static.Met as zp-load-static-met
+use Rattle.zincpapaya.proofs.execute.zp_store_static.Met as zp-store-static-met
+use Rattle.owned.proofs.memory.own_well_formed.Met as own-well-formed-met
+use Rattle.owned.proofs.memory.own_open.Met as own-open-met
+use Rattle.owned.proofs.memory.own_read_u256.Met as own-read-u256-met
+use Rattle.owned.proofs.memory.own_read_u256_partially.Met as own-read-u256-partially-met
+use Rattle.owned.proofs.memory.own_read_range_big_endian.Met as own-read-range-big-endian-met
+use Rattle.owned.proofs.memory.own_read_byte.Met as own-read-byte-met
+use Rattle.owned.proofs.memory.own_dynamic_len.Met as own-dynamic-len-met
+use Rattle.owned.proofs.memory.own_snapshot.Met as own-snapshot-met
+use Rattle.owned.proofs.memory.own_chunk.Met as own-chunk-met
+use Rattle.owned.proofs.memory.own_write_u256.Met as own-write-u256-met
+use Rattle.owned.proofs.memory.own_write_bytes.Met as own-write-bytes-met
+use Rattle.owned.proofs.memory.own_allocate_at.Met as own-allocate-at-met
+use Rattle.owned.proofs.memory.own_allocate_with_content_at.Met as own-allocate-with-content-at-met
+use Rattle.owned.proofs.memory.own_deallocate.Met as own-deallocate-met
+use Rattle.owned.proofs.memory.own_compact_to_window.Met as own-compact-to-window-met
+use Rattle.owned.proofs.memory.own_truncate_dynamic_to.Met as own-truncate-dynamic-to-met
+use Rattle.owned.proofs.memory.own_compare.Met as own-compare-met
+use Rattle.owned.proofs.memory.own_rollback.Met as own-rollback-met
+use Rattle.owned.proofs.memory.own_delete_history.Met as own-delete-history-met
+use Rattle.owned.proofs.execute.own_load.Met as own-load-met
+use Rattle.owned.proofs.execute.own_store.Met as own-store-met
+use Rattle.owned.proofs.execute.own_load_pointer.Met as own-load-pointer-met
+use Rattle.owned.proofs.execute.own_load_static.Met as own-load-static-met
+use Rattle.owned.proofs.execute.own_store_static.Met as own-store-static-met
 use Rattle.plain.specs.Claim.{Claim}
 use Rattle.plain.proofs.Theorem.{claim}
 use Rattle.lists.specs.Steps.{Step}
 use Rattle.lists.specs.Demand.{Demand}
+use Rattle.lists.proofs.Owned.{ready-of}
 use Rattle.lists.proofs.Contracts.{contracts}
 use Rattle.lists.proofs.Next.{not-empty}
 use Rattle.lists.proofs.Rules.{rules}
@@ -62,7 +110,55 @@ demand = record {
   «load_pointer» = λ {M}. pointer-met.met {M = M};
   «load_static» = λ {M}. load-static-met.met {M = M};
   «store_static» = λ {M}. store-static-met.met {M = M};
+  «zp_open» = λ {M}. zp-open-met.met {M = M};
+  «zp_read_u256» = λ {M}. zp-read-u256-met.met {M = M};
+  «zp_read_u256_partially» = λ {M}. zp-read-u256-partially-met.met {M = M};
+  «zp_read_range_big_endian» = λ {M}. zp-read-range-big-endian-met.met {M = M};
+  «zp_read_byte» = λ {M}. zp-read-byte-met.met {M = M};
+  «zp_dynamic_len» = λ {M}. zp-dynamic-len-met.met {M = M};
+  «zp_snapshot» = λ {M}. zp-snapshot-met.met {M = M};
+  «zp_chunk» = λ {M}. zp-chunk-met.met {M = M};
+  «zp_write_u256» = λ {M}. zp-write-u256-met.met {M = M};
+  «zp_write_bytes» = λ {M}. zp-write-bytes-met.met {M = M};
+  «zp_allocate_at» = λ {M}. zp-allocate-at-met.met {M = M};
+  «zp_allocate_with_content_at» = λ {M}. zp-allocate-with-content-at-met.met {M = M};
+  «zp_deallocate» = λ {M}. zp-deallocate-met.met {M = M};
+  «zp_compact_to_window» = λ {M}. zp-compact-to-window-met.met {M = M};
+  «zp_truncate_dynamic_to» = λ {M}. zp-truncate-dynamic-to-met.met {M = M};
+  «zp_compare» = λ {M}. zp-compare-met.met {M = M};
+  «zp_rollback» = λ {M}. zp-rollback-met.met {M = M};
+  «zp_delete_history» = λ {M}. zp-delete-history-met.met {M = M};
+  «zp_load» = λ {M}. zp-load-met.met {M = M};
+  «zp_store» = λ {M}. zp-store-met.met {M = M};
+  «zp_load_pointer» = λ {M}. zp-load-pointer-met.met {M = M};
+  «zp_load_static» = λ {M}. zp-load-static-met.met {M = M};
+  «zp_store_static» = λ {M}. zp-store-static-met.met {M = M};
+  «own_well_formed» = λ {M}. own-well-formed-met.met {M = M};
+  «own_open» = λ {M}. own-open-met.met {M = M};
+  «own_read_u256» = λ {M}. own-read-u256-met.met {M = M};
+  «own_read_u256_partially» = λ {M}. own-read-u256-partially-met.met {M = M};
+  «own_read_range_big_endian» = λ {M}. own-read-range-big-endian-met.met {M = M};
+  «own_read_byte» = λ {M}. own-read-byte-met.met {M = M};
+  «own_dynamic_len» = λ {M}. own-dynamic-len-met.met {M = M};
+  «own_snapshot» = λ {M}. own-snapshot-met.met {M = M};
+  «own_chunk» = λ {M}. own-chunk-met.met {M = M};
+  «own_write_u256» = λ {M}. own-write-u256-met.met {M = M};
+  «own_write_bytes» = λ {M}. own-write-bytes-met.met {M = M};
+  «own_allocate_at» = λ {M}. own-allocate-at-met.met {M = M};
+  «own_allocate_with_content_at» = λ {M}. own-allocate-with-content-at-met.met {M = M};
+  «own_deallocate» = λ {M}. own-deallocate-met.met {M = M};
+  «own_compact_to_window» = λ {M}. own-compact-to-window-met.met {M = M};
+  «own_truncate_dynamic_to» = λ {M}. own-truncate-dynamic-to-met.met {M = M};
+  «own_compare» = λ {M}. own-compare-met.met {M = M};
+  «own_rollback» = λ {M}. own-rollback-met.met {M = M};
+  «own_delete_history» = λ {M}. own-delete-history-met.met {M = M};
+  «own_load» = λ {M}. own-load-met.met {M = M};
+  «own_store» = λ {M}. own-store-met.met {M = M};
+  «own_load_pointer» = λ {M}. own-load-pointer-met.met {M = M};
+  «own_load_static» = λ {M}. own-load-static-met.met {M = M};
+  «own_store_static» = λ {M}. own-store-static-met.met {M = M};
   claim = theorem;
   not-empty = not-empty;
+  ready = λ first run. ready-of _ (theorem .lists first run .shows .formed);
   rules = rules;
 }

@@ -23,7 +23,8 @@ use Rattle.view.specs.Instructions.{Operand, Hook, heapOf, stored}
 use Rattle.view.specs.Calls.{Load, Store, instructionResult, answerOf}
 use Rattle.growth.specs.Quotes.{LoadRun, QuoteOfLoads}
 use Rattle.growth.specs.Charges.{GrowthAddsUp}
-use Rattle.lists.specs.Steps.{Went, Step}
+use Rattle.lists.specs.Went.{Went}
+use Rattle.lists.specs.Steps.{Step}
 use Rattle.lists.specs.Goes.{Goes}
 use Rattle.lists.specs.Worked.{Leaves, operandAt, Worked}
 

@@ -22,7 +22,7 @@ use Rattle.view.specs.View.{settingOf}
 use Rattle.view.specs.Checks.{undecodable}
 use Rattle.view.specs.Calls.{LookupRule}
 use Rattle.view.specs.Instructions.{incremented}
-use Rattle.lists.specs.Steps.{WentBy}
+use Rattle.lists.specs.Went.{WentBy}
 
 pub record Rules : Type 3 where
   -- ---- the memory

@@ -93,9 +93,3 @@ module _ (m : Mem) (f : WellFormed m) (p : ℕ) where
       (put-by (λ i. byteAt m p (start + pos + i)) pos o (λ i. byteAt m p (start + (pos + i))) n d
       (λ i l. let q : start + pos + i ≡ start + (pos + i) = omega arith in ap (byteAt m p) q)
       w)
-
-  -- a word that is read in two parts
-  pub word-parts : (a n : ℕ) (o d e : List ℕ) → n ≤ 32 → length e ≡ 32 → Put (λ i. byteAt m p (a + i)) 0 n o d → Put (λ i. byteAt m p (a + n + i)) n (32 - n) d e → e ≡ tab 32 (λ i. byteAt m p (a + i))
-  word-parts a n o d e l w x y =
-      tab-is 32 (λ i. byteAt m p (a + i)) e w
-      (λ i li. part-on a n (32 - n) d e (λ k lk. let q : k ≡ 0 + k = omega arith in ap (λ (z : ℕ). getD d z 0) q ∙ x .new k lk) y i (omega arith))

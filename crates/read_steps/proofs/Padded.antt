@@ -1,7 +1,7 @@
 -- Bytes that lead a word, with zeros after them.
 -- Assumes nothing.
 use mathlib.Core.Path.{_≡_, sym, ap, _∙_}
-use mathlib.Core.List.{List, _++_}
+use mathlib.Core.List.{List, _++_, append-nil}
 use Prim.Native.Nat.{ℕ, zero, suc, _+_, _-_, _≤_}
 use native.Mathlib.Omega.{arith}
 use lib.ListN.{length, take, drop, replicate}
@@ -27,3 +27,8 @@ padded-is v p a n e h r =
     let l : n ≡ length (run v p a n) = sym (tab-long n (λ i. v .bytes p (a + i))) in
     let d : drop (n - 0) (nulls 32) ≡ nulls (32 - length (run v p a n)) = ap (λ (x : ℕ). drop x (nulls 32)) (sub-zero n) ∙ drop-nulls n 32 ∙ ap (λ (x : ℕ). nulls (32 - x)) l in
     ap (λ (x : List ℕ). e ++ x) d ∙ ap (λ (x : List ℕ). x ++ nulls (32 - length (run v p a n))) s
+
+-- 32 bytes leave no room for zeros
+pub padded-word : (v : View) (p a : ℕ) → padded (run v p a 32) ≡ run v p a 32
+padded-word v p a =
+    ap (λ (n : ℕ). run v p a 32 ++ nulls (32 - n)) (tab-long 32 (λ i. v .bytes p (a + i))) ∙ append-nil (run v p a 32)

@@ -9,8 +9,6 @@ use native.Mathlib.Nat.{not-suc-le-zero}
 use lib.ListN.{length, getD, set, length-set}
 use lib.Seq.{getD-set-same, getD-set-other}
 use Rattle.index.proofs.Logic.{same-or-not, lt-or-ge}
-use Rattle.formed.specs.Parts.{tab}
-use Rattle.formed.proofs.Same.{tab-is}
 use Rattle.bodies.specs.Words.{Spread}
 use Rattle.read_steps.specs.Reading.{Put}
 
@@ -41,10 +39,6 @@ put-on f at n o d h p i l =
     let q : at + (i - at) ≡ i = omega arith in
     ap (λ (x : ℕ). getD d x 0) (sym q) ∙ p .new (i - at) (omega arith) ∙ ap f q)
     (lt-or-ge i at)
-
--- a list put whole
-pub put-whole : (f : ℕ → ℕ) (n : ℕ) (o d : List ℕ) → length d ≡ n → Put f 0 n o d → d ≡ tab n f
-put-whole f n o d w p = tab-is n f d w (λ i l. let q : i ≡ 0 + i = omega arith in ap (λ (x : ℕ). getD d x 0) q ∙ p .new i l)
 
 -- what a copy leaves
 pub put-spread : (f : ℕ → ℕ) (at n : ℕ) (o d : List ℕ) → length d ≡ length o → Spread (λ i. at + i) f n o d → Put f at n o d

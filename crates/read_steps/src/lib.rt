@@ -4,6 +4,7 @@ ghost use mathlib.Core.Bool.{true};
 ghost use mathlib.Core.List.{List};
 ghost use Prim.Native.Nat.{ℕ, _+_, _*_, _%_, _<_, _≤_};
 ghost use lib.ListN.{length};
+ghost use Rattle.word.specs.Value.{value, bigEndian};
 ghost use Rattle.store.specs.Mem.{mem};
 ghost use Rattle.store.specs.Find.{Findable};
 ghost use Rattle.formed.specs.Parts.{slotOfChunk, byteAt};
@@ -15,6 +16,7 @@ ghost use Rattle.read_steps.specs.Reading.{Put};
 use page_ids::Address;
 use page_ids::PageId;
 use store::head;
+use word::Word;
 
 // The lesser of two numbers above 0.
 fn least(a: usize, b: usize) -> usize
@@ -50,6 +52,20 @@ fn slot_at(keys: &[u64], order: &[u32], words: &[u64], page: PageId, k: usize) -
     store::place_of(keys, order, words, page, k as u32)
 }
 
+// The same, by its hint first: a read of many chunks then makes no call for a chunk that a hint knows.
+fn slot_by_hint(keys: &[u64], order: &[u32], words: &[u64], page: PageId, k: usize) -> usize
+    requires { ⌜ Findable (now keys) (now order) (now words) ⌝ }
+    ensures { λ r. ⌜ ((b : List ℕ) → r ≡ slotOfChunk (mem b (now (keys .entry)) (now (order .entry)) (now (words .entry))) (page .0) k) ⌝ }
+{
+    if k <= store::LAST_CHUNK as usize {
+        let s = store::hinted(keys, order, words, page, k as u32);
+        if s < words[head::CHUNKS] as usize {
+            return s;
+        }
+    }
+    slot_at(keys, order, words, page, k)
+}
+
 // Reads n bytes of a page from address a on, which lie in one chunk, to `out` from `to` on.
 fn read_part(
     bytes: &[u8],
@@ -66,7 +82,7 @@ fn read_part(
     requires { ⌜ (a % 256 + n ≤ 256) × (to + n ≤ length (now out)) ⌝ }
     ensures { λ _. ⌜ Put (λ i. byteAt (mem (now (bytes .entry)) (now (keys .entry)) (now (order .entry)) (now (words .entry))) (page .0) (a + i)) to n (now (out .entry)) (now (out .exit)) ⌝ }
 {
-    let s = slot_at(keys, order, words, page, a / 256);
+    let s = slot_by_hint(keys, order, words, page, a / 256);
     if s >= words[head::CHUNKS] as usize {
         fill(out, to, n);
         return;
@@ -97,7 +113,44 @@ pub fn read_into(
     }
 }
 
-// Reads 32 bytes: from the slots that hints know, or else by search.
+// A word, if hints know its chunks.
+pub struct Known {
+    pub found: bool,
+    pub word: Word,
+}
+
+// The word at an address, if hints know its chunks. A leaf: it hands its slices on to nothing that stays a call.
+fn known_word(
+    bytes: &[u8],
+    keys: &[u64],
+    order: &[u32],
+    words: &[u64],
+    page: PageId,
+    address: Address,
+) -> Known
+    requires { ⌜ WellFormed (mem (now bytes) (now keys) (now order) (now words)) ⌝ }
+    ensures { λ r. ⌜ (r .found ≡ true → value (r .word .limbs) ≡ bigEndian (run (viewOf (mem (now (bytes .entry)) (now (keys .entry)) (now (order .entry)) (now (words .entry)))) (page .0) (address .0) 32)) ⌝ }
+{
+    let c = words[head::CHUNKS] as usize;
+    let s = store::hinted(keys, order, words, page, address.0 / 256);
+    if s < c {
+        let t = store::hinted_last(keys, order, words, page, address, s);
+        if t < c {
+            let held = bodies::word_in(bytes, s, t, (address.0 % 256) as usize);
+            return Known {
+                found: true,
+                word: word::from_big_endian(held),
+            };
+        }
+    }
+    let none = [0u64; 4];
+    Known {
+        found: false,
+        word: Word { limbs: none },
+    }
+}
+
+// The word at an address: from the slots that hints know, or else by search.
 pub fn read_word(
     bytes: &[u8],
     keys: &[u64],
@@ -105,44 +158,16 @@ pub fn read_word(
     words: &[u64],
     page: PageId,
     address: Address,
-) -> [u8; 32]
+) -> Word
     requires { ⌜ WellFormed (mem (now bytes) (now keys) (now order) (now words)) ⌝ }
-    ensures { λ r. ⌜ r ≡ run (viewOf (mem (now (bytes .entry)) (now (keys .entry)) (now (order .entry)) (now (words .entry)))) (page .0) (address .0) 32 ⌝ }
+    ensures { λ r. ⌜ value (r .limbs) ≡ bigEndian (run (viewOf (mem (now (bytes .entry)) (now (keys .entry)) (now (order .entry)) (now (words .entry)))) (page .0) (address .0) 32) ⌝ }
 {
-    let c = words[head::CHUNKS] as usize;
-    let s = store::hinted(keys, order, words, page, address.0 / 256);
-    if s < c {
-        let t = store::hinted_last(keys, order, words, page, address, s);
-        if t < c {
-            return bodies::word_in(bytes, s, t, (address.0 % 256) as usize);
-        }
+    let known = known_word(bytes, keys, order, words, page, address);
+    if known.found {
+        return known.word;
     }
-    search_word(bytes, keys, order, words, page, address)
-}
-
-// The same in one or two parts, each looked up by itself; a part of which no chunk is held is zero.
-fn search_word(
-    bytes: &[u8],
-    keys: &[u64],
-    order: &[u32],
-    words: &[u64],
-    page: PageId,
-    address: Address,
-) -> [u8; 32]
-    requires { ⌜ WellFormed (mem (now bytes) (now keys) (now order) (now words)) ⌝ }
-    ensures { λ r. ⌜ r ≡ run (viewOf (mem (now (bytes .entry)) (now (keys .entry)) (now (order .entry)) (now (words .entry)))) (page .0) (address .0) 32 ⌝ }
-{
-    let mut out = [0u8; 32];
-    let a = address.0 as usize;
-    let r = a % 256;
-    if r <= 224 {
-        read_part(bytes, keys, order, words, page, a, 32, &mut out, 0);
-        return out;
-    }
-    let n = 256 - r;
-    read_part(bytes, keys, order, words, page, a, n, &mut out, 0);
-    read_part(bytes, keys, order, words, page, a + n, 32 - n, &mut out, n);
-    out
+    let read = read_padded(bytes, keys, order, words, page, address, 32);
+    word::from_big_endian(read)
 }
 
 // The 256 bytes of a chunk: a part of `bytes`, or the block of zeros where no slot holds the chunk.

@@ -20,6 +20,7 @@ ghost use Rattle.reads.specs.Calls.{wordOutcome, byteOutcome, lengthOutc
 pub mod on_formed;
 
 // A word, or a refusal and the word 0.
+#[repr(C)]
 pub struct WordRead {
     pub refusal: u32,
     pub word: Word,
@@ -36,6 +37,7 @@ pub struct LengthRead {
 }
 
 // The lengths of the journals: what a rollback goes back to.
+#[repr(C)]
 pub struct Marks {
     pub refusal: u32,
     pub heap: u32,

@@ -58,10 +58,9 @@ pub fn read_u256(
     requires { ⌜ WellFormed (mem (now bytes) (now keys) (now order) (now words)) ⌝ }
     ensures { λ r. let m = mem (now (bytes .entry)) (now (keys .entry)) (now (order .entry)) (now (words .entry)) in ⌜ ReadDoes (onMemory m [] (bigEndian (run (viewOf m) (page .0) (address .0) 32))) (wordOutcome r) (value (r .word .limbs)) 0 ⌝ }
 {
-    let read = read_steps::read_word(bytes, keys, order, words, page, address);
     WordRead {
         refusal: 0,
-        word: word::from_big_endian(read),
+        word: read_steps::read_word(bytes, keys, order, words, page, address),
     }
 }
 

@@ -131,7 +131,7 @@ fn ones(c: u64) -> u64 {
     e | (e >> 16)
 }
 
-// The factor that spreads the pages over the hints. Among odd factors of 16 bits few let so few hints of up to 100 pages share a place.
+// The factor that spreads the pages over the hints. With few other odd factors of 16 bits do fewer hints of up to 100 pages share a place.
 const HINT_FACTOR: u64 = 45449;
 
 // The place of the hint for a chunk of a page. The last place of the order has the mask.

@@ -6,6 +6,7 @@ ghost use lib.Dec.{ltb};
 ghost use Rattle.word.specs.Value.{value, limbsValue, bytesAt, bigEndian, wordBytes, lastAddress};
 ghost use Rattle.word.specs.Swap.{Swapped, lowFirst};
 
+#[repr(C)]
 pub struct Word {
     pub limbs: [u64; 4],
 }

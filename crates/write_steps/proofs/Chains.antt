@@ -10,7 +10,6 @@ use lib.ListN.{length}
 use borrow.Author.Tests.{lt-ltb, le-leb, eq-eqb}
 use Rattle.view.proofs.Missing.{missing-same}
 use Rattle.view.specs.Calls.{firstRefusal}
-use Rattle.word.specs.Value.{wordBytes}
 use Rattle.page_ids.specs.declared.Layout.{Layout}
 use Rattle.store.specs.Keys.{lastChunk}
 use Rattle.store.specs.Mem.{Mem, layoutOf, journalWords, holders}
@@ -21,7 +20,7 @@ use Rattle.formed.specs.Parts.{Note}
 use Rattle.formed.specs.WellFormed.{WellFormed}
 use Rattle.formed.proofs.Pages.{is-fixed, place-lt}
 use Rattle.view.specs.View.{View, Setting, settingOf, viewOf}
-use Rattle.view.specs.Steps.{run, needs, missing, touchedCount, alignedCount, wordNotes, alignedNotes, written, wordWritten}
+use Rattle.view.specs.Steps.{run, needs, missing, touchedCount, alignedCount, wordNotes, alignedNotes, written}
 use Rattle.view.specs.Checks.{undecodable}
 use Rattle.view.specs.Does.{Shows}
 use Rattle.view.specs.Inner.{listing, holding, noting, journalling, putting, ListAsks, HoldAsks, NoteAsks, PutAsks}
@@ -259,7 +258,3 @@ module _ (m : Mem) (p a : ℕ) (bs : List ℕ) (w k : ℕ) (c : Cleared m p a (l
           setting = put .setting ∙ now .setting;
           view = put .view ∙ ap (putting p a bs) v ∙ written-is L p (viewOf m) a bs (notes (viewOf m));
         }
-
--- the bytes of a word, as written
-pub word-shown : (m : Mem) (p a n : ℕ) (bs : List ℕ) → bs ≡ wordBytes n → (m' : Mem) → Shows (settingOf m) (wordWritten (layoutOf (m .words)) p a bs (viewOf m)) m' → Shows (settingOf m) (wordWritten (layoutOf (m .words)) p a (wordBytes n) (viewOf m)) m'
-word-shown m p a n bs e m' shown = subst (λ (b : List ℕ). Shows (settingOf m) (wordWritten (layoutOf (m .words)) p a b (viewOf m)) m') e shown

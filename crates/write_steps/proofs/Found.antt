@@ -1,38 +1,46 @@
--- A word whose chunks are held already: nothing is left to do before it is journalled and put.
+-- A word whose chunks are held already: nothing is left to do before it is journalled and put, and of its refusals only 11 is left.
 -- Assumes nothing.
 use mathlib.Core.Path.{_≡_, refl, sym, ap, _∙_, subst}
-use mathlib.Core.Bool.{true, false, _&&_, _||_, true≢false, false≢true}
-use mathlib.Core.List.{List}
+use mathlib.Core.Bool.{Bool, true, false, not, _&&_, _||_, false≢true}
+use mathlib.Core.List.{List, [], _∷_}
 use mathlib.Core.Logic.{⊎-elim}
 use Prim.Native.Nat.{ℕ, zero, suc, _+_, _-_, _/_, _≤_, _<_}
 use native.Mathlib.Omega.{arith}
 use lib.Dec.{leb, ltb, eqb}
 use lib.ListN.{length}
 use borrow.Author.Tests.{le-leb, lt-leb, lt-ltb, le-ltb, eq-eqb, ne-eqb}
-use Rattle.store.specs.Keys.{lastChunk, keyEntry}
-use Rattle.view.specs.Calls.{firstRefusal}
+use Rattle.outcome.specs.Outcome.{Outcome, refused, done, answered, carriedOut}
+use Rattle.word.specs.Value.{wordBytes}
+use Rattle.word.proofs.Digits.{digits-long}
+use Rattle.page_ids.specs.Decode.{Page, none, page, decoded, isNone, isFixed, isDynamic}
+use Rattle.store.specs.Keys.{keyEntry}
 use Rattle.index.proofs.Logic.{same-or-not, lt-or-ge}
 use Rattle.index.proofs.Places.{seek-upto}
 use Rattle.store.specs.Mem.{Mem, layoutOf, slotCount, pageCount, entries}
 use Rattle.store.specs.Find.{slotFor}
+use Rattle.formed.specs.Pages.{fixed, dynamic, journalCount}
 use Rattle.formed.specs.Parts.{entryOf, holds}
-use Rattle.formed.specs.WellFormed.{HeldAt, WellFormed, holder}
+use Rattle.formed.specs.WellFormed.{HeldAt, WellFormed, ListedPage, holder}
 use Rattle.formed.proofs.Sizes.{entries-long}
 use Rattle.formed.proofs.Keys.{in-table}
 use Rattle.formed.proofs.Hints.{slot-found}
-use Rattle.formed.proofs.Sense.{held-holds}
+use Rattle.formed.proofs.Sense.{held-holds, in-table-allocated}
 use Rattle.view.specs.View.{View, settingOf, viewOf}
 use Rattle.view.specs.Steps.{touchedCount, missing, wordNotes, wordWritten}
-use Rattle.view.specs.Checks.{wordWriteChecks}
+use Rattle.view.specs.Checks.{undecodable, overfull, capacityChecksAt, wordWriteChecks}
+use Rattle.view.specs.Calls.{Call, Value, WriteWord, nothing, nextOf, firstRefusal, CallDoes}
 use Rattle.view.specs.Does.{Shows}
 use Rattle.view.specs.Inner.{listing, holding}
 use Rattle.view.proofs.Compose.{listed-held}
 use Rattle.view.proofs.Equal.{view-by}
+use Rattle.view.proofs.Refused.{next, first-holds, first-fails, refused-does, done-does}
+use Rattle.checks.proofs.Numbers.{room-rest}
+use Rattle.checks.proofs.Passed.{room-refusals}
 use Rattle.pages.proofs.Listing.{listed-already}
 use Rattle.bodies.proofs.Pieces.{held-here}
 use Rattle.bodies.proofs.Puts.{shows-view}
-use Rattle.write_steps.specs.Asks.{WordAsks, wordPut, WrittenOrLeft}
-use Rattle.write_steps.proofs.Chains.{word-cleared, prepare-asks, list-asks, word-notes-same, write-done}
+use Rattle.write_steps.specs.Asks.{WordFound, WordAsks, wordPut, WrittenOrLeft, leftNumber}
+use Rattle.write_steps.proofs.Chains.{Cleared, word-cleared, prepare-asks, list-asks, word-notes-same, write-done}
 
 -- chunks that are held already
 module _ (p k n : ℕ) (v : View) (all : (i : ℕ) → k ≤ i → i < k + n → v .held p i ≡ true) where
@@ -70,61 +78,124 @@ entry-there m f s p k h =
     let l = entries-long m (f .lengths) in
     omega arith
 
--- the slots s and t were found for the first and the last chunk of the word at address a of page p
-module _ (m : Mem) (p a : ℕ) (page : p ≤ 4294967295) (small : a ≤ 4294967295) (asks : (WellFormed m) × (firstRefusal (wordWriteChecks (settingOf m) (viewOf m) p a) ≡ 0))
-    (s t : ℕ) (ls : s < slotCount (m .words)) (lt : t < slotCount (m .words))
-    (first : s ≡ slotFor (m .keys) (m .words) p (a / 256)) (last : t ≡ slotFor (m .keys) (m .words) p ((a + 31) / 256)) where
-  f : WellFormed m
-  f = asks .0
+-- and is decodable
+not-none-fixed : (d : Page) → isFixed d ≡ true → isNone d ≡ false
+not-none-fixed none e = absurd (false≢true e)
+not-none-fixed (page k g) e = refl
 
-  found : (x k : ℕ) → x < slotCount (m .words) → k ≤ lastChunk → x ≡ slotFor (m .keys) (m .words) p k → HeldAt m x p k
-  found x k l top e = held-here m f x p k (sym (e ∙ slot-found m f p k top)) l
+not-none-dynamic : (d : Page) → isDynamic d ≡ true → isNone d ≡ false
+not-none-dynamic none e = absurd (false≢true e)
+not-none-dynamic (page k g) e = refl
+
+-- what a lookup finds are the slots of the first and the last chunk
+pub slots-found : (m : Mem) → WellFormed m → (p a : ℕ) → a ≤ 4294967295 → (s t : ℕ) → s < slotCount (m .words) → t < slotCount (m .words)
+    → s ≡ slotFor (m .keys) (m .words) p (a / 256) → t ≡ slotFor (m .keys) (m .words) p ((a + 31) / 256) → WordFound m p a s t
+slots-found m f p a small s t ls lt first last = record {
+  formed = f;
+  first = sym (first ∙ slot-found m f p (a / 256) (omega arith));
+  last = sym (last ∙ slot-found m f p ((a + 31) / 256) (omega arith));
+  first-in = ls;
+  last-in = lt;
+}
+
+-- the slots s and t hold the first and the last chunk of the word at address a of page p
+module _ (m : Mem) (p a s t : ℕ) (w : WordFound m p a s t) (page : p ≤ 4294967295) (small : a ≤ 4294967295) where
+  f : WellFormed m
+  f = w .formed
+
+  abbrev checks : List (Bool × Outcome Value)
+  checks = wordWriteChecks (settingOf m) (viewOf m) p a
+
+  abbrev full : Bool
+  full = overfull (settingOf m) (viewOf m) p 1 journalCount
 
   at-first : HeldAt m s p (a / 256)
-  at-first = found s (a / 256) ls (omega arith) first
+  at-first = held-here m f s p (a / 256) (w .first) (w .first-in)
 
   at-last : HeldAt m t p ((a + 31) / 256)
-  at-last = found t ((a + 31) / 256) lt (omega arith) last
+  at-last = held-here m f t p ((a + 31) / 256) (w .last) (w .last-in)
 
-  all-held : (i : ℕ) → a / 256 ≤ i → i < a / 256 + touchedCount a 32 → listing m p .held p i ≡ true
-  all-held i lo hi =
-      listed-held (layoutOf (m .words)) p (viewOf m) p i
-      ∙ ⊎-elim
+  each : (i : ℕ) → a / 256 ≤ i → i < a / 256 + touchedCount a 32 → holds m p i ≡ true
+  each i lo hi =
+      ⊎-elim
       (λ (e : i ≡ a / 256). ap (holds m p) e ∙ held-holds m f s p (a / 256) at-first)
       (λ (n : i ≡ a / 256 → ⊥). let e : i ≡ (a + 31) / 256 = omega arith in ap (holds m p) e ∙ held-holds m f t p ((a + 31) / 256) at-last)
       (same-or-not i (a / 256))
 
-  ready : Shows (settingOf m) (holding p (a / 256) (touchedCount a 32) (listing m p)) m
-  ready =
-      shows-view
-      (listed-already m p (list-asks m p (a / 256) (touchedCount a 32) (prepare-asks m p a 32 1 (touchedCount a 32) (word-cleared m p a (touchedCount a 32) page small asks refl 32 refl))) (entry-there m f s p (a / 256) at-first))
-      (holding-same p (a / 256) (touchedCount a 32) (listing m p) all-held)
+  -- ---- its refusals: not 4, 9 or 10
+  known : undecodable (settingOf m) p ≡ false
+  unfolding undecodable fixed dynamic
+  known =
+      ⊎-elim
+      (λ (e : fixed (layoutOf (m .words)) p ≡ true). not-none-fixed (decoded (layoutOf (m .words)) p) e)
+      (λ (e : ListedPage m p). not-none-dynamic (decoded (layoutOf (m .words)) p) (f .pages-dynamic (e .entry) p (e .there)))
+      (f .holders-known s p (a / 256) at-first)
 
-  -- what writing it asks, and what that leaves
-  pub found-asks : WordAsks m p a s t
-  found-asks = record {
-    formed = f;
-    first = sym (first ∙ slot-found m f p (a / 256) (omega arith));
-    last = sym (last ∙ slot-found m f p ((a + 31) / 256) (omega arith));
-    first-in = ls;
-    last-in = lt;
-    room = word-cleared m p a (touchedCount a 32) page small asks refl 32 refl .room .words;
-  }
+  no-entry : (not (viewOf m .allocated p) && eqb (viewOf m .entriesLeft) 0) ≡ false
+  no-entry = rw (in-table-allocated m f _ p (at-first .page)) refl
 
-  pub found-written : (ws : List ℕ) → length ws ≡ 32 → (m' : Mem) → Shows (settingOf m) (wordPut (layoutOf (m .words)) p a ws (viewOf m)) m' → WrittenOrLeft m p a ws true m'
-  found-written ws wide m' put = record {
-    written = λ e. write-done m p a ws 1 (touchedCount a 32) (word-cleared m p a (touchedCount a 32) page small asks refl (length ws) wide) m ready (λ (v : View). wordNotes v p a) (λ v w. word-notes-same v w p a) m' put;
-    left = λ e. absurd (true≢false e);
-  }
+  few : ltb (viewOf m .pool) (missing (viewOf m .held p) (a / 256) (touchedCount a 32)) ≡ false
+  few =
+      let z = none-missing p (a / 256) (touchedCount a 32) (viewOf m) each (touchedCount a 32) (omega arith) in
+      le-ltb (viewOf m .pool) (missing (viewOf m .held p) (a / 256) (touchedCount a 32)) (omega arith)
 
--- a word that is left
-module _ (m : Mem) (p a : ℕ) where
-  pub found-left : (ws : List ℕ) → WrittenOrLeft m p a ws false m
-  found-left ws = record { written = λ e. absurd (false≢true e); left = λ e. refl }
+  -- THE LAW: of 4, 9, 10 and 11 only 11 is left
+  pub found-number : firstRefusal ((full, refused 11) ∷ []) ≡ firstRefusal checks
+  found-number =
+      room-rest (settingOf m) (viewOf m) p (a / 256) (touchedCount a 32) 1 no-entry few
+      ∙ first-fails (undecodable (settingOf m) p) (refused 4) (capacityChecksAt (settingOf m) (viewOf m) p a 32 1) known
 
-  module _ (m₁ : Mem) (e : m₁ ≡ m) where
-    pub left-asks : (WellFormed m) × (firstRefusal (wordWriteChecks (settingOf m) (viewOf m) p a) ≡ 0) → (WellFormed m₁) × (firstRefusal (wordWriteChecks (settingOf m₁) (viewOf m₁) p a) ≡ 0)
-    left-asks asks = subst (λ (x : Mem). (WellFormed x) × (firstRefusal (wordWriteChecks (settingOf x) (viewOf x) p a) ≡ 0)) (sym e) asks
+  pub found-refused : full ≡ true → (n : ℕ) → CallDoes m (WriteWord p a n) (answered 11 nothing) m
+  found-refused e n = refused-does m f checks (settingOf m) (nextOf (settingOf m) (WriteWord p a n) (viewOf m)) 11 (first-holds full 11 [] e ∙ found-number) (λ z. omega arith)
 
-    pub left-shown : (ws : List ℕ) (m' : Mem) → Shows (settingOf m₁) (wordWritten (layoutOf (m₁ .words)) p a ws (viewOf m₁)) m' → Shows (settingOf m) (wordWritten (layoutOf (m .words)) p a ws (viewOf m)) m'
-    left-shown ws m' shown = subst (λ (x : Mem). Shows (settingOf x) (wordWritten (layoutOf (x .words)) p a ws (viewOf x)) m') e shown
+  -- ---- it is written
+  module _ (spare : full ≡ false) where
+    pub found-free : firstRefusal checks ≡ 0
+    found-free = sym found-number ∙ sym (first-fails full (refused 11) [] spare)
+
+    cleared : (n : ℕ) → n ≡ 32 → Cleared m p a n 1 (touchedCount a 32)
+    cleared n e = word-cleared m p a (touchedCount a 32) page small (f, found-free) refl n e
+
+    ready : Shows (settingOf m) (holding p (a / 256) (touchedCount a 32) (listing m p)) m
+    ready =
+        shows-view
+        (listed-already m p (list-asks m p (a / 256) (touchedCount a 32) (prepare-asks m p a 32 1 (touchedCount a 32) (cleared 32 refl))) (entry-there m f s p (a / 256) at-first))
+        (holding-same p (a / 256) (touchedCount a 32) (listing m p) (λ i lo hi. listed-held (layoutOf (m .words)) p (viewOf m) p i ∙ each i lo hi))
+
+    pub found-asks : WordAsks m p a s t
+    found-asks = record { found = w; room = cleared 32 refl .room .words }
+
+    pub found-does : (n : ℕ) (m' : Mem) → Shows (settingOf m) (wordPut (layoutOf (m .words)) p a (wordBytes n) (viewOf m)) m' → CallDoes m (WriteWord p a n) (answered 0 nothing) m'
+    found-does n m' put =
+        done-does m f checks (settingOf m) (nextOf (settingOf m) (WriteWord p a n) (viewOf m)) (next (room-refusals (settingOf m) (viewOf m) p a 32 1)) found-free
+        (write-done m p a (wordBytes n) 1 (touchedCount a 32) (cleared (length (wordBytes n)) (digits-long 32 n)) m ready (λ (v : View). wordNotes v p a) (λ v w. word-notes-same v w p a) m' put)
+
+-- ---- a write that hints may know
+module _ (m : Mem) (p a n : ℕ) where
+  pub known-left : WrittenOrLeft m p a n leftNumber m
+  known-left = record { left = λ e. refl; written = λ e. absurd (e refl) }
+
+  -- the number that says so is that of no write that was carried out
+  pub known-done : (r : ℕ) (m' : Mem) → CallDoes m (WriteWord p a n) (answered r nothing) m' → WrittenOrLeft m p a n r m'
+  known-done r m' d = record { left = λ e. d .kept (sym (ap carriedOut (sym (ap (λ (x : ℕ). answered x nothing) e) ∙ d .answer))); written = λ _. d }
+
+  pub left-does : (m₁ : Mem) → m₁ ≡ m → (r : ℕ) (m' : Mem) → CallDoes m₁ (WriteWord p a n) (answered r nothing) m' → CallDoes m (WriteWord p a n) (answered r nothing) m'
+  left-does m₁ e r m' d = subst (λ (x : Mem). CallDoes x (WriteWord p a n) (answered r nothing) m') e d
+
+  -- ---- and one by searches
+  module _ (f : WellFormed m) where
+    pub searched-refused : (r : ℕ) → r ≡ firstRefusal (wordWriteChecks (settingOf m) (viewOf m) p a) → (r ≡ 0 → ⊥) → CallDoes m (WriteWord p a n) (answered r nothing) m
+    searched-refused zero e z = absurd (z refl)
+    searched-refused (suc r) e z = refused-does m f (wordWriteChecks (settingOf m) (viewOf m) p a) (settingOf m) (nextOf (settingOf m) (WriteWord p a n) (viewOf m)) (suc r) e z
+
+    pub searched-done : firstRefusal (wordWriteChecks (settingOf m) (viewOf m) p a) ≡ 0 → (m' : Mem) → Shows (settingOf m) (wordWritten (layoutOf (m .words)) p a (wordBytes n) (viewOf m)) m' → CallDoes m (WriteWord p a n) (answered 0 nothing) m'
+    searched-done e m' shown = done-does m f (wordWriteChecks (settingOf m) (viewOf m) p a) (settingOf m) (nextOf (settingOf m) (WriteWord p a n) (viewOf m)) (next (room-refusals (settingOf m) (viewOf m) p a 32 1)) e shown
+
+-- ---- the outcome, from its number
+pub number-refused : (m : Mem) (c : Call) (r : ℕ) (m' : Mem) → (r ≡ 0 → ⊥) → CallDoes m c (answered r nothing) m' → CallDoes m c (refused r) m'
+number-refused m c zero m' z d = absurd (z refl)
+number-refused m c (suc r) m' z d = d
+
+pub number-done : (m : Mem) (c : Call) (r : ℕ) (m' : Mem) → r ≡ 0 → CallDoes m c (answered r nothing) m' → CallDoes m c (done nothing) m'
+number-done m c zero m' z d = d
+number-done m c (suc r) m' z d = absurd (omega arith)

@@ -45,16 +45,16 @@ module _ (m : Mem) (p a s t : ℕ) (asks : WordAsks m p a s t) (small : a ≤ 42
   held-all : (x : ℕ) → x < 32 → holds m p ((a + x) / 256) ≡ true
   held-all x l =
       ⊎-elim
-      (λ (e : (a + x) / 256 ≡ a / 256). ap (holds m p) e ∙ holds-there s (a / 256) (asks .first) (asks .first-in))
-      (λ (n : (a + x) / 256 ≡ a / 256 → ⊥). let e : (a + x) / 256 ≡ (a + 31) / 256 = omega arith in ap (holds m p) e ∙ holds-there t ((a + 31) / 256) (asks .last) (asks .last-in))
+      (λ (e : (a + x) / 256 ≡ a / 256). ap (holds m p) e ∙ holds-there s (a / 256) (asks .found .first) (asks .found .first-in))
+      (λ (n : (a + x) / 256 ≡ a / 256 → ⊥). let e : (a + x) / 256 ≡ (a + 31) / 256 = omega arith in ap (holds m p) e ∙ holds-there t ((a + 31) / 256) (asks .found .last) (asks .found .last-in))
       (same-or-not ((a + x) / 256) (a / 256))
 
   -- ---- its journal
   pub word-journal : JournalAsks m p a 32 1
-  word-journal = record { formed = asks .formed; held = held-all; room = asks .room }
+  word-journal = record { formed = asks .found .formed; held = held-all; room = asks .room }
 
   pub word-slots : (j : ℕ) → p ≡ journalPage (layoutOf (m .words)) j → NoteSlots m j a s t
-  word-slots j own = subst (λ (q : ℕ). (slotOfChunk m q (a / 256) ≡ s) × (slotOfChunk m q ((a + 31) / 256) ≡ t) → NoteSlots m j a s t) (sym own) (λ h. record { first = h .0; last = h .1 }) (asks .first, asks .last)
+  word-slots j own = subst (λ (q : ℕ). (slotOfChunk m q (a / 256) ≡ s) × (slotOfChunk m q ((a + 31) / 256) ≡ t) → NoteSlots m j a s t) (sym own) (λ h. record { first = h .0; last = h .1 }) (asks .found .first, asks .found .last)
 
   -- ---- and its bytes, after it was journalled
   module _ (bytes' words' : List ℕ) (noted : Shows (settingOf m) (journalling (layoutOf (m .words)) p (wordNotes (viewOf m) p a) (viewOf m)) (mem bytes' (m .keys) (m .order) words')) where
@@ -68,10 +68,10 @@ module _ (m : Mem) (p a s t : ℕ) (asks : WordAsks m p a s t) (small : a ≤ 42
     slot-same k = slots-stay (m .bytes) bytes' (m .keys) (m .order) (m .words) words' count-same p k
 
     first-in : s < slotCount words'
-    first-in = let h = asks .first-in in let e = count-same in omega arith
+    first-in = let h = asks .found .first-in in let e = count-same in omega arith
 
     last-in : t < slotCount words'
-    last-in = let h = asks .last-in in let e = count-same in omega arith
+    last-in = let h = asks .found .last-in in let e = count-same in omega arith
 
     pub word-places : InSlots bytes' s t (a % 256)
     word-places = word-in-slots m₁ p a s t first-in last-in (noted .formed)
@@ -82,8 +82,8 @@ module _ (m : Mem) (p a s t : ℕ) (asks : WordAsks m p a s t) (small : a ≤ 42
         shows-then (putting p a ws) noted
         (shows-view
         (put-shows m₁ (noted .formed) p a s t small
-        (held-here m₁ (noted .formed) s p (a / 256) (slot-same (a / 256) ∙ asks .first) first-in)
-        (held-here m₁ (noted .formed) t p ((a + 31) / 256) (slot-same ((a + 31) / 256) ∙ asks .last) last-in)
+        (held-here m₁ (noted .formed) s p (a / 256) (slot-same (a / 256) ∙ asks .found .first) first-in)
+        (held-here m₁ (noted .formed) t p ((a + 31) / 256) (slot-same ((a + 31) / 256) ∙ asks .found .last) last-in)
         (λ i. getD ws i 0) bytes″ long d)
         (ap (λ (x : List ℕ). putting p a x (viewOf m₁)) (sym (tab-is 32 (λ i. getD ws i 0) ws wide (λ i l. refl)))))
 
@@ -99,10 +99,12 @@ held-word m p a s t small asks es et =
     let last : slotOfChunk m p ((a + 31) / 256) ≡ t = sym (et ∙ slot-found m f p ((a + 31) / 256) (omega arith)) in
     let q : (a + 0) / 256 ≡ a / 256 = omega arith in
     record {
-      formed = f;
-      first = first;
-      last = last;
-      first-in = inside m p s (a / 256) first (ap (holds m p) (sym q) ∙ asks .held 0 (omega arith));
-      last-in = inside m p t ((a + 31) / 256) last (asks .held 31 (omega arith));
+      found = record {
+        formed = f;
+        first = first;
+        last = last;
+        first-in = inside m p s (a / 256) first (ap (holds m p) (sym q) ∙ asks .held 0 (omega arith));
+        last-in = inside m p t ((a + 31) / 256) last (asks .held 31 (omega arith));
+      };
       room = asks .room;
     }

@@ -1,8 +1,11 @@
-// What a write or an allocation does once it is not refused: the page is allocated, its chunks are held, the words journalled, the bytes put.
+// Word writes to a well-formed memory.
+// What any other write or an allocation does once it is not refused: the page is allocated, its chunks are held, the words journalled, the bytes put.
 ghost use mathlib.Core.Path.{_≡_};
 ghost use Prim.Native.Nat.{_+_, _≤_, _^_};
 ghost use lib.ListN.{length};
-ghost use Rattle.view.specs.Calls.{firstRefusal};
+ghost use Rattle.outcome.specs.Outcome.{answered};
+ghost use Rattle.word.specs.Value.{value, wordBytes};
+ghost use Rattle.view.specs.Calls.{Call, CallDoes, nothing, firstRefusal};
 ghost use Rattle.store.specs.Mem.{mem, layoutOf};
 ghost use Rattle.formed.specs.WellFormed.{WellFormed};
 ghost use Rattle.view.specs.View.{settingOf, viewOf};
@@ -10,10 +13,11 @@ ghost use Rattle.view.specs.Steps.{alignedCount, wordNotes, alignedNotes, wordW
 ghost use Rattle.view.specs.Checks.{wordWriteChecks, byteWriteChecks, allocateChecks};
 ghost use Rattle.view.specs.Does.{Shows};
 ghost use Rattle.view.specs.Inner.{listing, holding, journalling};
-ghost use Rattle.write_steps.specs.Asks.{PrepareAsks, JournalAsks, WordAsks, wordPut, WrittenOrLeft};
+ghost use Rattle.write_steps.specs.Asks.{PrepareAsks, JournalAsks, WordFound, WordAsks, wordPut, WrittenOrLeft};
 use page_ids::Address;
 use page_ids::PageId;
 use store::head;
+use word::Word;
 
 // The page is allocated and holds the chunks first, .., first + count - 1.
 fn prepare(
@@ -82,39 +86,69 @@ fn write_at(
     address: Address,
     s: usize,
     t: usize,
-    value: [u8; 32],
+    word: Word,
 )
     requires { ⌜ WordAsks (mem (now bytes) (now keys) (now order) (now words)) (page .0) (address .0) s t ⌝ }
-    ensures { λ _. ⌜ Shows (settingOf (mem (now (bytes .entry)) (now (keys .entry)) (now (order .entry)) (now (words .entry)))) (wordPut (layoutOf (now (words .entry))) (page .0) (address .0) value (viewOf (mem (now (bytes .entry)) (now (keys .entry)) (now (order .entry)) (now (words .entry))))) (mem (now (bytes .exit)) (now (keys .entry)) (now (order .entry)) (now (words .exit))) ⌝ }
+    ensures { λ _. ⌜ Shows (settingOf (mem (now (bytes .entry)) (now (keys .entry)) (now (order .entry)) (now (words .entry)))) (wordPut (layoutOf (now (words .entry))) (page .0) (address .0) (wordBytes (value (word .limbs))) (viewOf (mem (now (bytes .entry)) (now (keys .entry)) (now (order .entry)) (now (words .entry))))) (mem (now (bytes .exit)) (now (keys .entry)) (now (order .entry)) (now (words .exit))) ⌝ }
 {
     journal_found(bytes, keys, order, words, page, address, s, t);
-    bodies::put_word(bytes, s, t, (address.0 % 256) as usize, value);
+    bodies::put_word(
+        bytes,
+        s,
+        t,
+        (address.0 % 256) as usize,
+        word::to_big_endian(word),
+    );
 }
 
-// A word whose chunks are found by their hints is written at once. Any other is left.
-fn write_found(
+// Writes a word whose chunks are held at the slots s and t. Of the refusals of a word write only 11 is left.
+pub fn write_found(
     bytes: &mut [u8],
     keys: &[u64],
     order: &[u32],
     words: &mut [u64],
     page: PageId,
     address: Address,
-    value: [u8; 32],
-) -> bool
-    requires { ⌜ (WellFormed (mem (now bytes) (now keys) (now order) (now words))) × (firstRefusal (wordWriteChecks (settingOf (mem (now bytes) (now keys) (now order) (now words))) (viewOf (mem (now bytes) (now keys) (now order) (now words))) (page .0) (address .0)) ≡ 0) ⌝ }
-    ensures { λ r. ⌜ WrittenOrLeft (mem (now (bytes .entry)) (now (keys .entry)) (now (order .entry)) (now (words .entry))) (page .0) (address .0) value r (mem (now (bytes .exit)) (now (keys .entry)) (now (order .entry)) (now (words .exit))) ⌝ }
+    s: usize,
+    t: usize,
+    word: Word,
+) -> u32
+    requires { ⌜ WordFound (mem (now bytes) (now keys) (now order) (now words)) (page .0) (address .0) s t ⌝ }
+    ensures { λ r. ⌜ CallDoes (mem (now (bytes .entry)) (now (keys .entry)) (now (order .entry)) (now (words .entry))) (Call.WriteWord (page .0) (address .0) (value (word .limbs))) (answered r nothing) (mem (now (bytes .exit)) (now (keys .entry)) (now (order .entry)) (now (words .exit))) ⌝ }
+{
+    if checks::short_of_words(bytes, keys, order, words, page, 1) {
+        return 11;
+    }
+    write_at(bytes, keys, order, words, page, address, s, t, word);
+    0
+}
+
+// What `write_known` answers where it does nothing. No refusal of a word write has this number.
+pub const LEFT: u32 = 1;
+
+// Writes a word whose chunks hints know. LEFT says that they do not, and that nothing was done.
+fn write_known(
+    bytes: &mut [u8],
+    keys: &[u64],
+    order: &[u32],
+    words: &mut [u64],
+    page: PageId,
+    address: Address,
+    word: Word,
+) -> u32
+    requires { ⌜ WellFormed (mem (now bytes) (now keys) (now order) (now words)) ⌝ }
+    ensures { λ r. ⌜ WrittenOrLeft (mem (now (bytes .entry)) (now (keys .entry)) (now (order .entry)) (now (words .entry))) (page .0) (address .0) (value (word .limbs)) r (mem (now (bytes .exit)) (now (keys .entry)) (now (order .entry)) (now (words .exit))) ⌝ }
 {
     let c = words[head::CHUNKS] as usize;
     let s = store::hinted(keys, order, words, page, address.0 / 256);
     if s >= c {
-        return false;
+        return LEFT;
     }
     let t = store::hinted_last(keys, order, words, page, address, s);
     if t >= c {
-        return false;
+        return LEFT;
     }
-    write_at(bytes, keys, order, words, page, address, s, t, value);
-    true
+    write_found(bytes, keys, order, words, page, address, s, t, word)
 }
 
 // A word is written to a page that holds its chunks.
@@ -125,14 +159,14 @@ fn write_held(
     words: &mut [u64],
     page: PageId,
     address: Address,
-    value: [u8; 32],
+    word: Word,
 )
     requires { ⌜ JournalAsks (mem (now bytes) (now keys) (now order) (now words)) (page .0) (address .0) 32 1 ⌝ }
-    ensures { λ _. ⌜ Shows (settingOf (mem (now (bytes .entry)) (now (keys .entry)) (now (order .entry)) (now (words .entry)))) (wordPut (layoutOf (now (words .entry))) (page .0) (address .0) value (viewOf (mem (now (bytes .entry)) (now (keys .entry)) (now (order .entry)) (now (words .entry))))) (mem (now (bytes .exit)) (now (keys .entry)) (now (order .entry)) (now (words .exit))) ⌝ }
+    ensures { λ _. ⌜ Shows (settingOf (mem (now (bytes .entry)) (now (keys .entry)) (now (order .entry)) (now (words .entry)))) (wordPut (layoutOf (now (words .entry))) (page .0) (address .0) (wordBytes (value (word .limbs))) (viewOf (mem (now (bytes .entry)) (now (keys .entry)) (now (order .entry)) (now (words .entry))))) (mem (now (bytes .exit)) (now (keys .entry)) (now (order .entry)) (now (words .exit))) ⌝ }
 {
     let s = store::place_of(keys, order, words, page, address.0 / 256);
     let t = store::place_of_last(keys, order, words, page, address, s);
-    write_at(bytes, keys, order, words, page, address, s, t, value);
+    write_at(bytes, keys, order, words, page, address, s, t, word);
 }
 
 // A word is written whether or not its page is allocated, its chunks are held and its page has a journal.
@@ -143,16 +177,38 @@ fn write_new(
     words: &mut [u64],
     page: PageId,
     address: Address,
-    value: [u8; 32],
+    word: Word,
 )
     requires { ⌜ (WellFormed (mem (now bytes) (now keys) (now order) (now words))) × (firstRefusal (wordWriteChecks (settingOf (mem (now bytes) (now keys) (now order) (now words))) (viewOf (mem (now bytes) (now keys) (now order) (now words))) (page .0) (address .0)) ≡ 0) ⌝ }
-    ensures { λ _. ⌜ Shows (settingOf (mem (now (bytes .entry)) (now (keys .entry)) (now (order .entry)) (now (words .entry)))) (wordWritten (layoutOf (now (words .entry))) (page .0) (address .0) value (viewOf (mem (now (bytes .entry)) (now (keys .entry)) (now (order .entry)) (now (words .entry))))) (mem (now (bytes .exit)) (now (keys .exit)) (now (order .exit)) (now (words .exit))) ⌝ }
+    ensures { λ _. ⌜ Shows (settingOf (mem (now (bytes .entry)) (now (keys .entry)) (now (order .entry)) (now (words .entry)))) (wordWritten (layoutOf (now (words .entry))) (page .0) (address .0) (wordBytes (value (word .limbs))) (viewOf (mem (now (bytes .entry)) (now (keys .entry)) (now (order .entry)) (now (words .entry))))) (mem (now (bytes .exit)) (now (keys .exit)) (now (order .exit)) (now (words .exit))) ⌝ }
 {
     let count = checks::touched(address, 32) as u32;
     prepare(bytes, keys, order, words, page, address.0 / 256, count);
-    write_held(bytes, keys, order, words, page, address, value);
+    write_held(bytes, keys, order, words, page, address, word);
 }
 
+// Writes a word by searches: whether it is refused, and where its chunks are.
+fn write_searched(
+    bytes: &mut [u8],
+    keys: &mut [u64],
+    order: &mut [u32],
+    words: &mut [u64],
+    page: PageId,
+    address: Address,
+    word: Word,
+) -> u32
+    requires { ⌜ WellFormed (mem (now bytes) (now keys) (now order) (now words)) ⌝ }
+    ensures { λ r. ⌜ CallDoes (mem (now (bytes .entry)) (now (keys .entry)) (now (order .entry)) (now (words .entry))) (Call.WriteWord (page .0) (address .0) (value (word .limbs))) (answered r nothing) (mem (now (bytes .exit)) (now (keys .exit)) (now (order .exit)) (now (words .exit))) ⌝ }
+{
+    let number = checks::word_refusal(bytes, keys, order, words, page, address);
+    if number != 0 {
+        return number;
+    }
+    write_new(bytes, keys, order, words, page, address, word);
+    0
+}
+
+// Writes a word to a well-formed memory: by hints, or else by searches.
 pub fn write_word(
     bytes: &mut [u8],
     keys: &mut [u64],
@@ -160,15 +216,16 @@ pub fn write_word(
     words: &mut [u64],
     page: PageId,
     address: Address,
-    value: [u8; 32],
-)
-    requires { ⌜ (WellFormed (mem (now bytes) (now keys) (now order) (now words))) × (firstRefusal (wordWriteChecks (settingOf (mem (now bytes) (now keys) (now order) (now words))) (viewOf (mem (now bytes) (now keys) (now order) (now words))) (page .0) (address .0)) ≡ 0) ⌝ }
-    ensures { λ _. ⌜ Shows (settingOf (mem (now (bytes .entry)) (now (keys .entry)) (now (order .entry)) (now (words .entry)))) (wordWritten (layoutOf (now (words .entry))) (page .0) (address .0) value (viewOf (mem (now (bytes .entry)) (now (keys .entry)) (now (order .entry)) (now (words .entry))))) (mem (now (bytes .exit)) (now (keys .exit)) (now (order .exit)) (now (words .exit))) ⌝ }
+    word: Word,
+) -> u32
+    requires { ⌜ WellFormed (mem (now bytes) (now keys) (now order) (now words)) ⌝ }
+    ensures { λ r. ⌜ CallDoes (mem (now (bytes .entry)) (now (keys .entry)) (now (order .entry)) (now (words .entry))) (Call.WriteWord (page .0) (address .0) (value (word .limbs))) (answered r nothing) (mem (now (bytes .exit)) (now (keys .exit)) (now (order .exit)) (now (words .exit))) ⌝ }
 {
-    if write_found(bytes, keys, order, words, page, address, value) {
-        return;
+    let known = write_known(bytes, keys, order, words, page, address, word);
+    if known != LEFT {
+        return known;
     }
-    write_new(bytes, keys, order, words, page, address, value);
+    write_searched(bytes, keys, order, words, page, address, word)
 }
 
 pub fn write_range(

@@ -1,4 +1,5 @@
-// Writes and allocations: each call tests, and then refuses or does. vm2: the writing half of `Heaps`.
+// Writes and allocations. A call tests first that the memory is well formed (refusal 3); `on_formed` has what is left of it.
+// vm2: the writing half of `Heaps`.
 ghost use mathlib.Core.List.{[]};
 ghost use Rattle.outcome.specs.Outcome.{answerOutcome};
 ghost use Rattle.word.specs.Value.{value};
@@ -8,6 +9,8 @@ use outcome::Answer;
 use page_ids::Address;
 use page_ids::PageId;
 use word::Word;
+
+pub mod on_formed;
 
 // Writes a word at any address; a bootloader page journals the old word first.
 pub fn write_u256(
@@ -21,20 +24,10 @@ pub fn write_u256(
 ) -> Answer
     ensures { λ r. ⌜ CallDoes (mem (now (bytes .entry)) (now (keys .entry)) (now (order .entry)) (now (words .entry))) (Call.WriteWord (page .0) (address .0) (value (word .limbs))) (answerOutcome nothing r) (mem (now (bytes .exit)) (now (keys .exit)) (now (order .exit)) (now (words .exit))) ⌝ }
 {
-    let refusal = checks::word_refusal(bytes, keys, order, words, page, address);
-    if refusal != 0 {
-        return Answer::Refused(refusal);
+    if !formed::well_formed(bytes, keys, order, words) {
+        return Answer::Refused(3);
     }
-    write_steps::write_word(
-        bytes,
-        keys,
-        order,
-        words,
-        page,
-        address,
-        word::to_big_endian(word),
-    );
-    Answer::Done
+    on_formed::write_u256(bytes, keys, order, words, page, address, word)
 }
 
 // Writes bytes, as many as there are; a bootloader page journals each aligned word that they touch.
@@ -49,12 +42,10 @@ pub fn write_bytes(
 ) -> Answer
     ensures { λ r. ⌜ CallDoes (mem (now (bytes .entry)) (now (keys .entry)) (now (order .entry)) (now (words .entry))) (Call.WriteBytes (page .0) (start .0) (now (src .entry))) (answerOutcome nothing r) (mem (now (bytes .exit)) (now (keys .exit)) (now (order .exit)) (now (words .exit))) ⌝ }
 {
-    let refusal = checks::bytes_refusal(bytes, keys, order, words, page, start, src.len());
-    if refusal != 0 {
-        return Answer::Refused(refusal);
+    if !formed::well_formed(bytes, keys, order, words) {
+        return Answer::Refused(3);
     }
-    write_steps::write_range(bytes, keys, order, words, page, start, src);
-    Answer::Done
+    on_formed::write_bytes(bytes, keys, order, words, page, start, src)
 }
 
 // Allocates a page with these contents from address 0.
@@ -68,12 +59,10 @@ pub fn allocate_with_content_at(
 ) -> Answer
     ensures { λ r. ⌜ CallDoes (mem (now (bytes .entry)) (now (keys .entry)) (now (order .entry)) (now (words .entry))) (Call.Allocate (page .0) (now (contents .entry))) (answerOutcome nothing r) (mem (now (bytes .exit)) (now (keys .exit)) (now (order .exit)) (now (words .exit))) ⌝ }
 {
-    let refusal = checks::allocate_refusal(bytes, keys, order, words, page, contents.len());
-    if refusal != 0 {
-        return Answer::Refused(refusal);
+    if !formed::well_formed(bytes, keys, order, words) {
+        return Answer::Refused(3);
     }
-    write_steps::fill(bytes, keys, order, words, page, contents);
-    Answer::Done
+    on_formed::allocate_with_content_at(bytes, keys, order, words, page, contents)
 }
 
 // Allocates an empty page.
@@ -86,10 +75,8 @@ pub fn allocate_at(
 ) -> Answer
     ensures { λ r. ⌜ CallDoes (mem (now (bytes .entry)) (now (keys .entry)) (now (order .entry)) (now (words .entry))) (Call.Allocate (page .0) []) (answerOutcome nothing r) (mem (now (bytes .exit)) (now (keys .exit)) (now (order .exit)) (now (words .exit))) ⌝ }
 {
-    let refusal = checks::allocate_refusal(bytes, keys, order, words, page, 0);
-    if refusal != 0 {
-        return Answer::Refused(refusal);
+    if !formed::well_formed(bytes, keys, order, words) {
+        return Answer::Refused(3);
     }
-    pages::list_page(bytes, keys, order, words, page);
-    Answer::Done
+    on_formed::allocate_at(bytes, keys, order, words, page)
 }

@@ -1,12 +1,64 @@
 //! Where the benchmarks read and write: the same places on both sides, the same in every run.
 
+use std::fmt;
+
+/// What pages hold: the heap pages of the first groups, each as many chunks from its start.
+#[derive(Clone, Copy)]
+pub struct Held {
+    pub pages: u32,
+    /// Of each page.
+    pub chunks: u32,
+    /// Chunks that our memory has room for.
+    pub room: u32,
+}
+
+impl Held {
+    /// One page that takes all the room.
+    pub const fn by_one_page(chunks: u32) -> Self {
+        Self { pages: 1, chunks, room: chunks }
+    }
+}
+
+impl fmt::Display for Held {
+    fn fmt(&self, out: &mut fmt::Formatter<'_>) -> fmt::Result {
+        let held = self.pages * self.chunks;
+        if held < self.room {
+            write!(out, "{} of ", thousands(held))?;
+        }
+        write!(out, "{} chunks", thousands(self.room))?;
+        match self.pages {
+            1 => Ok(()),
+            pages => write!(out, ", {pages} pages"),
+        }
+    }
+}
+
+/// A number as it is written, with commas.
+pub fn thousands(n: u32) -> String {
+    match n {
+        0..1000 => n.to_string(),
+        _ => format!("{},{:03}", thousands(n / 1000), n % 1000),
+    }
+}
+
 /// An order in which words are touched.
 #[derive(Clone, Copy, PartialEq)]
 pub enum Walk {
+    /// All that is held, page after page.
     Sequential,
     Random,
     /// At random, each word over the edge of two chunks.
     TwoChunks,
+}
+
+impl fmt::Display for Walk {
+    fn fmt(&self, out: &mut fmt::Formatter<'_>) -> fmt::Result {
+        out.write_str(match self {
+            Self::Sequential => "sequential",
+            Self::Random => "random",
+            Self::TwoChunks => "over two chunks",
+        })
+    }
 }
 
 /// The heap page of a group of document 01's example layout.
@@ -14,8 +66,20 @@ pub const fn heap(group: u32) -> u32 {
     66 + 8 * group
 }
 
-/// Pages and addresses of `n` words in pages that hold chunks 0, .., chunks - 1.
-pub fn words(n: u32, pages: u32, chunks: u32, walk: Walk) -> Vec<(u32, u32)> {
+/// Pages and addresses of at least 20,000 words.
+pub fn walk(held: Held, walk: Walk) -> Vec<(u32, u32)> {
+    match walk {
+        Walk::Sequential => {
+            let words = (0..held.pages)
+                .flat_map(|group| (0..8 * held.chunks).map(move |word| (heap(group), 32 * word)));
+            words.clone().cycle().take(words.count().max(20_000)).collect()
+        }
+        _ => random(20_000, held, walk),
+    }
+}
+
+/// Pages and addresses of `n` words, at random or over the edge of two chunks.
+pub fn random(n: u32, held: Held, walk: Walk) -> Vec<(u32, u32)> {
     let mut state = 0x9e37_79b9_7f4a_7c15u64;
     let mut next = |below: u32| {
         state ^= state << 13;
@@ -23,12 +87,11 @@ pub fn words(n: u32, pages: u32, chunks: u32, walk: Walk) -> Vec<(u32, u32)> {
         state ^= state << 17;
         (state >> 32) as u32 % below
     };
-    let mut place = |i: u32| {
-        let page = heap(next(pages));
+    let mut place = |_| {
+        let page = heap(next(held.pages));
         let address = match walk {
-            Walk::Sequential => i % (8 * chunks) * 32,
-            Walk::Random => next(8 * chunks) * 32,
-            Walk::TwoChunks => next(chunks - 1) * 256 + 225 + next(31),
+            Walk::TwoChunks => next(held.chunks - 1) * 256 + 225 + next(31),
+            _ => next(8 * held.chunks) * 32,
         };
         (page, address)
     };

@@ -1,48 +1,94 @@
-//! Rows of a table: two sides timed in turns, and the median of their ratios.
+//! Tables: which of their rows are chosen, what a run of each in a process of its own gave, and how that is printed.
 
-use std::time::Instant;
+use std::{
+    env,
+    process::{self, Command, Stdio},
+};
 
-const ROUNDS: usize = 15;
-const TURNS: usize = 3;
+use crate::times::Times;
 
-/// Nanoseconds that `run` takes.
-pub fn timed(run: impl FnOnce()) -> u64 {
-    let start = Instant::now();
-    run();
-    start.elapsed().as_nanos() as u64
+/// A row: what it times, and the ratio that it is to keep to.
+pub struct Row {
+    pub name: String,
+    pub aim: Option<f64>,
+    pub time: Box<dyn Fn() -> Times>,
 }
 
-fn median(mut of: Vec<f64>) -> f64 {
-    of.sort_by(f64::total_cmp);
-    of[of.len() / 2]
+/// Rows with the same two sides.
+pub struct Table {
+    pub name: &'static str,
+    pub sides: [&'static str; 2],
+    pub rows: Vec<Row>,
 }
 
-pub fn head(first: &str, second: &str) {
-    println!("\n| | {first} | {second} | ratio |\n|---|---|---|---|");
-}
-
-/// Prints a row. Each side returns the nanoseconds of `calls` calls. A round takes the best of a few turns of each side, in
-/// turns, so that both meet the same machine; the row has the medians of the rounds.
-pub fn row(
-    name: &str,
-    calls: usize,
-    mut first: impl FnMut() -> u64,
-    mut second: impl FnMut() -> u64,
-) {
-    let mut rounds = [vec![], vec![], vec![]];
-    for _ in 0..ROUNDS {
-        let mut best = [u64::MAX; 2];
-        for _ in 0..TURNS {
-            best[0] = best[0].min(first());
-            best[1] = best[1].min(second());
-        }
-        let [a, b] = best.map(|ns| ns as f64 / calls as f64);
-        rounds[0].push(a);
-        rounds[1].push(b);
-        rounds[2].push(b / a);
+impl Table {
+    pub fn new(name: &'static str, sides: [&'static str; 2]) -> Self {
+        Self { name, sides, rows: Vec::new() }
     }
-    let [a, b, ratio] = rounds.map(median);
-    println!("| {name} | {} | {} | {ratio:.2} |", nanoseconds(a), nanoseconds(b));
+
+    pub fn add(&mut self, name: String, aim: Option<f64>, time: impl Fn() -> Times + 'static) {
+        self.rows.push(Row { name, aim, time: Box::new(time) });
+    }
+
+    /// Whether a name means one of its rows: all do that have it in their names.
+    pub fn has(&self, part: &str) -> bool {
+        self.rows.iter().any(|row| row.name.contains(part))
+    }
+
+    /// Keeps the rows that have one of these names in theirs.
+    pub fn keep(&mut self, parts: &[&String]) {
+        self.rows.retain(|row| parts.iter().any(|part| row.name.contains(*part)));
+    }
+
+    /// Runs all rows as often as asked, one after another, so that the runs of a row lie apart. Prints the table, and gives
+    /// the ratio of each row.
+    pub fn run(&self, runs: usize) -> Vec<f64> {
+        let mut all = vec![Vec::new(); self.rows.len()];
+        for run in 1..=runs {
+            eprintln!("{}: run {run} of {runs}", self.name);
+            for (row, times) in self.rows.iter().zip(&mut all) {
+                times.push(alone(&row.name));
+            }
+        }
+        let [first, second] = self.sides;
+        println!("\n| {} | {first} | {second} | ratio | range | aim | |", self.name);
+        println!("|---|---|---|---|---|---|---|");
+        self.rows.iter().zip(&all).map(|(row, times)| row.print(times)).collect()
+    }
+}
+
+impl Row {
+    /// Prints what the runs gave, and gives the median of the ratios.
+    fn print(&self, runs: &[Times]) -> f64 {
+        let Times { first, second, ratio } = Times::medians(runs);
+        let ratios = runs.iter().map(|times| times.ratio);
+        let (low, high) = (ratios.clone().fold(f64::MAX, f64::min), ratios.fold(0.0, f64::max));
+        let (aim, met) = match self.aim {
+            Some(aim) => (format!("{aim:.2}"), if ratio <= aim { "met" } else { "missed" }),
+            None => Default::default(),
+        };
+        let (name, first, second) = (&self.name, nanoseconds(first), nanoseconds(second));
+        println!(
+            "| {name} | {first} | {second} | {ratio:.2} | {low:.2} to {high:.2} | {aim} | {met} |"
+        );
+        ratio
+    }
+}
+
+/// What a process of its own measures for a row.
+fn alone(name: &str) -> Times {
+    let program = env::current_exe().expect("the program has a path");
+    let output = Command::new(program)
+        .args(["--row", name])
+        .stderr(Stdio::inherit())
+        .output()
+        .expect("the program runs");
+    if !output.status.success() {
+        eprintln!("bench: the row '{name}' failed");
+        process::exit(1);
+    }
+    let line = String::from_utf8(output.stdout).expect("a row prints text");
+    line.parse().expect("a row prints three numbers")
 }
 
 fn nanoseconds(ns: f64) -> String {

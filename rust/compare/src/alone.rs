@@ -3,9 +3,10 @@
 use std::ops::Range;
 
 use oracle::{Area, Call, Frame, HeapInstruction, Layout};
-use zincpapaya::{Capacity, Error, Heaps, PageId, Usage, Word};
+use zincpapaya::{Capacity, Error, PageId, Usage, Word};
 
 use crate::{
+    both::{on_both, Both},
     list::Mismatch,
     model::{self, Model},
     ours::{self, Reply, UNWRITTEN},
@@ -30,43 +31,39 @@ pub fn counts(model: &Model) -> Usage {
 
 /// A range read whose output has another length is refused with 8, and puts nothing out.
 pub fn outputs_of_wrong_lengths(
-    heaps: &Heaps,
+    both: &mut Both,
     page: PageId,
     range: Range<u32>,
 ) -> Result<(), Mismatch> {
     let length = range.len();
     for wrong in [Some(length + 1), length.checked_sub(1)].into_iter().flatten() {
         let mut output = vec![UNWRITTEN; wrong];
-        let refused = heaps.read_range_into(page, range.clone(), &mut output);
+        let refused = on_both!(both => read_range_into(page, range.clone(), &mut output));
         let untouched = output.iter().all(|byte| *byte == UNWRITTEN);
         let what = format!("a range read into {wrong} bytes");
-        expect(&what, (Err(Error::Range), true), (refused, untouched))?;
+        expect(&what, (Err(Error::Range.into()), true), (refused, untouched))?;
     }
     Ok(())
 }
 
 /// A call that would take vm2 more memory than there is, or that it has not. The library answers on
 /// a copy, since vm2's memory stays behind. Tells what was looked at, if anything.
-pub fn not_run(
-    heaps: &Heaps,
-    model: &Model,
-    call: &Call,
-) -> Result<Option<&'static str>, Mismatch> {
+pub fn not_run(both: &Both, model: &Model, call: &Call) -> Result<Option<&'static str>, Mismatch> {
     match *call {
-        Call::Chunk { page, number } => {
-            let due = Ok([0; 256]);
-            expect("a chunk past the last", due, heaps.chunk(PageId(page), number))?;
+        Call::Chunk { .. } => {
+            let due = Reply::Answer(oracle::Answer::Bytes(vec![0; 256]));
+            expect("a chunk past the last", due, answer_on_copy(both, call).1)?;
             Ok(Some("chunks past the last"))
         }
         Call::Decode { page } => {
-            let given = answer_on_copy(heaps, call).1;
+            let given = answer_on_copy(both, call).1;
             let due = oracle::Answer::Decoded(model::place(&model.layout, page));
             expect("a decode of a far page", Reply::Answer(due), given)?;
             Ok(Some("far pages decoded"))
         }
         Call::Deallocate { .. } => {
-            let (copy, given) = answer_on_copy(heaps, call);
-            let unchanged = copy.buffers() == heaps.buffers();
+            let (copy, given) = answer_on_copy(both, call);
+            let unchanged = copy.has_the_numbers_of(both);
             expect("a free of a far page", (Reply::Refused(7), true), (given, unchanged))?;
             Ok(Some("far pages not freed"))
         }
@@ -74,37 +71,37 @@ pub fn not_run(
             frame,
             instruction: HeapInstruction::Store { area: Area::Aux, hook: Some(_), .. },
         } => {
-            aux_hook(heaps, call, &frame)?;
+            aux_hook(both, call, &frame)?;
             Ok(Some("aux stores with a hook"))
         }
-        _ => far_write(heaps, model, call),
+        _ => far_write(both, model, call),
     }
 }
 
-fn answer_on_copy(heaps: &Heaps, call: &Call) -> (Heaps, Reply) {
-    let mut copies = [heaps.clone(), heaps.clone()];
+fn answer_on_copy(both: &Both, call: &Call) -> (Both, Reply) {
+    let mut copies = [both.clone(), both.clone()];
     let reply = ours::answer(&mut copies, 0, call, false);
     let [copy, _] = copies;
     (copy, reply)
 }
 
 /// A write to a group that vm2 is not let allocate.
-fn far_write(heaps: &Heaps, model: &Model, call: &Call) -> Result<Option<&'static str>, Mismatch> {
+fn far_write(both: &Both, model: &Model, call: &Call) -> Result<Option<&'static str>, Mismatch> {
     let Some(writes) = model.writes(call) else { return Ok(None) };
-    let (copy, given) = answer_on_copy(heaps, call);
+    let (mut copy, given) = answer_on_copy(both, call);
     if model::hook_value_too_great(call) {
-        let unchanged = copy.buffers() == heaps.buffers();
+        let unchanged = copy.has_the_numbers_of(both);
         expect("a hook on a far page", (Reply::Refused(15), true), (given, unchanged))?;
         return Ok(Some("far pages not written"));
     }
     expect("a write to a far page", true, matches!(given, Reply::Answer(_)))?;
     let mut after = model.clone();
     after.carry_out(call);
-    let due = (counts(&after), Ok(after.dynamic_len));
-    expect("counts after a write to a far page", due, (copy.usage(), copy.dynamic_len()))?;
+    let due = Ok((counts(&after), after.dynamic_len));
+    expect("counts after a write to a far page", due, copy.counts())?;
     let page = model.layout.id(writes.place).expect("a page that was written has an id");
     if let [Ok(start), Ok(end)] = [writes.start, writes.start + writes.length].map(u32::try_from) {
-        let given = copy.read_range_big_endian(PageId(page), start..end);
+        let given = on_both!(copy => read_range_big_endian(PageId(page), start..end));
         expect("the bytes of a far page", Ok(bytes_of(call)), given)?;
     }
     Ok(Some("far pages written"))
@@ -126,7 +123,7 @@ fn bytes_of(call: &Call) -> Vec<u8> {
 }
 
 /// A hook on the aux heap does what it does on the heap, the two areas exchanged.
-fn aux_hook(heaps: &Heaps, call: &Call, frame: &Frame) -> Result<(), Mismatch> {
+fn aux_hook(both: &Both, call: &Call, frame: &Frame) -> Result<(), Mismatch> {
     let exchanged = |frame: &Frame| Frame {
         gas: frame.gas,
         heap: frame.aux,
@@ -140,31 +137,31 @@ fn aux_hook(heaps: &Heaps, call: &Call, frame: &Frame) -> Result<(), Mismatch> {
     {
         (*other, *area) = (exchanged(frame), Area::Heap);
     }
-    let (copy, mut given) = answer_on_copy(heaps, call);
+    let (copy, mut given) = answer_on_copy(both, call);
     if let Reply::Answer(oracle::Answer::Ran(ran)) = &mut given {
         ran.frame = exchanged(&ran.frame);
     }
     if let Reply::Answer(oracle::Answer::EraPanic(after)) = &mut given {
         *after = exchanged(after);
     }
-    let (other, due) = answer_on_copy(heaps, &twin);
+    let (other, due) = answer_on_copy(both, &twin);
     expect("an aux store with a hook", due, given)?;
-    expect("what it wrote", other.buffers(), copy.buffers())
+    expect("what it wrote", true, copy.has_the_numbers_of(&other))
 }
 
 /// Refusals of openings and comparisons: vm2 has none of them.
-pub fn extras(rng: &mut Rng, layout: &Layout, heaps: &Heaps) -> Result<(), Mismatch> {
+pub fn extras(rng: &mut Rng, layout: &Layout, both: &Both) -> Result<(), Mismatch> {
     bad_openings(rng, layout)?;
-    let mut copy = heaps.clone();
-    let too_long = vec![1; 256 * heaps.capacity().chunks as usize + 1];
-    let refused = copy.reopen(heaps.layout(), &too_long);
-    let due = (Err(Error::NoChunk), heaps.buffers());
-    expect("an opening with too much calldata", due, (refused, copy.buffers()))?;
+    let mut copy = both.clone();
+    let too_long = vec![1; 256 * both.owned.capacity().chunks as usize + 1];
+    let refused = copy.reopen(both.owned.layout(), &too_long);
+    let given = (refused, copy.has_the_numbers_of(both));
+    expect("an opening with too much calldata", (Err(Error::NoChunk.into()), true), given)?;
 
     let mut other = ours::layout(layout);
     other.base ^= 1 + rng.below32(7);
-    let refused = copy.reopen(other, &[]).and_then(|()| heaps.equal(&copy));
-    expect("a comparison of two layouts", Err(Error::Layout), refused)
+    let refused = copy.reopen(other, &[]).and_then(|()| both.equal(&copy));
+    expect("a comparison of two layouts", Err(Error::Layout.into()), refused)
 }
 
 /// Layouts and counts around their bounds.
@@ -193,5 +190,5 @@ fn bad_openings(rng: &mut Rng, layout: &Layout) -> Result<(), Mismatch> {
     } else {
         None
     };
-    expect("an opening", due, Heaps::open(tried, capacity, &[]).err())
+    expect("an opening", due.map(Reply::from), Both::open(tried, capacity, &[]).err())
 }

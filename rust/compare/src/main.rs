@@ -1,7 +1,8 @@
-//! Puts lists of calls to vm2's own files and to the linked library, and compares all that both
-//! show. README.md tells how.
+//! Puts lists of calls to vm2's own files and to the linked library, to a memory that is owned and to
+//! one that is lent, and compares all that they show. README.md tells how.
 
 mod alone;
+mod both;
 mod charges;
 mod edges;
 mod framed;
@@ -24,9 +25,10 @@ mod written;
 use std::{process::ExitCode, thread, time::Instant};
 
 use oracle::{Bank, LAYOUTS};
-use zincpapaya::{Capacity, Heaps};
+use zincpapaya::Capacity;
 
 use crate::{
+    both::Both,
     generate::{Generator, Sort},
     list::{Finding, Handed, List, Mismatch, Step},
     model::Model,
@@ -80,11 +82,11 @@ impl Shard {
             let list = List { layout: name, capacities: [store::CAPACITY; 2], steps: Vec::new() };
             let mut steps = edges::edges(&bank.layout()).into_iter();
             let (looks, next) = (Looks::AtTheEnd, |_: &_, _| steps.next());
-            let heaps =
+            let memories =
                 compare_list(bank.as_mut(), &mut self.tally, list.clone(), [looks; 2], next)?;
-            Quotes::new(bank.as_mut(), &mut self.tally, &heaps)
+            Quotes::new(bank.as_mut(), &mut self.tally, &memories)
                 .edges(&mut Rng::new(self.options.seed, 0))
-                .map_err(|mismatch| after_list(name, &heaps, mismatch))?;
+                .map_err(|mismatch| after_list(name, &memories, mismatch))?;
             edge_runs(bank.as_mut(), &mut self.tally, list)?;
         }
         Ok(())
@@ -116,8 +118,8 @@ impl Shard {
         let mut generator = if hands_on { generator.handing_on() } else { generator };
         let next = |models: &_, left| generator.next(models, left);
         let closer = if sort.is_dear() { looks } else { Looks::Always };
-        let heaps = compare_list(bank, &mut self.tally, list, [looks, closer], next)?;
-        self.extras(layout, sort, extra_rng, &heaps)
+        let memories = compare_list(bank, &mut self.tally, list, [looks, closer], next)?;
+        self.extras(layout, sort, extra_rng, &memories)
     }
 
     /// What is looked at on the memories that a list has left: quotes, and then the library alone.
@@ -126,19 +128,19 @@ impl Shard {
         layout: &'static str,
         sort: Sort,
         rng: &mut Rng,
-        heaps: &[Heaps],
+        memories: &[Both],
     ) -> Result<(), Box<Finding>> {
-        let found = |mismatch| after_list(layout, heaps, mismatch);
+        let found = |mismatch| after_list(layout, memories, mismatch);
         let bank = self.banks.iter_mut().find(|(name, _)| *name == layout);
         let bank = bank.expect("a listed layout").1.as_mut();
         let numbers = bank.layout();
-        let mut quotes = Quotes::new(bank, &mut self.tally, heaps);
+        let mut quotes = Quotes::new(bank, &mut self.tally, memories);
         quotes.round(rng).map_err(found)?;
         if !sort.is_dear() && rng.one_in(8) {
-            quotes.untouched(&heaps[0]).map_err(found)?;
+            quotes.untouched(&memories[0]).map_err(found)?;
         }
         self.tally.count_alone("rounds of openings and layouts");
-        alone::extras(rng, &numbers, &heaps[0]).map_err(found)
+        alone::extras(rng, &numbers, &memories[0]).map_err(found)
     }
 
     /// This shard's part of all short lists over an alphabet.
@@ -163,7 +165,7 @@ fn compare_list(
     list: List,
     [looks, closer]: [Looks; 2],
     next: impl FnMut(&[Model; 2], Option<Handed>) -> Option<Step>,
-) -> Result<Vec<Heaps>, Box<Finding>> {
+) -> Result<Vec<Both>, Box<Finding>> {
     let compared = pair::run(bank, tally, list, looks, next);
     compared.map_err(|finding| Box::new(shrink::shrink(bank, closer, *finding)))
 }
@@ -176,8 +178,8 @@ fn edge_runs(bank: &mut dyn Bank, tally: &mut Tally, list: List) -> Result<(), B
 
 /// What differs on the memories that a list has left. The list's calls are not told: quotes and
 /// openings do not depend on them. Where a load has changed a memory, the seed repeats it.
-fn after_list(layout: &'static str, heaps: &[Heaps], mismatch: Mismatch) -> Box<Finding> {
-    let capacities = [heaps[0].capacity(), heaps[1].capacity()];
+fn after_list(layout: &'static str, memories: &[Both], mismatch: Mismatch) -> Box<Finding> {
+    let capacities = [memories[0].owned.capacity(), memories[1].owned.capacity()];
     let list = List { layout, capacities, steps: Vec::new() };
     Box::new(Finding { list, mismatch })
 }
@@ -242,6 +244,7 @@ fn compare(options: &Options) -> ExitCode {
     }
     println!("seed {}, {} seconds", options.seed, began.elapsed().as_secs());
     print!("{tally}");
+    println!("each call was put to vm2, to a memory that is owned and to one that is lent");
     println!("{} calls, {differ} differ", tally.calls);
     ExitCode::from(u8::from(differ > 0))
 }

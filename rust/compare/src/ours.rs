@@ -5,10 +5,14 @@ use std::collections::BTreeSet;
 use oracle::{Answer, Area, Call, HeapInstruction, Kind, Operand, PageIds, Place, Pointer, Ran};
 use zincpapaya::{
     aux_heap_page_from_base, base_page_from_heap, code_page_from_base, heap_page_from_base,
-    Buffers, DecodedPage, Error, FatPointer, Frame, Heaps, Layout, Outcome, PageId, Snapshot, Word,
+    Buffers, Capacity, DecodedPage, Error, FatPointer, Frame, Layout, Outcome, PageId, Snapshot,
+    Word,
 };
 
-use crate::model::operand_word;
+use crate::{
+    both::{on_both, same, Both},
+    model::operand_word,
+};
 
 /// What the library answered.
 #[derive(Debug, PartialEq)]
@@ -55,19 +59,21 @@ fn theirs(word: Word) -> Answer {
     Answer::Word(oracle::Word(word.0))
 }
 
-/// Answers a call on memory `at`. A frame enters with its mark set where `marked` says so.
-pub fn answer(heaps: &mut [Heaps; 2], at: usize, call: &Call, marked: bool) -> Reply {
+/// Answers a call on memory `at`, where the owned one and the lent one answer the same. A frame enters
+/// with its mark set where `marked` says so.
+pub fn answer(memories: &mut [Both; 2], at: usize, call: &Call, marked: bool) -> Reply {
     let answered = match call {
-        Call::Compare { other } => heaps[at]
-            .equal(&heaps[*other])
-            .map_or_else(|error| Err(Reply::from(error)), |equal| Ok(Answer::Equal(equal))),
+        Call::Compare { other } => memories[at].equal(&memories[*other]).map(Answer::Equal),
         Call::UseGas { frame, .. }
         | Call::GrowHeap { frame, .. }
         | Call::Instruction { frame, .. } => {
-            framed(&mut heaps[at], &our_frame(frame, marked), call)
+            framed(&mut memories[at], &our_frame(frame, marked), call)
         }
-        _ if call.changes() => change(&mut heaps[at], call).map_err(Reply::from),
-        _ => read(&heaps[at], call).or_else(|| apart(&heaps[at].layout(), call)).expect("a call"),
+        _ if call.changes() => change(&mut memories[at], call),
+        _ => {
+            let layout = memories[at].owned.layout();
+            read(&mut memories[at], call).or_else(|| apart(&layout, call)).expect("a call")
+        }
     };
     answered.map_or_else(|refused| refused, Reply::Answer)
 }
@@ -76,28 +82,30 @@ pub fn answer(heaps: &mut [Heaps; 2], at: usize, call: &Call, marked: bool) -> R
 pub const UNWRITTEN: u8 = 0xa5;
 
 /// Calls that only look at a memory.
-fn read(heaps: &Heaps, call: &Call) -> Option<Replied> {
-    let answered = match *call {
-        Call::ReadU256 { page, address } => heaps.read_u256(PageId(page), address).map(theirs),
+fn read(both: &mut Both, call: &Call) -> Option<Replied> {
+    Some(match *call {
+        Call::ReadU256 { page, address } => {
+            on_both!(both => read_u256(PageId(page), address)).map(theirs)
+        }
         Call::ReadU256Partially { page, start, end } => {
-            heaps.read_u256_partially(PageId(page), start..end).map(theirs)
+            on_both!(both => read_u256_partially(PageId(page), start..end)).map(theirs)
         }
         Call::ReadRangeBigEndian { page, start, end } => {
-            let mut output = vec![UNWRITTEN; (start..end).len()];
-            let read = heaps.read_range_into(PageId(page), start..end, &mut output);
-            read.map(|()| Answer::Bytes(output))
+            let (page, range) = (PageId(page), start..end);
+            let [mut owned, mut lent] = [0, 1].map(|_| vec![UNWRITTEN; range.len()]);
+            let read = both.owned.read_range_into(page, range.clone(), &mut owned);
+            let on_lent = both.lend().read_range_into(page, range, &mut lent);
+            same(read.map(|()| owned), on_lent.map(|()| lent)).map(Answer::Bytes)
         }
         Call::ReadByte { page, address } => {
-            heaps.read_byte(PageId(page), address).map(Answer::Byte)
+            on_both!(both => read_byte(PageId(page), address)).map(Answer::Byte)
         }
-        Call::Chunk { page, number } => return Some(chunk(heaps, page, number)),
-        Call::DynamicLen => heaps.dynamic_len().map(Answer::Number),
-        Call::Snapshot => {
-            heaps.snapshot().map(|Snapshot { heap, aux }| Answer::Snapshot { heap, aux })
-        }
+        Call::Chunk { page, number } => chunk(both, page, number),
+        Call::DynamicLen => on_both!(both => dynamic_len()).map(Answer::Number),
+        Call::Snapshot => on_both!(both => snapshot())
+            .map(|Snapshot { heap, aux }| Answer::Snapshot { heap, aux }),
         _ => return None,
-    };
-    Some(answered.map_err(Reply::from))
+    })
 }
 
 /// The chunk number of the last byte that a word can reach.
@@ -106,8 +114,8 @@ pub const LAST_CHUNK: u32 = 1 << 24;
 const REACHED: usize = 31;
 
 /// A chunk; of the last one the bytes that vm2 can show, the others being zero.
-fn chunk(heaps: &Heaps, page: u32, number: u32) -> Replied {
-    let bytes = heaps.chunk(PageId(page), number)?;
+fn chunk(both: &mut Both, page: u32, number: u32) -> Replied {
+    let bytes = on_both!(both => chunk(PageId(page), number))?;
     if number != LAST_CHUNK {
         return Ok(Answer::Bytes(bytes.to_vec()));
     }
@@ -119,30 +127,33 @@ fn chunk(heaps: &Heaps, page: u32, number: u32) -> Replied {
 }
 
 /// Calls that may change a memory, but for the instructions.
-fn change(heaps: &mut Heaps, call: &Call) -> Result<Answer, Error> {
+fn change(both: &mut Both, call: &Call) -> Replied {
     match call {
-        Call::Open { calldata } => heaps.reopen(heaps.layout(), calldata)?,
+        Call::Open { calldata } => both.reopen(both.owned.layout(), calldata)?,
         Call::AllocateAt { page } => {
+            on_both!(both => allocate_at(PageId(*page)))?;
             // vm2 gives the page back.
-            return heaps.allocate_at(PageId(*page)).map(|()| Answer::Number((*page).into()));
+            return Ok(Answer::Number((*page).into()));
         }
         Call::AllocateWithContentAt { page, content } => {
-            let done = heaps.allocate_with_content_at(PageId(*page), content);
-            return done.map(|()| Answer::Number((*page).into()));
+            on_both!(both => allocate_with_content_at(PageId(*page), content))?;
+            return Ok(Answer::Number((*page).into()));
         }
-        Call::Deallocate { page } => heaps.deallocate(PageId(*page))?,
+        Call::Deallocate { page } => on_both!(both => deallocate(PageId(*page)))?,
         Call::WriteU256 { page, address, value } => {
-            heaps.write_u256(PageId(*page), *address, Word(value.0))?;
+            on_both!(both => write_u256(PageId(*page), *address, Word(value.0)))?;
         }
         Call::WriteBytes { page, start, bytes } => {
-            heaps.write_bytes(PageId(*page), *start, bytes)?;
+            on_both!(both => write_bytes(PageId(*page), *start, bytes))?;
         }
         Call::CompactToWindow { page, start, length } => {
-            heaps.compact_to_window(PageId(*page), *start, *length)?;
+            on_both!(both => compact_to_window(PageId(*page), *start, *length))?;
         }
-        Call::TruncateDynamicTo { len } => heaps.truncate_dynamic_to(*len)?,
-        Call::Rollback { heap, aux } => heaps.rollback(Snapshot { heap: *heap, aux: *aux })?,
-        Call::DeleteHistory => heaps.delete_history()?,
+        Call::TruncateDynamicTo { len } => on_both!(both => truncate_dynamic_to(*len))?,
+        Call::Rollback { heap, aux } => {
+            on_both!(both => rollback(Snapshot { heap: *heap, aux: *aux }))?;
+        }
+        Call::DeleteHistory => on_both!(both => delete_history())?,
         _ => unreachable!("this call changes nothing"),
     }
     Ok(Answer::Done)
@@ -223,7 +234,7 @@ fn our_operand(operand: Operand) -> zincpapaya::Operand {
 
 /// Calls with a frame. What vm2's frame does not have is looked at here: the mark is set by a panic
 /// and by nothing else, and a refusal changes no field.
-fn framed(heaps: &mut Heaps, entered: &Frame, call: &Call) -> Replied {
+fn framed(both: &mut Both, entered: &Frame, call: &Call) -> Replied {
     let mut frame = *entered;
     let answer = match call {
         Call::UseGas { amount, .. } => {
@@ -234,10 +245,13 @@ fn framed(heaps: &mut Heaps, entered: &Frame, call: &Call) -> Replied {
             let paid = frame.grow_heap(our_area(*area), *new_bound);
             Ok(Answer::Paid(paid, their_frame(&frame)))
         }
-        Call::Instruction { instruction, .. } => run(heaps, &mut frame, instruction)
+        Call::Instruction { instruction, .. } => run(both, &mut frame, instruction)
             .and_then(|outcome| told(&frame, instruction, outcome)),
         _ => unreachable!("this call takes no frame"),
     };
+    if matches!(answer, Err(Reply::Wrong(_))) {
+        return answer;
+    }
     let panicked = matches!(answer, Ok(Answer::EraPanic(_)));
     if frame.panicked != (entered.panicked || panicked) {
         return Err(Reply::Wrong(format!("the frame's mark: {answer:?}")));
@@ -248,30 +262,35 @@ fn framed(heaps: &mut Heaps, entered: &Frame, call: &Call) -> Replied {
     answer
 }
 
+/// Runs an instruction on both memories. The frames that it leaves must be the same, too.
 fn run(
-    heaps: &mut Heaps,
+    both: &mut Both,
     frame: &mut Frame,
     instruction: &HeapInstruction,
 ) -> Result<Outcome, Reply> {
+    let mut lent = *frame;
+    macro_rules! run {
+        ($call:ident($($arg:expr),*)) => {
+            same(both.owned.$call(frame, $($arg),*), both.lend().$call(&mut lent, $($arg),*))
+        };
+    }
     let outcome = match *instruction {
         HeapInstruction::Load { area, operand, .. } => {
-            heaps.load(frame, our_area(area), our_operand(operand))
+            run!(load(our_area(area), our_operand(operand)))
         }
         HeapInstruction::Store { area, operand, value, hook, .. } => {
-            let (area, operand) = (our_area(area), our_operand(operand));
-            heaps.store(frame, area, operand, Word(value.0), hook)
+            run!(store(our_area(area), our_operand(operand), Word(value.0), hook))
         }
         HeapInstruction::LoadPointer { word, tagged, .. } => {
-            heaps.load_pointer(frame, zincpapaya::Operand { word: Word(word.0), tagged })
+            run!(load_pointer(zincpapaya::Operand { word: Word(word.0), tagged }))
         }
-        HeapInstruction::LoadStatic { operand, .. } => {
-            heaps.load_static(frame, our_operand(operand))
-        }
+        HeapInstruction::LoadStatic { operand, .. } => run!(load_static(our_operand(operand))),
         HeapInstruction::StoreStatic { operand, value, .. } => {
-            heaps.store_static(frame, our_operand(operand), Word(value.0))
+            run!(store_static(our_operand(operand), Word(value.0)))
         }
     };
-    outcome.map_err(Reply::from)
+    same(Ok(*frame), Ok(lent))?;
+    outcome
 }
 
 /// An outcome as vm2 tells it: the word of a load alone, and the incremented operand where it was
@@ -302,6 +321,7 @@ fn told(frame: &Frame, instruction: &HeapInstruction, outcome: Outcome) -> Repli
 pub type Held = BTreeSet<(u32, u32)>;
 
 /// Reads the state of a memory from its buffers, as docs/BUFFERS.md describes them.
+#[derive(Debug, PartialEq)]
 pub struct State {
     /// The dynamic pages that are listed.
     pub pages: BTreeSet<u32>,
@@ -315,9 +335,8 @@ const ENTRY: u64 = 33_554_432;
 const HEAD: usize = 16;
 const HEAD_JOURNALS: usize = 12;
 
-pub fn state(heaps: &Heaps) -> State {
-    let Buffers { keys, .. } = heaps.buffers();
-    let (slots, entries) = keys.split_at(heaps.capacity().chunks as usize);
+pub fn state(buffers: Buffers<'_>, capacity: Capacity) -> State {
+    let (slots, entries) = buffers.keys.split_at(capacity.chunks as usize);
     let page = |entry: u64| (entries[entry as usize] - 1) as u32;
     let held = slots.iter().filter(|key| **key != 0).map(|key| {
         let place = key - 1;
@@ -327,13 +346,15 @@ pub fn state(heaps: &Heaps) -> State {
     State {
         pages: listed.map(|page| (page - 1) as u32).collect(),
         held: held.collect(),
-        journals: [0, 1].map(|journal| journal_words(heaps, journal)),
+        journals: [0, 1].map(|journal| journal_words(buffers, capacity, journal)),
     }
 }
 
-fn journal_words(heaps: &Heaps, journal: usize) -> Vec<(u32, oracle::Word)> {
-    let Buffers { bytes, words, .. } = heaps.buffers();
-    let capacity = heaps.capacity();
+fn journal_words(
+    Buffers { bytes, words, .. }: Buffers<'_>,
+    capacity: Capacity,
+    journal: usize,
+) -> Vec<(u32, oracle::Word)> {
     let old_words = &bytes[256 * capacity.chunks as usize..];
     let first = journal * capacity.journal_words as usize;
     let length = words[HEAD_JOURNALS + journal] as usize;

@@ -1,11 +1,13 @@
-//! One list of calls, put to vm2 and to the library side by side.
+//! One list of calls, put to vm2 and to the library side by side: to a memory that is owned, and to one
+//! that is lent.
 
 use lines::show;
 use oracle::{catch, Answer, Bank, Call, Chunk, View, Word};
-use zincpapaya::{Capacity, Heaps, PageId};
+use zincpapaya::{Capacity, PageId};
 
 use crate::{
     alone,
+    both::{on_both, Both},
     charges::Sides,
     list::{Finding, Handed, List, Mismatch, Step},
     model::{Model, CHUNK},
@@ -17,9 +19,9 @@ use crate::{
 pub struct Pair<'a> {
     bank: &'a mut dyn Bank,
     tally: &'a mut Tally,
-    ours: [Heaps; 2],
+    ours: [Both; 2],
     /// The library's memories before the latest call that may change one.
-    before: [Heaps; 2],
+    before: [Both; 2],
     models: [Model; 2],
     /// Whether a memory may have changed since all that it holds was looked at.
     changed: [bool; 2],
@@ -48,7 +50,7 @@ pub fn run(
     list: List,
     looks: Looks,
     mut next: impl FnMut(&[Model; 2], Option<Handed>) -> Option<Step>,
-) -> Result<Vec<Heaps>, Box<Finding>> {
+) -> Result<Vec<Both>, Box<Finding>> {
     let mut done = List { steps: Vec::new(), ..list };
     let mut pair = Pair::start(bank, tally, done.capacities);
     let mut outcome = Ok(());
@@ -89,7 +91,7 @@ impl<'a> Pair<'a> {
         }
         let layout = bank.layout();
         let open = |capacity| {
-            Heaps::open(ours::layout(&layout), capacity, &[]).expect("a layout and its counts")
+            Both::open(ours::layout(&layout), capacity, &[]).expect("a layout and its counts")
         };
         let ours = capacities.map(open);
         let models = [0, 1].map(|_| Model::new(layout));
@@ -102,7 +104,7 @@ impl<'a> Pair<'a> {
         if call.changes() {
             self.before[at].clone_from(&self.ours[at]);
         }
-        if let Some(number) = self.models[at].no_room(call, self.ours[at].capacity()) {
+        if let Some(number) = self.models[at].no_room(call, self.ours[at].owned.capacity()) {
             if look_before_refusal {
                 // What the refusal rests on is vm2's state.
                 self.look_at(at)?;
@@ -136,8 +138,8 @@ impl<'a> Pair<'a> {
     /// The library's answer. A panic of its crate, which has none for any answer of the header's, is
     /// wrong by itself.
     fn answer(&mut self, step: &Step) -> Reply {
-        let heaps = &mut self.ours;
-        let answered = catch(|| ours::answer(heaps, step.memory, &step.call, step.marked));
+        let memories = &mut self.ours;
+        let answered = catch(|| ours::answer(memories, step.memory, &step.call, step.marked));
         answered.unwrap_or_else(|panic| Reply::Wrong(panic.message))
     }
 
@@ -171,7 +173,8 @@ impl<'a> Pair<'a> {
     /// not carried out is as it was, to the last number of its buffers.
     fn after(&mut self, step: &Step, carried_out: bool) -> Result<(), Mismatch> {
         let (at, call) = (step.memory, &step.call);
-        if !carried_out && call.changes() && self.ours[at].buffers() != self.before[at].buffers() {
+        let unchanged = || self.ours[at].has_the_numbers_of(&self.before[at]);
+        if !carried_out && call.changes() && !unchanged() {
             return Err(Mismatch {
                 what: "a call that was not carried out changed the library's buffers".into(),
                 vm2: "nothing changes".into(),
@@ -179,15 +182,13 @@ impl<'a> Pair<'a> {
             });
         }
         if let Call::ReadRangeBigEndian { page, start, end } = *call {
-            alone::outputs_of_wrong_lengths(&self.ours[at], PageId(page), start..end)?;
+            alone::outputs_of_wrong_lengths(&mut self.ours[at], PageId(page), start..end)?;
             self.tally.count_alone("range reads with an output of a wrong length");
         }
-        let (heaps, model) = (&self.ours[at], &self.models[at]);
-        let usage = heaps.usage();
-        let counts = alone::counts(model);
-        if (usage, heaps.dynamic_len()) != (counts, Ok(model.dynamic_len)) {
-            let vm2 = format!("{counts:?}, dynamic length {}", model.dynamic_len);
-            let library = format!("{usage:?}, dynamic length {:?}", heaps.dynamic_len());
+        let model = &self.models[at];
+        let (due, given) = ((alone::counts(model), model.dynamic_len), self.ours[at].counts());
+        if given.as_ref() != Ok(&due) {
+            let (vm2, library) = (format!("{due:?}"), format!("{given:?}"));
             return Err(Mismatch { what: "the counts after the call".into(), vm2, library });
         }
         Ok(())
@@ -223,7 +224,11 @@ impl<'a> Pair<'a> {
             let library = "the count by document 01's rules says otherwise".into();
             return Err(Mismatch { what: place, vm2, library });
         }
-        let (chunks, words) = held_alike(&self.ours[at], &view, &self.bank.layout())
+        if let Err(reply) = self.ours[at].hold_the_same() {
+            let vm2 = "not asked: the library has two memories".into();
+            return Err(Mismatch { what: place, vm2, library: shown(&reply) });
+        }
+        let (chunks, words) = held_alike(&mut self.ours[at], &view, &self.bank.layout())
             .map_err(|(vm2, library)| Mismatch { what: place, vm2, library })?;
         self.tally.chunks += chunks;
         self.tally.words += words;
@@ -242,11 +247,11 @@ fn shown(reply: &Reply) -> String {
 /// Compares every held chunk, every allocated page and both journals with vm2's state. Gives the
 /// numbers of chunks and of journalled words, or what vm2 has and what the library has.
 pub fn held_alike(
-    heaps: &Heaps,
+    both: &mut Both,
     view: &View,
     layout: &oracle::Layout,
 ) -> Result<(u64, u64), (String, String)> {
-    let mut ours = ours::state(heaps);
+    let mut ours = ours::state(both.owned.buffers(), both.owned.capacity());
     let mut chunks = 0;
     for page in &view.pages {
         let id = layout.id(page.place).expect("an allocated page has an id");
@@ -259,7 +264,7 @@ pub fn held_alike(
             if !ours.held.remove(&(id, chunk.number)) {
                 return Err((format!("page {id} holds chunk {}", chunk.number), "not held".into()));
             }
-            same_bytes(heaps, id, chunk)?;
+            same_bytes(both, id, chunk)?;
         }
     }
     if !(ours.pages.is_empty() && ours.held.is_empty()) {
@@ -274,11 +279,9 @@ pub fn held_alike(
     Ok((chunks, words))
 }
 
-fn same_bytes(heaps: &Heaps, page: u32, chunk: &Chunk) -> Result<(), (String, String)> {
-    let bytes = match heaps.chunk(PageId(page), chunk.number) {
-        Ok(bytes) => bytes,
-        Err(error) => return Err(("a chunk".into(), format!("refused {}", error.number()))),
-    };
+fn same_bytes(both: &mut Both, page: u32, chunk: &Chunk) -> Result<(), (String, String)> {
+    let bytes = on_both!(both => chunk(PageId(page), chunk.number))
+        .map_err(|reply| ("a chunk".into(), shown(&reply)))?;
     match (0..).zip(bytes.iter().zip(chunk.bytes.iter())).find(|(_, (ours, theirs))| ours != theirs)
     {
         None => Ok(()),

@@ -5,9 +5,10 @@
 use std::fmt::Debug;
 
 use oracle::{Answer, Area, Bank, Call, Frame, HeapInstruction, Layout, Operand};
-use zincpapaya::{Error, Heaps, Quote};
+use zincpapaya::{Error, Quote};
 
 use crate::{
+    both::Both,
     charges::Sides,
     list::{Mismatch, Step},
     model::{area_of, LAST_ADDRESS},
@@ -88,14 +89,14 @@ struct Loads<'a> {
 pub struct Quotes<'a> {
     pub bank: &'a mut dyn Bank,
     pub tally: &'a mut Tally,
-    pub ours: [Heaps; 2],
+    pub ours: [Both; 2],
     pub quote: Quoter,
 }
 
 impl<'a> Quotes<'a> {
     /// The library's quotes, on the memories that a list has left.
-    pub fn new(bank: &'a mut dyn Bank, tally: &'a mut Tally, heaps: &[Heaps]) -> Self {
-        let ours = [heaps[0].clone(), heaps[1].clone()];
+    pub fn new(bank: &'a mut dyn Bank, tally: &'a mut Tally, memories: &[Both]) -> Self {
+        let ours = [memories[0].clone(), memories[1].clone()];
         Self { bank, tally, ours, quote: zincpapaya::quote }
     }
 
@@ -169,17 +170,18 @@ impl<'a> Quotes<'a> {
         Ok((frame, loads.asked.list.len()))
     }
 
-    /// That the loads have changed neither side's memory: `heaps` is what the list has left.
-    pub fn untouched(&mut self, heaps: &Heaps) -> Result<(), Mismatch> {
+    /// That the loads have changed neither side's memory: `left` is what the list has left.
+    pub fn untouched(&mut self, left: &Both) -> Result<(), Mismatch> {
         let mismatch = |(vm2, library)| {
             let what = "what memory 0 holds after the loads of quotes".into();
             Mismatch { what, vm2, library }
         };
-        if self.ours[0].buffers() != heaps.buffers() {
+        if !self.ours[0].has_the_numbers_of(left) {
             return Err(mismatch(("nothing changes".into(), "another content".into())));
         }
         let view = self.bank.view(0);
-        held_alike(heaps, &view, &self.bank.layout()).map(|_| ()).map_err(mismatch)
+        let layout = self.bank.layout();
+        held_alike(&mut self.ours[0], &view, &layout).map(|_| ()).map_err(mismatch)
     }
 }
 

@@ -9,7 +9,7 @@ use crate::{charges::Run, model::LAST_ADDRESS};
 
 #[derive(Default)]
 pub struct Tally {
-    /// Calls that both sides answered.
+    /// Calls that vm2, the owned memory and the lent one answered.
     pub calls: u64,
     pub lists: u64,
     /// Of these calls, by name: how many, and how many of them were carried out.
@@ -181,7 +181,7 @@ impl fmt::Display for Tally {
             out,
             "{lists} lists: {carried_out} carried out, {panics} panics, {refused} refused"
         )?;
-        writeln!(out, "refused by both: {}", counts(&self.refusals))?;
+        writeln!(out, "refused by all: {}", counts(&self.refusals))?;
         writeln!(out, "refused for want of room, not put to vm2: {}", counts(&self.no_room))?;
         writeln!(out, "library alone: {}", counts(&self.alone))?;
         let QuoteCounts { all, loads, panics, high } = self.quotes;

@@ -1,19 +1,21 @@
 //! That the comparison finds what is wrong: vm2's answers are tampered with on their way, or the
-//! library's quotes are. And that its lists have runs of several loads and stores.
+//! library's quotes are, or one of its two memories. And that its lists have runs of several loads and
+//! stores.
 
 use oracle::{
     Answer, Area, Bank, Call, Frame, HeapInstruction, Layout, Operand, Ran, RustPanic, View,
     LAYOUTS,
 };
-use zincpapaya::{quote, Capacity, Heaps, Quote};
+use zincpapaya::{quote, Capacity, Error, PageId, Quote, Word};
 
 use crate::{
+    both::Both,
     edge_runs, edges,
     generate::{Generator, Sort},
     list::{Finding, Handed, List, Mismatch, Step},
     model::{Model, LAST_ADDRESS},
     options::Options,
-    ours,
+    ours::{self, Reply},
     pair::{self, Looks},
     quotes::{Asked, Quoter, Quotes},
     rng::Rng,
@@ -146,16 +148,84 @@ fn a_wrong_word_of_a_journal_is_found() {
     assert!(steps(&finding).len() <= 2, "{:?}", finding.lines());
 }
 
+/// An empty memory, owned and lent.
+fn opened() -> Both {
+    let layout = ours::layout(&Tampered::new().layout());
+    Both::open(layout, store::CAPACITY, &[]).expect("a layout and its counts")
+}
+
+fn is_wrong<T>(given: &Result<T, Reply>) -> bool {
+    matches!(given, Err(Reply::Wrong(_)))
+}
+
+#[test]
+fn an_answer_of_the_lent_memory_alone_is_found() {
+    let mut memories = [opened(), opened()];
+    memories[0].lend().write_u256(PageId(66), 0, Word::from(7)).expect("there is room");
+    let load = HeapInstruction::Load {
+        area: Area::Heap,
+        operand: Operand::Register { word: 1u32.into(), tagged: false },
+        increment: false,
+    };
+    let frame = Frame { gas: 100, heap: 66, aux: 67, heap_bound: 0, aux_bound: 0 };
+    let calls = [
+        Call::ReadU256 { page: 66, address: 1 },
+        Call::ReadRangeBigEndian { page: 66, start: 0, end: 40 },
+        Call::Chunk { page: 66, number: 0 },
+        Call::DynamicLen,
+        Call::Compare { other: 1 },
+        Call::AllocateAt { page: 66 },
+        Call::Instruction { frame, instruction: load },
+    ];
+    for call in calls {
+        let mut memories = memories.clone();
+        let reply = ours::answer(&mut memories, 0, &call, false);
+        assert!(matches!(reply, Reply::Wrong(_)), "{call:?}: {reply:?}");
+    }
+}
+
+#[test]
+fn what_one_memory_holds_alone_is_found() {
+    let mut both = opened();
+    both.hold_the_same().expect("both are empty");
+    let mut one = both.clone();
+    one.lend().write_u256(PageId(66), 0, Word::from(7)).expect("there is room");
+    assert!(is_wrong(&one.hold_the_same()) && is_wrong(&one.counts()));
+    // Zeros look alike, but a chunk is held, and a word journalled.
+    for page in [PageId(1), PageId(5)] {
+        let mut one = both.clone();
+        one.owned.write_u256(page, 0, Word::ZERO).expect("there is room");
+        assert!(is_wrong(&one.hold_the_same()), "{page:?}");
+    }
+    both.damage();
+    assert!(is_wrong(&both.hold_the_same()));
+    assert_eq!(both.lend().check(), Err(Error::NotFormed));
+}
+
+#[test]
+fn a_long_list_leaves_memories_that_are_well_formed() {
+    for (number, layout) in (0..).zip(LAYOUTS) {
+        let mut bank = oracle::bank(layout).expect("a listed layout");
+        let capacities = [store::CAPACITY; 2];
+        let rng = Rng::new(7, number);
+        let mut generator = Generator::new(rng, bank.layout(), Sort::Light, capacities, 10_000);
+        let (list, mut tally) = (no_calls(layout, store::CAPACITY), Tally::default());
+        let next = |models: &_, left| generator.next(models, left);
+        let done = pair::run(bank.as_mut(), &mut tally, list, Looks::AtTheEnd, next);
+        let memories = done.unwrap_or_else(|finding| panic!("{:?}", finding.lines()));
+        assert!(tally.calls > 5_000, "{layout}: {}", tally.calls);
+        assert!(memories.iter().all(|both| both.owned.check() == Ok(())), "{layout}");
+    }
+}
+
 /// What `look` finds where these quotes stand in for the library's.
 fn find_quote(
     mut bank: Tampered,
     quote: Quoter,
     look: impl FnOnce(&mut Quotes, &mut Rng) -> Result<(), Mismatch>,
 ) -> Option<Mismatch> {
-    let layout = ours::layout(&bank.layout());
-    let heaps = Heaps::open(layout, store::CAPACITY, &[]).expect("a layout and its counts");
-    let (heaps, mut tally) = ([heaps.clone(), heaps], Tally::default());
-    let quotes = Quotes::new(&mut bank, &mut tally, &heaps);
+    let (memories, mut tally) = ([opened(), opened()], Tally::default());
+    let quotes = Quotes::new(&mut bank, &mut tally, &memories);
     look(&mut Quotes { quote, ..quotes }, &mut Rng::new(7, 0)).err()
 }
 

@@ -1,11 +1,16 @@
-//! vm2's `Heaps` for the benchmarks: each function hands over to the original's of the same name, `read_words` for each word of a list.
+//! vm2 for the benchmarks: its `Heaps`, where each function hands over to the original's of the same name, and its handlers of
+//! two instructions.
 
 use std::ops::Range;
 
 use primitive_types::U256;
 
-use super::id;
-use crate::heap::Heaps;
+use super::{id, NoWorld, Quiet, Vm};
+use crate::{
+    addressing_modes::{Arguments, Register, Register1, Register2, RegisterOrImmediate},
+    heap::Heaps,
+    Instruction, ModeRequirements, Predicate,
+};
 
 /// A memory of vm2.
 #[derive(Debug, Clone)]
@@ -19,13 +24,6 @@ impl Plain {
 
     pub fn read_u256(&self, page: u32, address: u32) -> [u64; 4] {
         self.0[id(page)].read_u256(address).0
-    }
-
-    /// The words at these places, one after the other: a loop in vm2's own crate, so that all of it can be compiled as one.
-    pub fn read_words(&self, places: &[(u32, u32)], out: &mut [[u64; 4]]) {
-        for (&(page, address), word) in places.iter().zip(out) {
-            *word = self.read_u256(page, address);
-        }
     }
 
     pub fn write_u256(&mut self, page: u32, address: u32, limbs: [u64; 4]) {
@@ -47,5 +45,72 @@ impl Plain {
     /// Rolls back to the start of both journals.
     pub fn rollback_to_start(&mut self) {
         self.0.rollback((0, 0));
+    }
+}
+
+// The registers in use.
+const OPERAND: u8 = 1;
+const VALUE: u8 = 2;
+const OUT: u8 = 3;
+const NEXT: u8 = 4;
+
+/// An instruction, and one after it at which the program counter then stands.
+type Code = Box<[Instruction<Quiet, NoWorld>; 2]>;
+
+fn code(instruction: Instruction<Quiet, NoWorld>) -> Code {
+    Box::new([instruction, Instruction::from_invalid()])
+}
+
+/// A machine of vm2 that runs the heap load and the heap store, both with an increment, by vm2's own handlers.
+pub struct Machine {
+    vm: Vm,
+    load: Code,
+    store: Code,
+}
+
+impl Machine {
+    /// Its heap is this page, whose bound no access passes, and it has 1,000 gas. The fixed costs are 0.
+    pub fn new(page: u32) -> Self {
+        let mut vm = super::open(&[]);
+        let frame = &mut vm.state.current_frame;
+        (frame.gas, frame.heap, frame.heap_size) = (1000, id(page), u32::MAX);
+
+        let arguments = || Arguments::new(Predicate::Always, 0, ModeRequirements::none());
+        let operand = || RegisterOrImmediate::Register1(Register1(Register::new(OPERAND)));
+        let value = Register2(Register::new(VALUE));
+        let out = || Register1(Register::new(OUT));
+        let next = Register2(Register::new(NEXT));
+        let load = Instruction::from_heap_read(operand(), out(), Some(next), arguments());
+        let store = Instruction::from_heap_write(operand(), value, Some(out()), arguments(), false);
+        Self { vm, load: code(load), store: code(store) }
+    }
+
+    pub fn gas(&self) -> u32 {
+        self.vm.state.current_frame.gas
+    }
+
+    fn register(&self, number: u8) -> &[u64; 4] {
+        &self.vm.state.registers[usize::from(number)].0
+    }
+
+    fn set(&mut self, number: u8, limbs: [u64; 4]) {
+        self.vm.state.registers[usize::from(number)] = U256(limbs);
+    }
+
+    /// Loads the word at an address: that word, and the address plus 32, in their registers.
+    pub fn load(&mut self, address: u32) -> [&[u64; 4]; 2] {
+        self.set(OPERAND, [address.into(), 0, 0, 0]);
+        self.vm.state.current_frame.pc = &self.load[0];
+        _ = (self.load[0].handler)(&mut self.vm, &mut NoWorld, &mut Quiet);
+        [self.register(OUT), self.register(NEXT)]
+    }
+
+    /// Stores a word at an address: the address plus 32, in its register.
+    pub fn store(&mut self, address: u32, limbs: [u64; 4]) -> &[u64; 4] {
+        self.set(OPERAND, [address.into(), 0, 0, 0]);
+        self.set(VALUE, limbs);
+        self.vm.state.current_frame.pc = &self.store[0];
+        _ = (self.store[0].handler)(&mut self.vm, &mut NoWorld, &mut Quiet);
+        self.register(OUT)
     }
 }

@@ -1,4 +1,5 @@
-//! A dry run in small: writes, a load that pays for growth, a rollback.
+//! A dry run in small: writes, a load that pays for growth, a rollback. `Heaps` owns the memory, so no
+//! call tests it; a host with buffers of its own takes `Lent`, whose calls do.
 
 use zincpapaya::{Area, Capacity, Error, Frame, Heaps, Layout, Outcome, PageId, Word};
 
@@ -33,5 +34,7 @@ fn main() -> Result<(), Error> {
         println!("refused with {error}");
     }
     println!("{} of {} chunks in use", heaps.usage().chunks, capacity.chunks);
+    heaps.check()?;
+    println!("tested once, at the end: the memory is well formed");
     Ok(())
 }

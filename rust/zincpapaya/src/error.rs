@@ -33,8 +33,9 @@ pub enum Error {
     Layout = 1,
     /// A count of the capacity is out of its bounds.
     Sizes = 2,
-    /// The memory is not well formed. Its buffers belong to [`Heaps`](crate::Heaps) and nothing
-    /// writes to them between calls, so this tells of a fault elsewhere in the process.
+    /// The memory is not well formed. Of a memory that is [`Lent`](crate::Lent): somebody else has
+    /// written to its buffers, or it was never opened. [`Heaps`](crate::Heaps) owns its buffers, so
+    /// there this tells of a fault elsewhere in the process, wherever the test is made.
     NotFormed = 3,
     /// The page id decodes to no page, or page arithmetic leaves 32 bits.
     Undecodable = 4,
@@ -95,8 +96,8 @@ const TEXTS: [&str; 15] = [
      compare only memories of one layout",
     "the capacity is out of bounds; open the memory with `chunks` from 1 to 65536, `pages` from 1 \
      to 4096 and `journal_words` from 0 to 65536",
-    "the memory is not well formed, so something in the process has written to its buffers; trust \
-     none of its answers, open it again and run from the start",
+    "the memory is not well formed, so something else has written to its buffers, or it was never \
+     opened; trust none of its answers, open it again and run from the start",
     "the page id is none of the layout's pages, or lies past 32 bits; check the page id and the \
      layout's base and stride",
     "the page is a fixed one, which is always there and can be neither allocated nor freed; write \
@@ -132,13 +133,20 @@ impl std::error::Error for Error {}
 /// The result that a call's status stands for.
 ///
 /// Instructions take their two other outcomes away before they come here, and the last status,
-/// which is for outputs and frames of a wrong length, cannot come: `ffi` takes both as arrays.
+/// which is for outputs and frames of a wrong length, cannot come: the calls take both as arrays.
+#[inline]
 pub(crate) fn carried_out(status: u32) -> Result<(), Error> {
-    if status == 0 {
-        return Ok(());
+    match status {
+        0 => Ok(()),
+        number => Err(refusal(number)),
     }
-    let refusal = Error::ALL.into_iter().find(|error| u32::from(error.number()) == status);
-    Err(refusal.unwrap_or_else(|| unreachable!("the library gave the status {status}")))
+}
+
+/// The refusal with this number.
+#[cold]
+pub(crate) fn refusal(number: u32) -> Error {
+    let refusal = Error::ALL.into_iter().find(|error| u32::from(error.number()) == number);
+    refusal.unwrap_or_else(|| unreachable!("the library gave the status {number}"))
 }
 
 /// The status of a call that refuses nothing.

@@ -1,7 +1,8 @@
-//! The library's functions as `include/zincpapaya.h` declares them, each behind a thin safe
-//! wrapper that gives its status. All `unsafe` of this crate stands here.
+//! The checked functions of the library as `include/zincpapaya.h` declares them, each behind a thin
+//! safe wrapper that gives its status. They test a memory that they are lent, and so take any
+//! buffers. All other `unsafe` of this crate stands in `memory/calls.rs`.
 //!
-//! What the library asks of its caller, and why it is met by every wrapper:
+//! What the library asks of its caller, and why it is met by every wrapper, here and there:
 //!
 //! - A slice is a pointer and a number of elements. Both are always taken from one Rust slice, so
 //!   that the elements are there, aligned and initialised, and the pointer of an empty slice is
@@ -14,7 +15,10 @@
 
 use std::ops::Range;
 
-use crate::{memory::Memory, Capacity, Operand};
+use crate::{
+    buffers::{Buffers, BuffersMut, Capacity},
+    Operand,
+};
 
 /// The instruction panicked as the EraVM does.
 pub(crate) const PANICKED: u32 = 100;
@@ -30,33 +34,30 @@ pub(crate) const BOOTLOADER_HEAP: u64 = 5;
 pub(crate) const BOOTLOADER_AUX: u64 = 6;
 
 /// What a chunk lookup shows of a chunk that is not held.
-static ZEROS: [u8; 256] = [0; 256];
+pub(crate) static ZEROS: [u8; 256] = [0; 256];
 
-/// Declares functions of the library: `plain` ones, `reading` ones, which begin with a memory that
-/// they only read, and `writing` ones, which begin with a memory that they may change.
+/// Declares functions of the library: `plain` ones; and ones that begin with a memory, which they
+/// only read (`reading`) or may change (`writing`). A `restoring` one changes its `bytes` and
+/// `words`, a `forgetting` one its `words` alone.
 macro_rules! declare {
-    ($($sort:ident fn $name:ident($($arg:ident: $kind:ty),* $(,)?);)*) => {
-        $(declare! { @$sort $name($($arg: $kind),*) })*
+    ($($sort:ident fn $name:ident($($arg:ident: $kind:ty),* $(,)?) -> $result:ty;)*) => {
+        $(declare! { @$sort $name($($arg: $kind),*) -> $result })*
     };
-    (@plain $name:ident($($arg:ident: $kind:ty),*)) => {
-        extern "C" { fn $name($($arg: $kind),*) -> u32; }
+    (@plain $name:ident($($arg:ident: $kind:ty),*) -> $result:ty) => {
+        extern "C" { fn $name($($arg: $kind),*) -> $result; }
     };
-    (@reading $name:ident($($arg:ident: $kind:ty),*)) => {
+    (@reading $($rest:tt)*) => { declare! { @[const const const const] $($rest)* } };
+    (@writing $($rest:tt)*) => { declare! { @[mut mut mut mut] $($rest)* } };
+    (@restoring $($rest:tt)*) => { declare! { @[mut const const mut] $($rest)* } };
+    (@forgetting $($rest:tt)*) => { declare! { @[const const const mut] $($rest)* } };
+    (@[$bytes:tt $keys:tt $order:tt $words:tt]
+        $name:ident($($arg:ident: $kind:ty),*) -> $result:ty) => {
         extern "C" {
             fn $name(
-                bytes: *const u8, bytes_len: usize, keys: *const u64, keys_len: usize,
-                order: *const u32, order_len: usize, words: *const u64, words_len: usize,
+                bytes: *$bytes u8, bytes_len: usize, keys: *$keys u64, keys_len: usize,
+                order: *$order u32, order_len: usize, words: *$words u64, words_len: usize,
                 $($arg: $kind),*
-            ) -> u32;
-        }
-    };
-    (@writing $name:ident($($arg:ident: $kind:ty),*)) => {
-        extern "C" {
-            fn $name(
-                bytes: *mut u8, bytes_len: usize, keys: *mut u64, keys_len: usize,
-                order: *mut u32, order_len: usize, words: *mut u64, words_len: usize,
-                $($arg: $kind),*
-            ) -> u32;
+            ) -> $result;
         }
     };
 }
@@ -66,106 +67,82 @@ declare! {
         static_memory: u32, calldata_page: u32, bootloader_heap: u32, bootloader_aux: u32,
         base: u32, stride: u32, chunks: u32, pages: u32, room: u32,
         calldata: *const u8, calldata_len: usize,
-    );
-    reading fn zp_read_u256(page: u32, address: u32, out: *mut u64, out_len: usize);
+    ) -> u32;
+    reading fn zp_read_u256(page: u32, address: u32, out: *mut u64, out_len: usize) -> u32;
     reading fn zp_read_u256_partially(
         page: u32, start: u32, end: u32, out: *mut u64, out_len: usize,
-    );
+    ) -> u32;
     reading fn zp_read_range_big_endian(
         page: u32, start: u32, end: u32, output: *mut u8, output_len: usize,
-    );
-    reading fn zp_read_byte(page: u32, address: u32, out: *mut u64, out_len: usize);
-    reading fn zp_dynamic_len(out: *mut u64, out_len: usize);
-    reading fn zp_snapshot(out: *mut u64, out_len: usize);
+    ) -> u32;
+    reading fn zp_read_byte(page: u32, address: u32, out: *mut u64, out_len: usize) -> u32;
+    reading fn zp_dynamic_len(out: *mut u64, out_len: usize) -> u32;
+    reading fn zp_snapshot(out: *mut u64, out_len: usize) -> u32;
     reading fn zp_chunk(
         page: u32, number: u32, block: *const u8, block_len: usize,
         output: *mut u8, output_len: usize,
-    );
+    ) -> u32;
     writing fn zp_write_u256(
         page: u32, address: u32, limb0: u64, limb1: u64, limb2: u64, limb3: u64,
-    );
-    writing fn zp_write_bytes(page: u32, start: u32, src: *const u8, src_len: usize);
-    writing fn zp_allocate_at(page: u32);
-    writing fn zp_allocate_with_content_at(page: u32, content: *const u8, content_len: usize);
-    writing fn zp_deallocate(page: u32);
-    writing fn zp_compact_to_window(page: u32, start: u32, length: u32);
-    writing fn zp_truncate_dynamic_to(len: u64);
+    ) -> u32;
+    writing fn zp_write_bytes(page: u32, start: u32, src: *const u8, src_len: usize) -> u32;
+    writing fn zp_allocate_at(page: u32) -> u32;
+    writing fn zp_allocate_with_content_at(page: u32, content: *const u8, content_len: usize) -> u32;
+    writing fn zp_deallocate(page: u32) -> u32;
+    writing fn zp_compact_to_window(page: u32, start: u32, length: u32) -> u32;
+    writing fn zp_truncate_dynamic_to(len: u64) -> u32;
     reading fn zp_compare(
         other_bytes: *const u8, other_bytes_len: usize, other_keys: *const u64,
         other_keys_len: usize, other_order: *const u32, other_order_len: usize,
         other_words: *const u64, other_words_len: usize, out: *mut u64, out_len: usize,
-    );
+    ) -> u32;
+    restoring fn zp_rollback(heap: u64, aux: u64) -> u32;
+    forgetting fn zp_delete_history() -> u32;
     reading fn zp_load(
         frame: *mut u32, frame_len: usize, aux: bool,
         x0: u64, x1: u64, x2: u64, x3: u64, tagged: bool, out: *mut u64, out_len: usize,
-    );
+    ) -> u32;
     writing fn zp_store(
         frame: *mut u32, frame_len: usize, aux: bool,
         x0: u64, x1: u64, x2: u64, x3: u64, tagged: bool,
         limb0: u64, limb1: u64, limb2: u64, limb3: u64,
         hook: bool, hook_address: u32, out: *mut u64, out_len: usize,
-    );
+    ) -> u32;
     reading fn zp_load_pointer(
         frame: *mut u32, frame_len: usize,
         x0: u64, x1: u64, x2: u64, x3: u64, tagged: bool, out: *mut u64, out_len: usize,
-    );
+    ) -> u32;
     reading fn zp_load_static(
         frame: *mut u32, frame_len: usize,
         x0: u64, x1: u64, x2: u64, x3: u64, tagged: bool, out: *mut u64, out_len: usize,
-    );
+    ) -> u32;
     writing fn zp_store_static(
         frame: *mut u32, frame_len: usize,
         x0: u64, x1: u64, x2: u64, x3: u64, tagged: bool,
         limb0: u64, limb1: u64, limb2: u64, limb3: u64, out: *mut u64, out_len: usize,
-    );
+    ) -> u32;
     plain fn zp_decode(
         static_memory: u32, calldata_page: u32, bootloader_heap: u32, bootloader_aux: u32,
         base: u32, stride: u32, page: u32, out: *mut u64, out_len: usize,
-    );
-    plain fn zp_heap_page_from_base(base: u32, out: *mut u64, out_len: usize);
-    plain fn zp_aux_heap_page_from_base(base: u32, out: *mut u64, out_len: usize);
-    plain fn zp_code_page_from_base(base: u32, out: *mut u64, out_len: usize);
-    plain fn zp_base_page_from_heap(heap: u32, out: *mut u64, out_len: usize);
-    plain fn zp_next_page_group(base: u32, stride: u32, out: *mut u64, out_len: usize);
+    ) -> u32;
+    plain fn zp_heap_page_from_base(base: u32, out: *mut u64, out_len: usize) -> u32;
+    plain fn zp_aux_heap_page_from_base(base: u32, out: *mut u64, out_len: usize) -> u32;
+    plain fn zp_code_page_from_base(base: u32, out: *mut u64, out_len: usize) -> u32;
+    plain fn zp_base_page_from_heap(heap: u32, out: *mut u64, out_len: usize) -> u32;
+    plain fn zp_next_page_group(base: u32, stride: u32, out: *mut u64, out_len: usize) -> u32;
     plain fn zp_fat_pointer_from_u256(
         limb0: u64, limb1: u64, limb2: u64, limb3: u64, out: *mut u64, out_len: usize,
-    );
+    ) -> u32;
     plain fn zp_fat_pointer_into_u256(
         offset: u32, page: u32, start: u32, length: u32, out: *mut u64, out_len: usize,
-    );
-    plain fn zp_use_gas(gas: u32, amount: u32, out: *mut u64, out_len: usize);
+    ) -> u32;
+    plain fn zp_use_gas(gas: u32, amount: u32, out: *mut u64, out_len: usize) -> u32;
     plain fn zp_grow_heap(
         frame: *mut u32, frame_len: usize, aux: bool, new_bound: u32,
         out: *mut u64, out_len: usize,
-    );
+    ) -> u32;
     plain fn zp_quote(
         list: *const u32, list_len: usize, gas: u32, bound: u32, out: *mut u64, out_len: usize,
-    );
-}
-
-// These two write to some of the buffers and only read the others.
-extern "C" {
-    fn zp_rollback(
-        bytes: *mut u8,
-        bytes_len: usize,
-        keys: *const u64,
-        keys_len: usize,
-        order: *const u32,
-        order_len: usize,
-        words: *mut u64,
-        words_len: usize,
-        heap: u64,
-        aux: u64,
-    ) -> u32;
-    fn zp_delete_history(
-        bytes: *const u8,
-        bytes_len: usize,
-        keys: *const u64,
-        keys_len: usize,
-        order: *const u32,
-        order_len: usize,
-        words: *mut u64,
-        words_len: usize,
     ) -> u32;
 }
 
@@ -189,7 +166,7 @@ macro_rules! lend {
 }
 
 pub(crate) fn open(
-    memory: &mut Memory,
+    memory: BuffersMut<'_>,
     [static_memory, calldata_page, bootloader_heap, bootloader_aux, base, stride]: [u32; 6],
     Capacity { chunks, pages, journal_words }: Capacity,
     calldata: &[u8],
@@ -203,13 +180,13 @@ pub(crate) fn open(
     }
 }
 
-pub(crate) fn read_u256(memory: &Memory, page: u32, address: u32, out: &mut [u64; 4]) -> u32 {
+pub(crate) fn read_u256(memory: Buffers<'_>, page: u32, address: u32, out: &mut [u64; 4]) -> u32 {
     // SAFETY: the memory is only read, and `out` is borrowed by `&mut`.
     unsafe { lend!(& memory => zp_read_u256(page, address, out.as_mut_ptr(), out.len())) }
 }
 
 pub(crate) fn read_u256_partially(
-    memory: &Memory,
+    memory: Buffers<'_>,
     page: u32,
     Range { start, end }: Range<u32>,
     out: &mut [u64; 4],
@@ -221,7 +198,7 @@ pub(crate) fn read_u256_partially(
 }
 
 pub(crate) fn read_range_big_endian(
-    memory: &Memory,
+    memory: Buffers<'_>,
     page: u32,
     Range { start, end }: Range<u32>,
     output: &mut [u8],
@@ -234,22 +211,22 @@ pub(crate) fn read_range_big_endian(
     }
 }
 
-pub(crate) fn read_byte(memory: &Memory, page: u32, address: u32, out: &mut [u64; 1]) -> u32 {
+pub(crate) fn read_byte(memory: Buffers<'_>, page: u32, address: u32, out: &mut [u64; 1]) -> u32 {
     // SAFETY: the memory is only read, and `out` is borrowed by `&mut`.
     unsafe { lend!(& memory => zp_read_byte(page, address, out.as_mut_ptr(), out.len())) }
 }
 
-pub(crate) fn dynamic_len(memory: &Memory, out: &mut [u64; 1]) -> u32 {
+pub(crate) fn dynamic_len(memory: Buffers<'_>, out: &mut [u64; 1]) -> u32 {
     // SAFETY: the memory is only read, and `out` is borrowed by `&mut`.
     unsafe { lend!(& memory => zp_dynamic_len(out.as_mut_ptr(), out.len())) }
 }
 
-pub(crate) fn snapshot(memory: &Memory, out: &mut [u64; 2]) -> u32 {
+pub(crate) fn snapshot(memory: Buffers<'_>, out: &mut [u64; 2]) -> u32 {
     // SAFETY: the memory is only read, and `out` is borrowed by `&mut`.
     unsafe { lend!(& memory => zp_snapshot(out.as_mut_ptr(), out.len())) }
 }
 
-pub(crate) fn chunk(memory: &Memory, page: u32, number: u32, output: &mut [u8; 256]) -> u32 {
+pub(crate) fn chunk(memory: Buffers<'_>, page: u32, number: u32, output: &mut [u8; 256]) -> u32 {
     // SAFETY: memory and zeros are only read, and `output` is borrowed by `&mut`.
     unsafe {
         lend!(& memory => zp_chunk(
@@ -258,7 +235,7 @@ pub(crate) fn chunk(memory: &Memory, page: u32, number: u32, output: &mut [u8; 2
     }
 }
 
-pub(crate) fn compare(memory: &Memory, other: &Memory, out: &mut [u64; 1]) -> u32 {
+pub(crate) fn compare(memory: Buffers<'_>, other: Buffers<'_>, out: &mut [u64; 1]) -> u32 {
     // SAFETY: both memories, which may be one, are only read, and `out` is borrowed by `&mut`.
     unsafe {
         lend!(& memory => zp_compare(
@@ -270,7 +247,7 @@ pub(crate) fn compare(memory: &Memory, other: &Memory, out: &mut [u64; 1]) -> u3
 }
 
 pub(crate) fn write_u256(
-    memory: &mut Memory,
+    memory: BuffersMut<'_>,
     page: u32,
     address: u32,
     [v0, v1, v2, v3]: [u64; 4],
@@ -279,76 +256,50 @@ pub(crate) fn write_u256(
     unsafe { lend!(mut memory => zp_write_u256(page, address, v0, v1, v2, v3)) }
 }
 
-pub(crate) fn write_bytes(memory: &mut Memory, page: u32, start: u32, src: &[u8]) -> u32 {
+pub(crate) fn write_bytes(memory: BuffersMut<'_>, page: u32, start: u32, src: &[u8]) -> u32 {
     // SAFETY: the memory is borrowed by `&mut`, and `src` is another slice.
     unsafe { lend!(mut memory => zp_write_bytes(page, start, src.as_ptr(), src.len())) }
 }
 
-pub(crate) fn allocate_at(memory: &mut Memory, page: u32) -> u32 {
+pub(crate) fn allocate_at(memory: BuffersMut<'_>, page: u32) -> u32 {
     // SAFETY: the memory is borrowed by `&mut`.
     unsafe { lend!(mut memory => zp_allocate_at(page)) }
 }
 
-pub(crate) fn allocate_with_content_at(memory: &mut Memory, page: u32, content: &[u8]) -> u32 {
+pub(crate) fn allocate_with_content_at(memory: BuffersMut<'_>, page: u32, content: &[u8]) -> u32 {
     // SAFETY: the memory is borrowed by `&mut`, and `content` is another slice.
     unsafe {
         lend!(mut memory => zp_allocate_with_content_at(page, content.as_ptr(), content.len()))
     }
 }
 
-pub(crate) fn deallocate(memory: &mut Memory, page: u32) -> u32 {
+pub(crate) fn deallocate(memory: BuffersMut<'_>, page: u32) -> u32 {
     // SAFETY: the memory is borrowed by `&mut`.
     unsafe { lend!(mut memory => zp_deallocate(page)) }
 }
 
-pub(crate) fn compact_to_window(memory: &mut Memory, page: u32, start: u32, length: u32) -> u32 {
+pub(crate) fn compact_to_window(memory: BuffersMut<'_>, page: u32, start: u32, length: u32) -> u32 {
     // SAFETY: the memory is borrowed by `&mut`.
     unsafe { lend!(mut memory => zp_compact_to_window(page, start, length)) }
 }
 
-pub(crate) fn truncate_dynamic_to(memory: &mut Memory, len: u64) -> u32 {
+pub(crate) fn truncate_dynamic_to(memory: BuffersMut<'_>, len: u64) -> u32 {
     // SAFETY: the memory is borrowed by `&mut`.
     unsafe { lend!(mut memory => zp_truncate_dynamic_to(len)) }
 }
 
-pub(crate) fn rollback(memory: &mut Memory, heap: u64, aux: u64) -> u32 {
-    let Memory { bytes, keys, order, words } = memory;
-    // SAFETY: the memory is borrowed by `&mut`; its four buffers are slices of their own.
-    unsafe {
-        zp_rollback(
-            bytes.as_mut_ptr(),
-            bytes.len(),
-            keys.as_ptr(),
-            keys.len(),
-            order.as_ptr(),
-            order.len(),
-            words.as_mut_ptr(),
-            words.len(),
-            heap,
-            aux,
-        )
-    }
+pub(crate) fn rollback(memory: BuffersMut<'_>, heap: u64, aux: u64) -> u32 {
+    // SAFETY: the memory is borrowed by `&mut`.
+    unsafe { lend!(mut memory => zp_rollback(heap, aux)) }
 }
 
-pub(crate) fn delete_history(memory: &mut Memory) -> u32 {
-    let Memory { bytes, keys, order, words } = memory;
-    // SAFETY: the memory is borrowed by `&mut`; its four buffers are slices of their own.
-    unsafe {
-        zp_delete_history(
-            bytes.as_ptr(),
-            bytes.len(),
-            keys.as_ptr(),
-            keys.len(),
-            order.as_ptr(),
-            order.len(),
-            words.as_mut_ptr(),
-            words.len(),
-        )
-    }
+pub(crate) fn delete_history(memory: BuffersMut<'_>) -> u32 {
+    // SAFETY: the memory is borrowed by `&mut`.
+    unsafe { lend!(mut memory => zp_delete_history()) }
 }
 
 pub(crate) fn load(
-    memory: &Memory,
+    memory: Buffers<'_>,
     frame: &mut [u32; 6],
     aux: bool,
     Operand { word, tagged }: Operand,
@@ -365,7 +316,7 @@ pub(crate) fn load(
 }
 
 pub(crate) fn store(
-    memory: &mut Memory,
+    memory: BuffersMut<'_>,
     frame: &mut [u32; 6],
     aux: bool,
     Operand { word, tagged }: Operand,
@@ -384,7 +335,7 @@ pub(crate) fn store(
 }
 
 pub(crate) fn load_pointer(
-    memory: &Memory,
+    memory: Buffers<'_>,
     frame: &mut [u32; 6],
     Operand { word, tagged }: Operand,
     out: &mut [u64; 10],
@@ -399,7 +350,7 @@ pub(crate) fn load_pointer(
 }
 
 pub(crate) fn load_static(
-    memory: &Memory,
+    memory: Buffers<'_>,
     frame: &mut [u32; 6],
     Operand { word, tagged }: Operand,
     out: &mut [u64; 10],
@@ -414,7 +365,7 @@ pub(crate) fn load_static(
 }
 
 pub(crate) fn store_static(
-    memory: &mut Memory,
+    memory: BuffersMut<'_>,
     frame: &mut [u32; 6],
     Operand { word, tagged }: Operand,
     [v0, v1, v2, v3]: [u64; 4],

@@ -1,8 +1,8 @@
 //! The EraVM's memory: heap pages, bootloader rollback and the five heap instructions.
 //!
-//! This is a safe interface to `libzincpapaya.a`, a library written in Rattle: each of its
-//! functions has a contract, and a proof that it keeps it. Calls have the names that they have in
-//! vm2. Where vm2 panics, a call here gives an [`Error`] and has changed nothing; and since the
+//! This is a safe interface to a library written in Rattle, `libzincpapaya.a` and `libowned.a`: each
+//! of its functions has a contract, and a proof that it keeps it. Calls have the names that they have
+//! in vm2. Where vm2 panics, a call here gives an [`Error`] and has changed nothing; and since the
 //! memory has a fixed capacity, a call may also be refused for want of room.
 //!
 //! ```
@@ -28,6 +28,25 @@
 //! # }
 //! ```
 //!
+//! # Owned or lent
+//!
+//! Take [`Heaps`], unless the buffers of the memory must be the host's own: then take [`Lent`]. The
+//! calls are the same, and so are their answers.
+//!
+//! | | [`Heaps`] | [`Lent`] |
+//! |---|---|---|
+//! | the four buffers | are its own: nobody else can write to them | are lent by the host, and others may write to them between calls |
+//! | a call | makes no test, since the library proves that every call leaves the memory well formed | tests the whole memory first, and may be refused with [`Error::NotFormed`] |
+//! | a word read or write takes | some nanoseconds | half a microsecond in a memory of 128 chunks, half a millisecond in one of 65,536 |
+//!
+//! Code elsewhere in the process can damage even a memory that is owned, if it is `unsafe` and wrong.
+//! So the test can be had for [`Heaps`] as well:
+//!
+//! - [`Heaps::check`] makes it, whenever it is called.
+//! - In debug builds, where `debug_assertions` are on, every call makes it.
+//! - With the feature `tested` every call makes it in all builds: they are then the calls of [`Lent`],
+//!   and `libowned.a` is not linked.
+//!
 //! # Words
 //!
 //! A [`Word`] is four limbs of 64 bits, the lowest first, in a public field. That is how the
@@ -42,24 +61,30 @@
 #![deny(missing_docs)]
 #![deny(unsafe_code)]
 
+mod buffers;
+mod checked;
 mod error;
+#[macro_use]
 #[allow(unsafe_code)]
 mod ffi;
 mod frame;
 mod heaps;
 mod instructions;
+mod lent;
 mod memory;
+mod methods;
 mod pages;
 mod pointer;
 #[cfg(test)]
 mod tests;
 mod word;
 
+pub use buffers::{Buffers, Capacity, Lengths, Usage};
 pub use error::Error;
 pub use frame::{quote, use_gas, Area, Frame, Quote};
 pub use heaps::{Heaps, Snapshot};
 pub use instructions::{Operand, Outcome};
-pub use memory::{Buffers, Capacity, Usage};
+pub use lent::Lent;
 pub use pages::{
     aux_heap_page_from_base, base_page_from_heap, code_page_from_base, heap_page_from_base,
     DecodedPage, Layout, PageId,

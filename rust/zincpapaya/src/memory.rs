@@ -1,61 +1,78 @@
-//! The four buffers that the library is lent, and what stands in their head.
+//! The memory that [`Heaps`](crate::Heaps) owns. Its four buffers are private to this module and to
+//! its child `calls`, which has the calls that do not test them.
+//!
+//! Those calls demand a memory that is well formed. Every [`Memory`] is:
+//!
+//! - It comes from an opening that was accepted, or is a clone of one that does. Where the opening
+//!   is refused, no value leaves this module.
+//! - Only the library writes to its buffers: an opening, which is carried out whole or changes
+//!   nothing, and the calls of `calls`. The library proves that all of them leave a memory that is
+//!   well formed (`docs/PROOF.md`), and keeps no pointer.
+//! - Nothing else is lent a buffer by `&mut`: `ffi::open` hands them to the library and does no more.
+//!   What [`Memory::buffers`] gives is shared, and can be used no more when the next change begins.
+//! - A clone has all four, and `clone_from` puts all four in place or none: nothing can fail between
+//!   the first and the last.
 
-use crate::{Layout, PageId};
+#[cfg(not(feature = "tested"))]
+#[allow(unsafe_code)]
+mod calls;
+#[cfg(test)]
+mod tests;
 
-/// How much a memory can hold. The counts are set when it is opened and never change.
-///
-/// A word that crosses a chunk's edge takes two chunks, and every page its own ones.
-#[derive(Debug, Clone, Copy, PartialEq, Eq, Hash)]
-pub struct Capacity {
-    /// Chunks of 256 bytes, over all pages: 1 to 65,536.
-    pub chunks: u32,
-    /// Dynamic pages that can be allocated at once: 1 to 4,096.
-    pub pages: u32,
-    /// Words that each of the two journals can hold: 0 to 65,536.
-    pub journal_words: u32,
-}
-
-impl Capacity {
-    fn is_within_bounds(self) -> bool {
-        (1..=65_536).contains(&self.chunks)
-            && (1..=4_096).contains(&self.pages)
-            && self.journal_words <= 65_536
-    }
-}
-
-/// How much of a memory's capacity is in use.
-#[derive(Debug, Clone, Copy, PartialEq, Eq, Hash)]
-pub struct Usage {
-    /// Chunks held, over all pages.
-    pub chunks: u32,
-    /// Dynamic pages that are allocated.
-    pub pages: u32,
-    /// Words in the journal of the bootloader heap.
-    pub heap_journal: u32,
-    /// Words in the journal of the bootloader aux heap.
-    pub aux_journal: u32,
-}
-
-/// A memory's four buffers, to look at. `docs/BUFFERS.md` tells what stands where.
-#[derive(Debug, Clone, Copy, PartialEq, Eq)]
-pub struct Buffers<'a> {
-    /// The chunks, then the old words of both journals.
-    pub bytes: &'a [u8],
-    /// Where each chunk is held, then the page of each entry.
-    pub keys: &'a [u64],
-    /// The two indexes, then the hints of the lookup.
-    pub order: &'a [u32],
-    /// The head of 16 numbers, then the notes of both journals.
-    pub words: &'a [u64],
-}
+#[cfg(feature = "tested")]
+use crate::checked::Checked;
+use crate::{
+    buffers::{Buffers, BuffersMut, Capacity, Lengths},
+    error::carried_out,
+    ffi, Error, Layout,
+};
 
 /// The four buffers, owned.
 #[derive(Debug)]
 pub(crate) struct Memory {
-    pub(crate) bytes: Box<[u8]>,
-    pub(crate) keys: Box<[u64]>,
-    pub(crate) order: Box<[u32]>,
-    pub(crate) words: Box<[u64]>,
+    bytes: Box<[u8]>,
+    keys: Box<[u64]>,
+    order: Box<[u32]>,
+    words: Box<[u64]>,
+}
+
+impl Memory {
+    pub(crate) fn open(layout: Layout, capacity: Capacity, calldata: &[u8]) -> Result<Self, Error> {
+        // With counts out of bounds the buffers are empty, whatever the counts are: the library
+        // tests the counts and refuses the opening.
+        let Lengths { bytes, keys, order, words } = capacity.lengths().unwrap_or_default();
+        let mut memory = Self {
+            bytes: vec![0; bytes].into(),
+            keys: vec![0; keys].into(),
+            order: vec![0; order].into(),
+            words: vec![0; words].into(),
+        };
+        carried_out(ffi::open(memory.buffers_mut(), layout.numbers(), capacity, calldata))?;
+        Ok(memory)
+    }
+
+    /// Opens the memory afresh, with the capacity that it has. A refusal leaves it as it was.
+    pub(crate) fn reopen(&mut self, layout: Layout, calldata: &[u8]) -> Result<(), Error> {
+        let capacity = self.buffers().capacity();
+        carried_out(ffi::open(self.buffers_mut(), layout.numbers(), capacity, calldata))
+    }
+
+    pub(crate) fn buffers(&self) -> Buffers<'_> {
+        let Self { bytes, keys, order, words } = self;
+        Buffers { bytes, keys, order, words }
+    }
+
+    /// For the library alone.
+    fn buffers_mut(&mut self) -> BuffersMut<'_> {
+        let Self { bytes, keys, order, words } = self;
+        BuffersMut { bytes, keys, order, words }
+    }
+
+    fn lengths(&self) -> Lengths {
+        let Self { bytes, keys, order, words } = self;
+        let [bytes, keys, order, words] = [bytes.len(), keys.len(), order.len(), words.len()];
+        Lengths { bytes, keys, order, words }
+    }
 }
 
 /// A copy into a memory of the same capacity takes no new space.
@@ -70,93 +87,26 @@ impl Clone for Memory {
     }
 
     fn clone_from(&mut self, source: &Self) {
-        self.bytes.clone_from(&source.bytes);
-        self.keys.clone_from(&source.keys);
-        self.order.clone_from(&source.order);
-        self.words.clone_from(&source.words);
+        if self.lengths() != source.lengths() {
+            *self = source.clone();
+            return;
+        }
+        // These cannot fail: the lengths are equal.
+        self.bytes.copy_from_slice(&source.bytes);
+        self.keys.copy_from_slice(&source.keys);
+        self.order.copy_from_slice(&source.order);
+        self.words.copy_from_slice(&source.words);
     }
 }
 
-// Numbers of the head.
-const STATIC_MEMORY: usize = 0;
-const CALLDATA: usize = 1;
-const BOOTLOADER_HEAP: usize = 2;
-const BOOTLOADER_AUX: usize = 3;
-const BASE: usize = 4;
-const STRIDE: usize = 5;
-const CHUNKS: usize = 6;
-const PAGES: usize = 7;
-const JOURNAL_WORDS: usize = 8;
-const HELD: usize = 9;
-const ENTRIES: usize = 10;
-const HEAP_JOURNAL: usize = 12;
-const AUX_JOURNAL: usize = 13;
-
-/// Entries of the fixed pages, which are always in use.
-const FIXED_ENTRIES: u32 = 4;
-
-impl Memory {
-    /// Buffers of the lengths that this capacity asks for. With counts out of bounds they are
-    /// empty, whatever the counts are: the library tests the counts and refuses the opening.
-    pub(crate) fn sized_for(capacity: Capacity) -> Self {
-        let [chunks, pages, words] = if capacity.is_within_bounds() {
-            [capacity.chunks, capacity.pages, capacity.journal_words].map(|count| count as usize)
-        } else {
-            return Self::with_lengths([0; 4]);
-        };
-        Self::with_lengths([
-            256 * chunks + 64 * words,
-            chunks + pages + 4,
-            3 * chunks + pages + 4,
-            16 + 6 * words,
-        ])
+/// With the feature `tested` every call tests the memory first, as if it were lent.
+#[cfg(feature = "tested")]
+impl Checked for Memory {
+    fn shown(&self) -> Buffers<'_> {
+        self.buffers()
     }
 
-    fn with_lengths([bytes, keys, order, words]: [usize; 4]) -> Self {
-        Self {
-            bytes: vec![0; bytes].into(),
-            keys: vec![0; keys].into(),
-            order: vec![0; order].into(),
-            words: vec![0; words].into(),
-        }
-    }
-
-    pub(crate) fn buffers(&self) -> Buffers<'_> {
-        let Self { bytes, keys, order, words } = self;
-        Buffers { bytes, keys, order, words }
-    }
-
-    /// A number of the head. Those that are asked for here have 32 bits in a memory that is well
-    /// formed, and every memory is.
-    fn head(&self, at: usize) -> u32 {
-        self.words[at] as u32
-    }
-
-    pub(crate) fn layout(&self) -> Layout {
-        Layout {
-            static_memory: PageId(self.head(STATIC_MEMORY)),
-            calldata: PageId(self.head(CALLDATA)),
-            bootloader_heap: PageId(self.head(BOOTLOADER_HEAP)),
-            bootloader_aux: PageId(self.head(BOOTLOADER_AUX)),
-            base: self.head(BASE),
-            stride: self.head(STRIDE),
-        }
-    }
-
-    pub(crate) fn capacity(&self) -> Capacity {
-        Capacity {
-            chunks: self.head(CHUNKS),
-            pages: self.head(PAGES),
-            journal_words: self.head(JOURNAL_WORDS),
-        }
-    }
-
-    pub(crate) fn usage(&self) -> Usage {
-        Usage {
-            chunks: self.head(HELD),
-            pages: self.head(ENTRIES) - FIXED_ENTRIES,
-            heap_journal: self.head(HEAP_JOURNAL),
-            aux_journal: self.head(AUX_JOURNAL),
-        }
+    fn lent(&mut self) -> BuffersMut<'_> {
+        self.buffers_mut()
     }
 }

@@ -1,12 +1,12 @@
 //! What the public interface does not show: outputs and frames of refused calls as the library
-//! leaves them, and memories that are not well formed. And edges of openings and quotes.
+//! leaves them. And memories that are not well formed, and edges of openings and quotes.
 
 use crate::{
-    ffi, memory::Memory, quote, Area, Capacity, Error, Frame, Heaps, Layout, Outcome, PageId,
-    Quote, Snapshot, Word,
+    buffers::BuffersMut, checked::Checked, ffi, quote, Area, Buffers, Capacity, Error, Frame,
+    Heaps, Layout, Lengths, Lent, Outcome, PageId, Quote, Snapshot, Word,
 };
 
-const LAYOUT: Layout = Layout {
+pub(crate) const LAYOUT: Layout = Layout {
     static_memory: PageId(1),
     calldata: PageId(4),
     bootloader_heap: PageId(5),
@@ -14,14 +14,16 @@ const LAYOUT: Layout = Layout {
     base: 64,
     stride: 8,
 };
-const CAPACITY: Capacity = Capacity { chunks: 4, pages: 2, journal_words: 3 };
-const HEAP: PageId = PageId(66);
+pub(crate) const CAPACITY: Capacity = Capacity { chunks: 4, pages: 2, journal_words: 3 };
+pub(crate) const HEAP: PageId = PageId(66);
+pub(crate) const FRAME: Frame =
+    Frame { gas: 100, heap: HEAP, aux: PageId(67), heap_bound: 0, aux_bound: 0, panicked: false };
 
 /// What stands in an output before a call.
 const OLD: u64 = 0x0123_4567_89ab_cdef;
 
 /// A memory with bytes on three pages, a dynamic page and journalled words.
-fn opened() -> Heaps {
+pub(crate) fn opened() -> Heaps {
     let mut heaps = Heaps::open(LAYOUT, CAPACITY, &[1, 2, 3]).unwrap();
     heaps.write_u256(LAYOUT.bootloader_heap, 0, Word::from(7)).unwrap();
     heaps.write_u256(LAYOUT.bootloader_heap, 16, Word::from(8)).unwrap();
@@ -29,8 +31,31 @@ fn opened() -> Heaps {
     heaps
 }
 
+/// Four buffers, to lend.
+#[derive(Debug, Clone, PartialEq)]
+struct Host {
+    bytes: Vec<u8>,
+    keys: Vec<u64>,
+    order: Vec<u32>,
+    words: Vec<u64>,
+}
+
+impl Host {
+    fn of(Buffers { bytes, keys, order, words }: Buffers<'_>) -> Self {
+        Self { bytes: bytes.into(), keys: keys.into(), order: order.into(), words: words.into() }
+    }
+
+    fn lend(&mut self) -> Lent<'_> {
+        Lent::of(&mut self.bytes, &mut self.keys, &mut self.order, &mut self.words)
+    }
+
+    fn buffers_mut(&mut self) -> BuffersMut<'_> {
+        self.lend().memory
+    }
+}
+
 /// The ways to call the library that are lent a memory.
-type Call = fn(&mut Memory) -> u32;
+type Call = fn(BuffersMut<'_>) -> u32;
 
 fn operand(address: u32) -> crate::Operand {
     address.into()
@@ -61,13 +86,13 @@ fn put_bytes(call: impl FnOnce(&mut [u8; 256]) -> u32) -> u32 {
 }
 
 const READS: [Call; 7] = [
-    |memory| put(|out| ffi::read_u256(memory, 66, 0, out)),
-    |memory| put(|out| ffi::read_u256_partially(memory, 66, 0..32, out)),
-    |memory| put_bytes(|output| ffi::read_range_big_endian(memory, 66, 0..256, output)),
-    |memory| put(|out| ffi::read_byte(memory, 66, 0, out)),
-    |memory| put(|out| ffi::dynamic_len(memory, out)),
-    |memory| put(|out| ffi::snapshot(memory, out)),
-    |memory| put_bytes(|output| ffi::chunk(memory, 66, 0, output)),
+    |memory| put(|out| ffi::read_u256(memory.shown(), 66, 0, out)),
+    |memory| put(|out| ffi::read_u256_partially(memory.shown(), 66, 0..32, out)),
+    |memory| put_bytes(|output| ffi::read_range_big_endian(memory.shown(), 66, 0..256, output)),
+    |memory| put(|out| ffi::read_byte(memory.shown(), 66, 0, out)),
+    |memory| put(|out| ffi::dynamic_len(memory.shown(), out)),
+    |memory| put(|out| ffi::snapshot(memory.shown(), out)),
+    |memory| put_bytes(|output| ffi::chunk(memory.shown(), 66, 0, output)),
 ];
 
 const CHANGES: [Call; 9] = [
@@ -79,22 +104,58 @@ const CHANGES: [Call; 9] = [
     |memory| ffi::compact_to_window(memory, 66, 0, 0),
     |memory| ffi::truncate_dynamic_to(memory, 0),
     |memory| ffi::rollback(memory, 0, 0),
-    ffi::delete_history,
+    |memory| ffi::delete_history(memory),
 ];
 
 const INSTRUCTIONS: [Call; 5] = [
-    |memory| framed(|frame, out| ffi::load(memory, frame, false, operand(0), out)),
+    |memory| framed(|frame, out| ffi::load(memory.shown(), frame, false, operand(0), out)),
     |memory| framed(|frame, out| ffi::store(memory, frame, true, operand(0), [1; 4], None, out)),
     |memory| {
         let pointer = crate::Operand { tagged: true, ..operand(0) };
-        framed(|frame, out| ffi::load_pointer(memory, frame, pointer, out))
+        framed(|frame, out| ffi::load_pointer(memory.shown(), frame, pointer, out))
     },
-    |memory| framed(|frame, out| ffi::load_static(memory, frame, operand(0), out)),
+    |memory| framed(|frame, out| ffi::load_static(memory.shown(), frame, operand(0), out)),
     |memory| framed(|frame, out| ffi::store_static(memory, frame, operand(0), [1; 4], out)),
 ];
 
+/// The refusals of every public call on a memory, one after another.
+macro_rules! refusals {
+    ($memory:ident) => {{
+        let mut frame = FRAME;
+        let refusals = [
+            $memory.check().err(),
+            $memory.read_u256(HEAP, 0).err(),
+            $memory.read_u256_partially(HEAP, 0..32).err(),
+            $memory.read_range_big_endian(HEAP, 0..32).err(),
+            $memory.read_range_into(HEAP, 0..3, &mut [0; 3]).err(),
+            $memory.read_byte(HEAP, 0).err(),
+            $memory.chunk(HEAP, 0).err(),
+            $memory.dynamic_len().err(),
+            $memory.equal(&$memory).err(),
+            $memory.write_u256(HEAP, 0, Word::ZERO).err(),
+            $memory.write_bytes(HEAP, 0, &[]).err(),
+            $memory.allocate_at(PageId(74)).err(),
+            $memory.allocate_with_content_at(PageId(74), &[1]).err(),
+            $memory.deallocate(HEAP).err(),
+            $memory.compact_to_window(HEAP, 0, 0).err(),
+            $memory.truncate_dynamic_to(0).err(),
+            $memory.snapshot().err(),
+            $memory.rollback(Snapshot { heap: 0, aux: 0 }).err(),
+            $memory.delete_history().err(),
+            $memory.load(&mut frame, Area::Heap, 0.into()).err(),
+            $memory.store(&mut frame, Area::Heap, 0.into(), Word::ZERO, None).err(),
+            $memory.load_pointer(&mut frame, crate::Operand { tagged: true, ..0.into() }).err(),
+            $memory.load_static(&mut frame, 0.into()).err(),
+            $memory.store_static(&mut frame, 0.into(), Word::ZERO).err(),
+        ];
+        assert_eq!(frame, FRAME);
+        refusals
+    }};
+}
+pub(crate) use refusals;
+
 /// Ways to break a memory.
-const BREAKS: [fn(&mut Memory); 5] = [
+pub(crate) const BREAKS: [fn(BuffersMut<'_>); 5] = [
     |memory| memory.words[9] += 1,
     // A pooled chunk that is not zero: three are held.
     |memory| {
@@ -107,38 +168,106 @@ const BREAKS: [fn(&mut Memory); 5] = [
 
 #[test]
 fn every_call_refuses_a_memory_that_is_not_well_formed() {
+    let whole = opened();
     for (at, damage) in BREAKS.into_iter().enumerate() {
-        let mut broken = opened();
-        damage(&mut broken.memory);
+        let mut broken = Host::of(whole.buffers());
+        damage(broken.buffers_mut());
+        let before = broken.clone();
         for call in READS.into_iter().chain(CHANGES).chain(INSTRUCTIONS) {
-            let before = broken.clone();
-            assert_eq!(call(&mut broken.memory), 3, "damage {at}");
-            assert_eq!(before.buffers(), broken.buffers());
+            assert_eq!(call(broken.buffers_mut()), 3, "damage {at}");
+            assert_eq!(before, broken);
         }
-        let whole = opened();
-        assert_eq!(put(|out| ffi::compare(&whole.memory, &broken.memory, out)), 3);
-        assert_eq!(put(|out| ffi::compare(&broken.memory, &whole.memory, out)), 3);
-        assert_eq!(broken.read_byte(HEAP, 0), Err(Error::NotFormed));
+        let mut lent = broken.lend();
+        assert_eq!(refusals!(lent), [Some(Error::NotFormed); 24], "damage {at}");
+        assert_eq!(lent.layout(), Err(Error::NotFormed));
+        assert_eq!(lent.capacity(), Err(Error::NotFormed));
+        assert_eq!(lent.usage(), Err(Error::NotFormed));
+        let (whole, damaged) = (whole.buffers(), lent.buffers());
+        assert_eq!(put(|out| ffi::compare(whole, damaged, out)), 3);
+        assert_eq!(put(|out| ffi::compare(damaged, whole, out)), 3);
+        assert_eq!(whole.equal(damaged), Err(Error::NotFormed));
+        assert_eq!(before, broken);
     }
+}
+
+#[test]
+fn buffers_of_other_lengths_are_refused() {
+    for shorter in 0..4 {
+        let mut host = Host::of(opened().buffers());
+        match shorter {
+            0 => drop(host.bytes.pop()),
+            1 => drop(host.keys.pop()),
+            2 => drop(host.order.pop()),
+            _ => host.words.truncate(15),
+        }
+        let before = host.clone();
+        let mut lent = host.lend();
+        assert_eq!(refusals!(lent), [Some(Error::NotFormed); 24]);
+        assert_eq!(lent.layout(), Err(Error::NotFormed));
+        assert_eq!(lent.reopen(LAYOUT, CAPACITY, &[]), Err(Error::Sizes));
+        assert_eq!(host, before);
+    }
+    let (bytes, keys, order, words) = (&mut [], &mut [], &mut [], &mut []);
+    let mut empty = Lent::of(bytes, keys, order, words);
+    assert_eq!(refusals!(empty), [Some(Error::NotFormed); 24]);
+    assert_eq!(empty.usage(), Err(Error::NotFormed));
+}
+
+#[test]
+fn a_lent_memory_is_opened_in_buffers_with_any_contents() {
+    let Lengths { bytes, keys, order, words } = CAPACITY.lengths().unwrap();
+    let (mut bytes, mut keys) = (vec![7; bytes], vec![7; keys]);
+    let (mut order, mut words) = (vec![7; order], vec![7; words]);
+    let refused = Lent::open(
+        &mut bytes,
+        &mut keys,
+        &mut order,
+        &mut words,
+        Layout { stride: 3, ..LAYOUT },
+        CAPACITY,
+        &[],
+    );
+    assert_eq!(refused.err(), Some(Error::Layout));
+    assert!(words.iter().all(|word| *word == 7));
+    let mut lent =
+        Lent::open(&mut bytes, &mut keys, &mut order, &mut words, LAYOUT, CAPACITY, &[1, 2, 3])
+            .unwrap();
+    assert_eq!((lent.layout(), lent.capacity()), (Ok(LAYOUT), Ok(CAPACITY)));
+    lent.write_u256(LAYOUT.bootloader_heap, 0, Word::from(7)).unwrap();
+    lent.write_u256(LAYOUT.bootloader_heap, 16, Word::from(8)).unwrap();
+    lent.write_bytes(HEAP, 250, &[9; 4]).unwrap();
+    let owned = opened();
+    assert_eq!(lent.usage(), Ok(owned.usage()));
+    assert_eq!(lent.buffers().equal(owned.buffers()), Ok(true));
+    let other = Heaps::open(Layout { base: 72, ..LAYOUT }, CAPACITY, &[]).unwrap();
+    assert_eq!(lent.buffers().equal(other.buffers()), Err(Error::Layout));
 }
 
 #[test]
 fn a_refused_instruction_leaves_frame_and_output() {
     let heaps = opened();
     let pointer = crate::Operand { word: Word([0, u64::MAX << 32 | 1, 0, 0]), tagged: true };
-    assert_eq!(framed(|frame, out| ffi::load_pointer(&heaps.memory, frame, pointer, out)), 14);
+    assert_eq!(framed(|frame, out| ffi::load_pointer(heaps.buffers(), frame, pointer, out)), 14);
+    let mut frame = FRAME;
+    assert_eq!(heaps.load_pointer(&mut frame, pointer), Err(Error::Pointer));
+    assert_eq!(frame, FRAME);
     let hooked = |value: u64, page: u32| {
-        let mut heaps = opened();
+        let mut host = Host::of(heaps.buffers());
         let (mut frame, mut out) = ([100, page, 67, 0, 0, 0], [OLD; 10]);
-        let memory = &mut heaps.memory;
-        let value = [value, 0, 0, 0];
+        let (memory, value) = (host.buffers_mut(), [value, 0, 0, 0]);
         let status = ffi::store(memory, &mut frame, false, operand(0), value, Some(0), &mut out);
-        (status, frame, out, heaps)
+        (status, frame, out, host)
     };
-    for (value, page, number) in [(1 << 32, 66, 15), (1, 65, 4)] {
+    for (value, page, error) in [(1 << 32, 66, Error::HookValue), (1, 65, Error::Undecodable)] {
         let (status, frame, out, after) = hooked(value, page);
+        let number = error.number().into();
         assert_eq!((status, frame, out), (number, [100, page, 67, 0, 0, 0], [OLD; 10]));
-        assert_eq!(after.buffers(), heaps.buffers());
+        assert_eq!(after, Host::of(heaps.buffers()));
+        let given = Frame { heap: PageId(page), ..FRAME };
+        let (mut owned, mut frame) = (opened(), given);
+        let stored = owned.store(&mut frame, Area::Heap, 0.into(), Word::from(value), Some(0));
+        assert_eq!((stored, frame), (Err(error), given));
+        assert_eq!(owned.buffers(), heaps.buffers());
     }
 }
 
@@ -146,14 +275,28 @@ fn a_refused_instruction_leaves_frame_and_output() {
 fn a_panic_sets_the_frame_alone() {
     let heaps = opened();
     let (mut frame, mut out) = ([31, 66, 67, 0, 0, 0], [OLD; 10]);
-    let status = ffi::load(&heaps.memory, &mut frame, false, operand(0), &mut out);
+    let status = ffi::load(heaps.buffers(), &mut frame, false, operand(0), &mut out);
     assert_eq!((status, frame, out), (ffi::PANICKED, [0, 66, 67, 0, 0, 1], [OLD; 10]));
+    let mut frame = Frame { gas: 31, ..FRAME };
+    assert_eq!(heaps.load(&mut frame, Area::Heap, 0.into()), Ok(Outcome::Panicked));
+    assert_eq!(frame, Frame { gas: 0, panicked: true, ..FRAME });
+}
+
+#[test]
+fn a_hook_stops_a_store_that_was_carried_out() {
+    let mut heaps = opened();
+    let mut frame = FRAME;
+    let stored = heaps.store(&mut frame, Area::Heap, 64.into(), Word::from(5), Some(64));
+    assert_eq!(stored, Ok(Outcome::SuspendedOnHook { value: 5, next: 96.into() }));
+    assert_eq!(frame, Frame { gas: 4, heap_bound: 96, ..FRAME });
+    assert_eq!(heaps.read_u256(HEAP, 64), Ok(Word::from(5)));
 }
 
 #[test]
 fn outputs_of_refused_calls_are_as_they_were() {
     let heaps = opened();
-    assert_eq!(put(|out| ffi::read_u256_partially(&heaps.memory, 66, 0..33, out)), 8);
+    assert_eq!(put(|out| ffi::read_u256_partially(heaps.buffers(), 66, 0..33, out)), 8);
+    assert_eq!(heaps.read_u256_partially(HEAP, 0..33), Err(Error::Range));
     assert_eq!(put(|out| ffi::heap_page_from_base(u32::MAX, out)), 4);
     assert_eq!(put(|out| ffi::aux_heap_page_from_base(u32::MAX, out)), 4);
     assert_eq!(put(|out| ffi::base_page_from_heap(1, out)), 4);
@@ -278,7 +421,8 @@ fn a_clone_is_a_memory_of_its_own() {
     assert_eq!(heaps.equal(&copy), Ok(true));
     let mut larger = Heaps::open(LAYOUT, Capacity { chunks: 9, ..CAPACITY }, &[]).unwrap();
     larger.clone_from(&copy);
-    assert_eq!(larger.capacity(), CAPACITY);
+    assert_eq!((larger.capacity(), larger.check()), (CAPACITY, Ok(())));
+    assert_eq!(larger.buffers(), copy.buffers());
 }
 
 #[test]

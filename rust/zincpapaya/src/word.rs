@@ -15,6 +15,7 @@ use std::fmt;
 /// assert_eq!(format!("{word:#x}"), "0x1");
 /// ```
 #[derive(Clone, Copy, Default, PartialEq, Eq, Hash)]
+#[repr(C)]
 pub struct Word(
     /// The limbs, the lowest first.
     pub [u64; 4],

@@ -6,7 +6,8 @@ use native.Mathlib.Omega.{arith}
 use lib.Dec.{ltb}
 use borrow.Author.Needs.{needs}
 use Rattle.view.proofs.Missing.{missing-none}
-use Rattle.formed.proofs.Asks.{entry-few, pages-asked, slots-asked}
+use Rattle.formed.proofs.Asks.{entry-few, slots-asked}
+use Rattle.formed.proofs.Hints.{find-asked}
 use Rattle.checks.proofs.Ranges.{counted-lack, counted-has, over-pool, within-pool}
 use Rattle.checks.proofs.Tables.{held-at}
 use Rattle.store.specs.Mem.{mem}
@@ -17,54 +18,47 @@ use Rattle.checks.proofs.short_of_chunks.Statement.{statement}
 use Rattle.checks.proofs.short_of_chunks.Tie as tie
 
 abbrev Inv-loop : tie.InvT-loop
-Inv-loop bytes keys order words first count pool e missing₀ i₀ missing i =
+Inv-loop bytes keys order words page e first count pool missing₀ i₀ missing i =
     (i ≤ count) × (missing ≤ pool) × (missing ≡ spec.missing (holdsAt keys words e) first i)
 
 abbrev μ-loop : tie.MeasureT-loop
-μ-loop bytes keys order words first count pool e missing₀ i₀ missing i = count - i
+μ-loop bytes keys order words page e first count pool missing₀ i₀ missing i = count - i
 
 pool-count-requires : tie.Need-pool-count-requires Inv-loop μ-loop
 pool-count-requires c κs =
     let start = c .before .before .before .before in
     slots-asked (mem (start .args .bytes .now) (start .args .keys .now) (start .args .order .now) (start .args .words .now)) (start .pre .0)
 
-entry-of-requires : tie.Need-entry-of-requires Inv-loop μ-loop
-entry-of-requires c κs =
-    let start = c .before .before .before .before .before in
-    pages-asked (mem (start .args .bytes .now) (start .args .keys .now) (start .args .order .now) (start .args .words .now)) (start .pre .0)
-
 loop-holds : tie.Need-loop-holds Inv-loop μ-loop
 loop-holds c =
-    let start = c .before .before .before .before .before .before in
-    (search needs, search needs, sym (missing-none (holdsAt (start .args .keys .now) (start .args .words .now) (c .entry-of .result)) (start .args .first)))
+    let start = c .before .before .before .before .before in
+    (search needs, search needs, sym (missing-none (holdsAt (start .args .keys .now) (start .args .words .now) (start .args .e)) (start .args .first)))
 
 lacks-requires : tie.Need-lacks-requires Inv-loop μ-loop
 lacks-requires c κs =
-    let at-entry-of = c .before .before in
-    let start = at-entry-of .before .before .before .before .before .before in
+    let start = c .before .before .before .before .before .before .before in
     let m = mem (start .args .bytes .now) (start .args .keys .now) (start .args .order .now) (start .args .words .now) in
-    let e = entry-few m (start .pre .0) (start .args .page .0) in
-    let q = at-entry-of .entry-of .ensures in
-    (slots-asked m (start .pre .0), omega arith)
+    let l = entry-few m (start .pre .0) (start .args .page .0) in
+    let e = start .pre .1 in
+    (find-asked m (start .pre .0), omega arith, e)
 
 returns : tie.Need-returns Inv-loop μ-loop
 returns c =
     let at-lacks = c .before .before in
     let at-loop = at-lacks .before .before in
-    let at-entry-of = at-loop .before in
-    let start = at-entry-of .before .before .before .before .before .before in
+    let at-pool-count = at-loop .before in
+    let start = at-pool-count .before .before .before .before .before in
     let m = mem (start .args .bytes .now) (start .args .keys .now) (start .args .order .now) (start .args .words .now) in
-    let e = at-entry-of .entry-of .result in
-    over-pool (holdsAt (m .keys) (m .words) e) (start .args .first) _ (at-loop .loop .i) (at-lacks .lacks .ensures) (start .args .count) _ _ (at-lacks .before .loop-test .taken) (c .before .if1 .taken) (at-loop .loop .inv .2) (c .if2 .taken ∙ at-entry-of .before .pool-count .ensures)
-    ∙ ap (λ (has : ℕ → Bool). ltb (pool m) (spec.missing has (start .args .first) (start .args .count))) (held-at m (start .args .page .0) e (at-entry-of .entry-of .ensures))
+    over-pool (holdsAt (m .keys) (m .words) (start .args .e)) (start .args .first) _ (at-loop .loop .i) (at-lacks .lacks .ensures) (start .args .count) _ _ (at-lacks .before .loop-test .taken) (c .before .if1 .taken) (at-loop .loop .inv .2) (c .if2 .taken ∙ at-pool-count .pool-count .ensures)
+    ∙ ap (λ (has : ℕ → Bool). ltb (pool m) (spec.missing has (start .args .first) (start .args .count))) (held-at m (start .args .page .0) (start .args .e) (start .pre .1))
 
 loop-again : tie.Need-loop-again Inv-loop μ-loop
 loop-again c =
     let at-lacks = c .before in
     let at-loop = at-lacks .before .before in
-    let at-entry-of = at-loop .before in
-    let start = at-entry-of .before .before .before .before .before .before in
-    let has = holdsAt (start .args .keys .now) (start .args .words .now) (at-entry-of .entry-of .result) in
+    let at-pool-count = at-loop .before in
+    let start = at-pool-count .before .before .before .before .before in
+    let has = holdsAt (start .args .keys .now) (start .args .words .now) (start .args .e) in
     ⊎-elim
     (λ w. (omega (arith, at-lacks .before .loop-test .taken), omega (arith, w .1 .left, w .2, at-loop .loop .inv .1), w .2 ∙ counted-lack has (start .args .first) _ (at-loop .loop .i) (at-lacks .lacks .ensures) _ (w .0 .taken) (at-loop .loop .inv .2)))
     (λ w. (omega (arith, at-lacks .before .loop-test .taken), omega (arith, w .1, at-loop .loop .inv .1), w .1 ∙ counted-has has (start .args .first) _ (at-loop .loop .i) (at-lacks .lacks .ensures) _ (w .0 .left) (at-loop .loop .inv .2)))
@@ -73,12 +67,11 @@ loop-again c =
 returns-2 : tie.Need-returns-2 Inv-loop μ-loop
 returns-2 c =
     let at-loop = c .before in
-    let at-entry-of = at-loop .before in
-    let start = at-entry-of .before .before .before .before .before .before in
+    let at-pool-count = at-loop .before in
+    let start = at-pool-count .before .before .before .before .before in
     let m = mem (start .args .bytes .now) (start .args .keys .now) (start .args .order .now) (start .args .words .now) in
-    let e = at-entry-of .entry-of .result in
-    within-pool (holdsAt (m .keys) (m .words) e) (start .args .first) (start .args .count) (pool m) _ (at-loop .loop .i) (at-loop .loop .inv .0) (c .loop-test .left) (at-loop .loop .inv .2) (omega (arith, at-loop .loop .inv .1, at-entry-of .before .pool-count .ensures))
-    ∙ ap (λ (has : ℕ → Bool). ltb (pool m) (spec.missing has (start .args .first) (start .args .count))) (held-at m (start .args .page .0) e (at-entry-of .entry-of .ensures))
+    within-pool (holdsAt (m .keys) (m .words) (start .args .e)) (start .args .first) (start .args .count) (pool m) _ (at-loop .loop .i) (at-loop .loop .inv .0) (c .loop-test .left) (at-loop .loop .inv .2) (omega (arith, at-loop .loop .inv .1, at-pool-count .pool-count .ensures))
+    ∙ ap (λ (has : ℕ → Bool). ltb (pool m) (spec.missing has (start .args .first) (start .args .count))) (held-at m (start .args .page .0) (start .args .e) (start .pre .1))
 
 pub short-of-chunks-spec : {M : Type 1} → statement M
 short-of-chunks-spec =
@@ -87,7 +80,6 @@ short-of-chunks-spec =
     Inv-loop
     μ-loop
     pool-count-requires
-    entry-of-requires
     loop-holds
     (λ c. search needs)
     lacks-requires

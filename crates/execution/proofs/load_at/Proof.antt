@@ -16,13 +16,12 @@ returns c =
 returns-2 : tie.Need-returns-2
 returns-2 c =
     let at-carried-out = c in
-    let at-from-big-endian = at-carried-out .before in
-    let at-read-word = at-from-big-endian .before in
+    let at-read-word = at-carried-out .before in
     let at-low-u32 = at-read-word .before in
     let at-if1 = at-low-u32 .before in
     let start = at-if1 .before .before .before .before .before .before .before in
     let m = mem (start .args .bytes .now) (start .args .keys .now) (start .args .order .now) (start .args .words .now) in
-    load-done m (start .args .page .0) (operandOf (start .args .operand)) (start .args .step) (start .pre .1) (at-if1 .if1 .left) (at-low-u32 .low-u32 .result) (at-low-u32 .low-u32 .ensures) (start .pre .0) _ (at-read-word .read-word .result) (at-from-big-endian .from-big-endian .ensures) (at-read-word .read-word .ensures) _ (at-carried-out .carried-out .ensures .0) (at-carried-out .carried-out .ensures .1)
+    load-done m (start .args .page .0) (operandOf (start .args .operand)) (start .args .step) (start .pre .1) (at-if1 .if1 .left) (at-low-u32 .low-u32 .result) (at-low-u32 .low-u32 .ensures) (start .pre .0) _ (at-read-word .read-word .ensures) _ (at-carried-out .carried-out .ensures .0) (at-carried-out .carried-out .ensures .1)
 
 pub load-at-spec : {M : Type 1} → statement M
-load-at-spec = tie.close (tie.spec (λ c κs. search needs) returns (λ c κs. search needs) (λ c κs. c .before .before .before .before .before .before .before .before .pre .0) (λ c κs. search needs) (λ c κs. search needs) returns-2)
+load-at-spec = tie.close (tie.spec (λ c κs. search needs) returns (λ c κs. search needs) (λ c κs. c .before .before .before .before .before .before .before .before .pre .0) (λ c κs. search needs) returns-2)

@@ -1,56 +1,23 @@
-use Rattle.view.proofs.Refused.{refused-does, passed-formed, done-does}
-use Rattle.freeing.proofs.Calls.{truncate-refusals, truncate-passed, shorten-asked, truncated-shows}
-use Rattle.view.specs.Calls.{Call, nextOf}
-use Rattle.view.specs.Checks.{truncateChecks}
-use Rattle.view.specs.View.{settingOf, viewOf}
-use Rattle.store.specs.Mem.{mem}
-use mathlib.Core.Path.{sym, _∙_}
 use borrow.Author.Needs.{needs}
+use Rattle.index.proofs.Logic.{passed, failed}
+use Rattle.formed.proofs.Meaning.{well-formed-means}
+use Rattle.view.specs.Calls.{Call}
+use Rattle.view.proofs.Refused.{ill-does}
 use Rattle.freeing.proofs.truncate_dynamic_to.Statement.{statement}
 use Rattle.freeing.proofs.truncate_dynamic_to.Tie as tie
 
 returns : tie.Need-returns
 returns c =
     let at-if1 = c in
-    let at-truncate-refusal = at-if1 .before in
-    let start = at-truncate-refusal .before .before .before .before .before .before .before .before .before in
-    let m = mem (start .args .bytes .now) (start .args .keys .now) (start .args .order .now) (start .args .words .now) in
-    refused-does m (truncateChecks (viewOf m) (start .args .len)) (settingOf m) (nextOf (settingOf m) (Call.Truncate (start .args .len)) (viewOf m)) _ (at-truncate-refusal .truncate-refusal .ensures) (at-if1 .if1 .taken)
+    let at-well-formed = at-if1 .before in
+    let start = at-well-formed .before .before .before .before .before .before .before .before .before in
+    ill-does _ (Call.Truncate (start .args .len)) (failed (at-well-formed .well-formed .ensures) (at-if1 .if1 .taken))
 
-free-groups-requires : tie.Need-free-groups-requires
-free-groups-requires c κs =
+truncate-dynamic-to-requires : tie.Need-truncate-dynamic-to-requires
+truncate-dynamic-to-requires c κs =
     let at-if1 = c .before .before .before .before in
-    let at-truncate-refusal = at-if1 .before in
-    let start = at-truncate-refusal .before .before .before .before .before .before .before .before .before in
-    let m = mem (start .args .bytes .now) (start .args .keys .now) (start .args .order .now) (start .args .words .now) in
-    passed-formed m (truncateChecks (viewOf m) (start .args .len)) (settingOf m) (nextOf (settingOf m) (Call.Truncate (start .args .len)) (viewOf m)) (sym (at-truncate-refusal .truncate-refusal .ensures) ∙ at-if1 .if1 .left) .0
-
-shorten-requires : tie.Need-shorten-requires
-shorten-requires c κs =
-    let at-free-groups = c .before .before .before .before .before .before .before .before .before .before .before .before in
-    let at-if1 = at-free-groups .before .before .before .before .before in
-    let at-truncate-refusal = at-if1 .before in
-    let start = at-truncate-refusal .before .before .before .before .before .before .before .before .before in
-    let m = mem (start .args .bytes .now) (start .args .keys .now) (start .args .order .now) (start .args .words .now) in
-    let h = passed-formed m (truncateChecks (viewOf m) (start .args .len)) (settingOf m) (nextOf (settingOf m) (Call.Truncate (start .args .len)) (viewOf m)) (sym (at-truncate-refusal .truncate-refusal .ensures) ∙ at-if1 .if1 .left) in shorten-asked m (start .args .len) (truncate-passed (viewOf m) (start .args .len) (h .1)) _ (at-free-groups .free-groups .ensures)
-
-returns-2 : tie.Need-returns-2
-returns-2 c =
-    let at-shorten = c .before .before in
-    let at-free-groups = at-shorten .before .before .before .before .before .before .before .before .before .before .before .before .before in
-    let at-if1 = at-free-groups .before .before .before .before .before in
-    let at-truncate-refusal = at-if1 .before in
-    let start = at-truncate-refusal .before .before .before .before .before .before .before .before .before in
-    let m = mem (start .args .bytes .now) (start .args .keys .now) (start .args .order .now) (start .args .words .now) in
-    let h = passed-formed m (truncateChecks (viewOf m) (start .args .len)) (settingOf m) (nextOf (settingOf m) (Call.Truncate (start .args .len)) (viewOf m)) (sym (at-truncate-refusal .truncate-refusal .ensures) ∙ at-if1 .if1 .left) in done-does m (truncateChecks (viewOf m) (start .args .len)) (settingOf m) (nextOf (settingOf m) (Call.Truncate (start .args .len)) (viewOf m)) (truncate-refusals (viewOf m) (start .args .len)) (sym (at-truncate-refusal .truncate-refusal .ensures) ∙ at-if1 .if1 .left) (truncated-shows m (start .args .len) (truncate-passed (viewOf m) (start .args .len) (h .1)) _ (at-free-groups .free-groups .ensures) _ (at-shorten .shorten .ensures))
+    let at-well-formed = at-if1 .before in
+    well-formed-means _ (passed (at-well-formed .well-formed .ensures) (at-if1 .if1 .left))
 
 pub truncate-dynamic-to-spec : {M : Type 1} → statement M
-truncate-dynamic-to-spec =
-    tie.close
-    (tie.spec
-    (λ c κs. search needs) (λ c. search needs) (λ c. search needs) (λ c. search needs) (λ c. search needs)
-    returns
-    free-groups-requires
-    shorten-requires
-    (λ c. search needs) (λ c. search needs) (λ c. search needs) (λ c. search needs)
-    returns-2)
+truncate-dynamic-to-spec = tie.close (tie.spec (λ c κs. search needs) (λ c. search needs) (λ c. search needs) (λ c. search needs) (λ c. search needs) returns truncate-dynamic-to-requires (λ c. search needs) (λ c. search needs) (λ c. search needs) (λ c. search needs) (λ c. search needs))

@@ -1,30 +1,23 @@
 use borrow.Author.Needs.{needs}
-use Rattle.store.specs.Mem.{mem}
-use Rattle.history.proofs.History.{rollback-refused, rollback-asks, rollback-done}
+use Rattle.index.proofs.Logic.{passed, failed}
+use Rattle.formed.proofs.Meaning.{well-formed-means}
+use Rattle.view.specs.Calls.{Rollback}
+use Rattle.view.proofs.Refused.{ill-does}
 use Rattle.history.proofs.rollback.Statement.{statement}
 use Rattle.history.proofs.rollback.Tie as tie
 
 returns : tie.Need-returns
 returns c =
     let at-if1 = c in
-    let at-refusal = at-if1 .before in
-    let start = at-refusal .before .before .before .before .before .before .before in
-    rollback-refused (mem (start .args .bytes .now) (start .args .keys .now) (start .args .order .now) (start .args .words .now)) (start .args .heap) (start .args .aux) (at-refusal .rollback-refusal .result) (at-refusal .rollback-refusal .ensures) (at-if1 .if1 .taken)
+    let at-well-formed = at-if1 .before in
+    let start = at-well-formed .before .before .before .before .before .before .before in
+    ill-does _ (Rollback (start .args .heap) (start .args .aux)) (failed (at-well-formed .well-formed .ensures) (at-if1 .if1 .taken))
 
-roll-back-requires : tie.Need-roll-back-requires
-roll-back-requires c κs =
+rollback-requires : tie.Need-rollback-requires
+rollback-requires c κs =
     let at-if1 = c .before .before in
-    let at-refusal = at-if1 .before in
-    let start = at-refusal .before .before .before .before .before .before .before in
-    rollback-asks (mem (start .args .bytes .now) (start .args .keys .now) (start .args .order .now) (start .args .words .now)) (start .args .heap) (start .args .aux) (at-refusal .rollback-refusal .result) (at-refusal .rollback-refusal .ensures) (at-if1 .if1 .left)
-
-returns-2 : tie.Need-returns-2
-returns-2 c =
-    let at-roll-back = c .before .before .before .before in
-    let at-if1 = at-roll-back .before .before .before in
-    let at-refusal = at-if1 .before in
-    let start = at-refusal .before .before .before .before .before .before .before in
-    rollback-done (mem (start .args .bytes .now) (start .args .keys .now) (start .args .order .now) (start .args .words .now)) (start .args .heap) (start .args .aux) (at-refusal .rollback-refusal .result) (at-refusal .rollback-refusal .ensures) (at-if1 .if1 .left) _ (at-roll-back .roll-back .ensures)
+    let at-well-formed = at-if1 .before in
+    well-formed-means _ (passed (at-well-formed .well-formed .ensures) (at-if1 .if1 .left))
 
 pub rollback-spec : {M : Type 1} → statement M
-rollback-spec = tie.close (tie.spec (λ c κs. search needs) (λ c. search needs) (λ c. search needs) returns roll-back-requires (λ c. search needs) (λ c. search needs) returns-2)
+rollback-spec = tie.close (tie.spec (λ c κs. search needs) (λ c. search needs) (λ c. search needs) returns rollback-requires (λ c. search needs) (λ c. search needs) (λ c. search needs))

@@ -3,9 +3,8 @@ use Rattle.store.specs.Mem.{mem}
 use Rattle.formed.proofs.Meaning.{well-formed-means}
 use Rattle.view.specs.Calls.{LoadStatic}
 use Rattle.index.proofs.Logic.{passed, failed}
-use Rattle.checks.proofs.Chosen.{layout-asks}
 use Rattle.execution.specs.Executions.{operandOf}
-use Rattle.execution.proofs.Laws.{ill-runs, static-within, static-load-runs}
+use Rattle.execution.proofs.Laws.{ill-runs}
 use Rattle.instructions.proofs.load_static.Statement.{statement}
 use Rattle.instructions.proofs.load_static.Tie as tie
 
@@ -18,33 +17,11 @@ returns c =
     let m = mem (start .args .bytes .now) (start .args .keys .now) (start .args .order .now) (start .args .words .now) in
     ill-runs m (LoadStatic (start .args .frame) (operandOf (start .args .operand))) (start .args .frame) _ (failed (at-well-formed .well-formed .ensures) (at-if1 .if1 .taken)) (at-refused .refused .ensures .0) (at-refused .refused .ensures .1)
 
-static-page-requires : tie.Need-static-page-requires
-static-page-requires c κs =
+load-static-requires : tie.Need-load-static-requires
+load-static-requires c κs =
     let at-if1 = c in
     let at-well-formed = at-if1 .before in
-    let start = at-well-formed .before .before .before .before .before in
-    let m = mem (start .args .bytes .now) (start .args .keys .now) (start .args .order .now) (start .args .words .now) in
-    layout-asks m (well-formed-means m (passed (at-well-formed .well-formed .ensures) (at-if1 .if1 .left)))
-
-load-at-requires : tie.Need-load-at-requires
-load-at-requires c κs =
-    let at-reach-static = c in
-    let at-if1 = at-reach-static .before .before in
-    let at-well-formed = at-if1 .before in
-    let start = at-well-formed .before .before .before .before .before in
-    let m = mem (start .args .bytes .now) (start .args .keys .now) (start .args .order .now) (start .args .words .now) in
-    (well-formed-means m (passed (at-well-formed .well-formed .ensures) (at-if1 .if1 .left)), static-within m (start .args .frame) (operandOf (start .args .operand)) (at-reach-static .reach-static .result) (at-reach-static .reach-static .ensures))
-
-returns-2 : tie.Need-returns-2
-returns-2 c =
-    let at-load-at = c in
-    let at-reach-static = at-load-at .before in
-    let at-static-page = at-reach-static .before in
-    let at-if1 = at-static-page .before in
-    let at-well-formed = at-if1 .before in
-    let start = at-well-formed .before .before .before .before .before in
-    let m = mem (start .args .bytes .now) (start .args .keys .now) (start .args .order .now) (start .args .words .now) in
-    static-load-runs m (start .args .frame) (operandOf (start .args .operand)) (at-reach-static .reach-static .result) (at-reach-static .reach-static .ensures) (passed (at-well-formed .well-formed .ensures) (at-if1 .if1 .left)) (at-static-page .static-page .result .0) (at-static-page .static-page .ensures) (at-load-at .load-at .ensures)
+    well-formed-means _ (passed (at-well-formed .well-formed .ensures) (at-if1 .if1 .left))
 
 pub load-static-spec : {M : Type 1} → statement M
-load-static-spec = tie.close (tie.spec (λ c κs. search needs) (λ c κs. search needs) returns static-page-requires (λ c κs. search needs) load-at-requires returns-2)
+load-static-spec = tie.close (tie.spec (λ c κs. search needs) (λ c κs. search needs) returns load-static-requires (λ c. search needs))

@@ -12,7 +12,7 @@ use Rattle.write_steps.proofs.journal_found.Tie as tie
 journal-of-requires : tie.Need-journal-of-requires
 journal-of-requires c κs =
     let start = c .before .before .before .before .before in
-    layout-asks (mem (start .args .bytes .now) (start .args .keys .now) (start .args .order .now) (start .args .words .now)) (start .pre .formed) .0
+    layout-asks (mem (start .args .bytes .now) (start .args .keys .now) (start .args .order .now) (start .args .words .now)) (start .pre .found .formed) .0
 
 note-found-requires : tie.Need-note-found-requires
 note-found-requires c κs =

@@ -2,6 +2,8 @@ use mathlib.Core.Path.{refl}
 use native.Mathlib.Omega.{arith}
 use lib.ListN.{length}
 use borrow.Author.Needs.{needs}
+use Rattle.word.specs.Value.{value, wordBytes}
+use Rattle.word.proofs.Digits.{digits-long}
 use Rattle.store.specs.Mem.{mem}
 use Rattle.view.specs.View.{View}
 use Rattle.view.specs.Steps.{wordNotes}
@@ -41,8 +43,8 @@ returns c =
     let at-touched = at-prepare .before .before .before .before .before .before in
     let start = at-touched .before .before .before .before .before in
     let m = mem (start .args .bytes .now) (start .args .keys .now) (start .args .order .now) (start .args .words .now) in
-    let cleared = word-cleared m (start .args .page .0) (start .args .address .0) (at-touched .touched .result) (omega (arith, start .good .1 .1 .1 .1 .0)) (omega (arith, start .good .1 .1 .1 .1 .1 .0)) (start .pre) (at-touched .touched .ensures) (length (start .args .value)) (start .good .1 .1 .1 .1 .1 .1 .0 .1 .0 .1) in
-    write-done m (start .args .page .0) (start .args .address .0) (start .args .value) 1 (at-touched .touched .result) cleared (mem (start .args .bytes .now) (at-prepare .prepare .last .1 .0) (at-prepare .prepare .last .1 .1 .0) (at-prepare .prepare .last .1 .1 .1 .0)) (at-prepare .prepare .ensures) (λ (v : View). wordNotes v (start .args .page .0) (start .args .address .0)) (λ v w. word-notes-same v w (start .args .page .0) (start .args .address .0)) _ (at-write-held .write-held .ensures)
+    let cleared = word-cleared m (start .args .page .0) (start .args .address .0) (at-touched .touched .result) (omega (arith, start .good .1 .1 .1 .1 .0)) (omega (arith, start .good .1 .1 .1 .1 .1 .0)) (start .pre) (at-touched .touched .ensures) (length (wordBytes (value (start .args .word .limbs)))) (digits-long 32 (value (start .args .word .limbs))) in
+    write-done m (start .args .page .0) (start .args .address .0) (wordBytes (value (start .args .word .limbs))) 1 (at-touched .touched .result) cleared (mem (start .args .bytes .now) (at-prepare .prepare .last .1 .0) (at-prepare .prepare .last .1 .1 .0) (at-prepare .prepare .last .1 .1 .1 .0)) (at-prepare .prepare .ensures) (λ (v : View). wordNotes v (start .args .page .0) (start .args .address .0)) (λ v w. word-notes-same v w (start .args .page .0) (start .args .address .0)) _ (at-write-held .write-held .ensures)
 
 pub write-new-spec : {M : Type 1} → statement M
 write-new-spec = tie.close (tie.spec (λ c κs. omega (arith, c .before .before .before .before .good .1 .1 .1 .1 .1 .0)) cast-count prepare-requires write-held-requires (λ c. search needs) (λ c. search needs) (λ c. search needs) (λ c. search needs) returns)

@@ -1,39 +1,23 @@
-use mathlib.Core.Path.{sym, _∙_}
-use lib.ListN.{length}
 use borrow.Author.Needs.{needs}
-use Rattle.view.proofs.Refused.{next, refused-does, passed-formed, done-does}
-use Rattle.store.specs.Mem.{mem}
-use Rattle.view.specs.View.{settingOf, viewOf}
-use Rattle.view.specs.Checks.{allocateChecks}
-use Rattle.view.specs.Calls.{Call, nextOf}
-use Rattle.checks.proofs.Passed.{room-refusals}
+use Rattle.index.proofs.Logic.{passed, failed}
+use Rattle.formed.proofs.Meaning.{well-formed-means}
+use Rattle.view.specs.Calls.{Call}
+use Rattle.view.proofs.Refused.{ill-does}
 use Rattle.writes.proofs.allocate_with_content_at.Statement.{statement}
 use Rattle.writes.proofs.allocate_with_content_at.Tie as tie
 
 returns : tie.Need-returns
 returns c =
     let at-if1 = c in
-    let at-allocate-refusal = at-if1 .before in
-    let start = at-allocate-refusal .before .before .before .before .before .before .before .before .before .before in
-    let m = mem (start .args .bytes .now) (start .args .keys .now) (start .args .order .now) (start .args .words .now) in
-    refused-does m (allocateChecks (settingOf m) (viewOf m) (start .args .page .0) (length (start .args .contents .now))) (settingOf m) (nextOf (settingOf m) (Call.Allocate (start .args .page .0) (start .args .contents .now)) (viewOf m)) (at-allocate-refusal .allocate-refusal .result) (at-allocate-refusal .allocate-refusal .ensures) (at-if1 .if1 .taken)
+    let at-well-formed = at-if1 .before in
+    let start = at-well-formed .before .before .before .before .before .before .before .before .before .before in
+    ill-does _ (Call.Allocate (start .args .page .0) (start .args .contents .now)) (failed (at-well-formed .well-formed .ensures) (at-if1 .if1 .taken))
 
-fill-requires : tie.Need-fill-requires
-fill-requires c κs =
+allocate-with-content-at-requires : tie.Need-allocate-with-content-at-requires
+allocate-with-content-at-requires c κs =
     let at-if1 = c .before .before .before .before in
-    let at-allocate-refusal = at-if1 .before in
-    let start = at-allocate-refusal .before .before .before .before .before .before .before .before .before .before in
-    let m = mem (start .args .bytes .now) (start .args .keys .now) (start .args .order .now) (start .args .words .now) in
-    passed-formed m (allocateChecks (settingOf m) (viewOf m) (start .args .page .0) (length (start .args .contents .now))) (settingOf m) (nextOf (settingOf m) (Call.Allocate (start .args .page .0) (start .args .contents .now)) (viewOf m)) (sym (at-allocate-refusal .allocate-refusal .ensures) ∙ at-if1 .if1 .left)
-
-returns-2 : tie.Need-returns-2
-returns-2 c =
-    let at-fill = c .before .before .before .before .before .before .before .before in
-    let at-if1 = at-fill .before .before .before .before .before in
-    let at-allocate-refusal = at-if1 .before in
-    let start = at-allocate-refusal .before .before .before .before .before .before .before .before .before .before in
-    let m = mem (start .args .bytes .now) (start .args .keys .now) (start .args .order .now) (start .args .words .now) in
-    done-does m (allocateChecks (settingOf m) (viewOf m) (start .args .page .0) (length (start .args .contents .now))) (settingOf m) (nextOf (settingOf m) (Call.Allocate (start .args .page .0) (start .args .contents .now)) (viewOf m)) (next (next (next (room-refusals (settingOf m) (viewOf m) (start .args .page .0) 0 (length (start .args .contents .now)) 0)))) (sym (at-allocate-refusal .allocate-refusal .ensures) ∙ at-if1 .if1 .left) (at-fill .fill .ensures)
+    let at-well-formed = at-if1 .before in
+    well-formed-means _ (passed (at-well-formed .well-formed .ensures) (at-if1 .if1 .left))
 
 pub allocate-with-content-at-spec : {M : Type 1} → statement M
-allocate-with-content-at-spec = tie.close (tie.spec (λ c κs. search needs) (λ c. search needs) (λ c. search needs) (λ c. search needs) (λ c. search needs) returns fill-requires (λ c. search needs) (λ c. search needs) (λ c. search needs) (λ c. search needs) returns-2)
+allocate-with-content-at-spec = tie.close (tie.spec (λ c κs. search needs) (λ c. search needs) (λ c. search needs) (λ c. search needs) (λ c. search needs) returns allocate-with-content-at-requires (λ c. search needs) (λ c. search needs) (λ c. search needs) (λ c. search needs) (λ c. search needs))

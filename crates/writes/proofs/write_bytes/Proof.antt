@@ -1,40 +1,23 @@
-use mathlib.Core.Path.{sym, _∙_}
-use lib.ListN.{length}
 use borrow.Author.Needs.{needs}
-use Rattle.view.proofs.Refused.{next, refused-does, passed-formed, done-does}
-use Rattle.store.specs.Mem.{mem}
-use Rattle.view.specs.View.{settingOf, viewOf}
-use Rattle.view.specs.Checks.{byteWriteChecks}
-use Rattle.view.specs.Calls.{Call, nextOf}
-use Rattle.checks.proofs.Passed.{room-refusals}
-use Rattle.view.specs.Steps.{alignedCount}
+use Rattle.index.proofs.Logic.{passed, failed}
+use Rattle.formed.proofs.Meaning.{well-formed-means}
+use Rattle.view.specs.Calls.{Call}
+use Rattle.view.proofs.Refused.{ill-does}
 use Rattle.writes.proofs.write_bytes.Statement.{statement}
 use Rattle.writes.proofs.write_bytes.Tie as tie
 
 returns : tie.Need-returns
 returns c =
     let at-if1 = c in
-    let at-bytes-refusal = at-if1 .before in
-    let start = at-bytes-refusal .before .before .before .before .before .before .before .before .before .before in
-    let m = mem (start .args .bytes .now) (start .args .keys .now) (start .args .order .now) (start .args .words .now) in
-    refused-does m (byteWriteChecks (settingOf m) (viewOf m) (start .args .page .0) (start .args .start .0) (length (start .args .src .now))) (settingOf m) (nextOf (settingOf m) (Call.WriteBytes (start .args .page .0) (start .args .start .0) (start .args .src .now)) (viewOf m)) (at-bytes-refusal .bytes-refusal .result) (at-bytes-refusal .bytes-refusal .ensures) (at-if1 .if1 .taken)
+    let at-well-formed = at-if1 .before in
+    let start = at-well-formed .before .before .before .before .before .before .before .before .before .before in
+    ill-does _ (Call.WriteBytes (start .args .page .0) (start .args .start .0) (start .args .src .now)) (failed (at-well-formed .well-formed .ensures) (at-if1 .if1 .taken))
 
-write-range-requires : tie.Need-write-range-requires
-write-range-requires c κs =
+write-bytes-requires : tie.Need-write-bytes-requires
+write-bytes-requires c κs =
     let at-if1 = c .before .before .before .before in
-    let at-bytes-refusal = at-if1 .before in
-    let start = at-bytes-refusal .before .before .before .before .before .before .before .before .before .before in
-    let m = mem (start .args .bytes .now) (start .args .keys .now) (start .args .order .now) (start .args .words .now) in
-    passed-formed m (byteWriteChecks (settingOf m) (viewOf m) (start .args .page .0) (start .args .start .0) (length (start .args .src .now))) (settingOf m) (nextOf (settingOf m) (Call.WriteBytes (start .args .page .0) (start .args .start .0) (start .args .src .now)) (viewOf m)) (sym (at-bytes-refusal .bytes-refusal .ensures) ∙ at-if1 .if1 .left)
-
-returns-2 : tie.Need-returns-2
-returns-2 c =
-    let at-write-range = c .before .before .before .before .before .before .before .before in
-    let at-if1 = at-write-range .before .before .before .before .before in
-    let at-bytes-refusal = at-if1 .before in
-    let start = at-bytes-refusal .before .before .before .before .before .before .before .before .before .before in
-    let m = mem (start .args .bytes .now) (start .args .keys .now) (start .args .order .now) (start .args .words .now) in
-    done-does m (byteWriteChecks (settingOf m) (viewOf m) (start .args .page .0) (start .args .start .0) (length (start .args .src .now))) (settingOf m) (nextOf (settingOf m) (Call.WriteBytes (start .args .page .0) (start .args .start .0) (start .args .src .now)) (viewOf m)) (next (next (room-refusals (settingOf m) (viewOf m) (start .args .page .0) (start .args .start .0) (length (start .args .src .now)) (alignedCount (start .args .start .0) (length (start .args .src .now)))))) (sym (at-bytes-refusal .bytes-refusal .ensures) ∙ at-if1 .if1 .left) (at-write-range .write-range .ensures)
+    let at-well-formed = at-if1 .before in
+    well-formed-means _ (passed (at-well-formed .well-formed .ensures) (at-if1 .if1 .left))
 
 pub write-bytes-spec : {M : Type 1} → statement M
-write-bytes-spec = tie.close (tie.spec (λ c κs. search needs) (λ c. search needs) (λ c. search needs) (λ c. search needs) (λ c. search needs) returns write-range-requires (λ c. search needs) (λ c. search needs) (λ c. search needs) (λ c. search needs) returns-2)
+write-bytes-spec = tie.close (tie.spec (λ c κs. search needs) (λ c. search needs) (λ c. search needs) (λ c. search needs) (λ c. search needs) returns write-bytes-requires (λ c. search needs) (λ c. search needs) (λ c. search needs) (λ c. search needs) (λ c. search needs))

@@ -12,12 +12,11 @@ use Rattle.reads.proofs.on_formed.read_u256.Tie as tie
 
 returns : tie.Need-returns
 returns c =
-    let at-from-big-endian = c in
-    let at-read-word = at-from-big-endian .before in
+    let at-read-word = c in
     let start = at-read-word .before .before .before .before .before in
     let m = mem (start .args .bytes .now) (start .args .keys .now) (start .args .order .now) (start .args .words .now) in
-    read-done _ _ (value (at-from-big-endian .from-big-endian .result .limbs)) 0 refl
-    (on-formed m [] (bigEndian (run (viewOf m) (start .args .page .0) (start .args .address .0) 32)) (start .pre) ∙ ap done (sym (at-from-big-endian .from-big-endian .ensures ∙ ap bigEndian (at-read-word .read-word .ensures))))
+    read-done _ _ (value (at-read-word .read-word .result .limbs)) 0 refl
+    (on-formed m [] (bigEndian (run (viewOf m) (start .args .page .0) (start .args .address .0) 32)) (start .pre) ∙ ap done (sym (at-read-word .read-word .ensures)))
 
 pub read-u256-spec : {M : Type 1} → statement M
-read-u256-spec = tie.close (tie.spec (λ c κs. search needs) (λ c κs. search needs) returns)
+read-u256-spec = tie.close (tie.spec (λ c κs. search needs) returns)

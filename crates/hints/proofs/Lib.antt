@@ -1,0 +1,3 @@
+-- Copies: bytes that were copied to a local array.
+
+pub mod Copies

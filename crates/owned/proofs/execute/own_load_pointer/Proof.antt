@@ -1,0 +1,15 @@
+use Rattle.abi.proofs.Executing.{pointer-is}
+use Rattle.owned.proofs.Runs.{runs-as}
+use borrow.Author.Needs.{needs}
+use Rattle.owned.proofs.execute.own_load_pointer.Statement.{statement}
+use Rattle.owned.proofs.execute.own_load_pointer.Tie as tie
+
+returns : tie.Need-returns
+returns c =
+    let at-run = c .before in
+    let at-operand-of = at-run .before in
+    let at-frame-of = at-operand-of .before in
+    runs-as (pointer-is (at-frame-of .frame-of .ensures) (at-operand-of .operand-of .ensures)) (at-frame-of .frame-of .ensures) (c .report .ensures) (at-run .load-pointer .ensures)
+
+pub own-load-pointer-spec : {M : Type 1} → statement M
+own-load-pointer-spec = tie.close (tie.spec (λ c κs. search needs) (λ c κs. search needs) (λ c κs. search needs) (λ c κs. search needs) returns)

@@ -1,0 +1,47 @@
+-- What the structs mean that functions return, and the numbers that they are given.
+-- Assumes nothing.
+use mathlib.Core.Bool.{Bool}
+use Prim.Native.Nat.{ℕ, zero, suc}
+use Rattle.outcome.specs.Outcome.{Outcome, answered}
+use Rattle.state.specs.declared.Frame.{Frame}
+use Rattle.view.specs.Calls.{Value, verdict}
+use Rattle.execution.specs.declared.Execution.{Execution}
+use Rattle.execution.specs.declared.ExecutionStatus.{ExecutionStatus}
+use Rattle.execution.specs.declared.ExecutionStatus.the-variants.{Running, SuspendedOnHook, Panicked, Refused}
+use Rattle.owned.specs.declared.memory.Compared.{Compared}
+use Rattle.owned.specs.declared.execute.Ran.{Ran}
+
+-- a comparison
+abbrev pub comparedOutcome : Compared → Outcome Value
+comparedOutcome r = answered (r .refusal) (verdict (r .equal))
+
+-- ---- instructions
+abbrev pub frameOf : (gas heap aux heapBound auxBound : ℕ) → Bool → Frame
+frameOf gas heap aux heapBound auxBound panicked = record {
+  gas = gas;
+  heap = record { 0 = heap };
+  aux = record { 0 = aux };
+  «heap_bound» = heapBound;
+  «aux_bound» = auxBound;
+  panicked = panicked;
+}
+
+-- how it ended: 0 running, 1 suspended on the hook with the value n, 2 panicked, 3 refused with the number n
+abbrev pub statusFrom : (kind n : ℕ) → ExecutionStatus
+statusFrom zero n = Running
+statusFrom (suc zero) n = SuspendedOnHook n
+statusFrom (suc (suc zero)) n = Panicked
+statusFrom (suc (suc (suc k))) n = Refused n
+
+-- an execution that ended so
+abbrev pub withStatus : ExecutionStatus → Execution → Execution
+withStatus s x = record { status = s; word = x .word; operand = x .operand; frame = x .frame }
+
+-- THE EXECUTION that a `Ran` is
+abbrev pub executionOf : Ran → Execution
+executionOf r = record {
+  status = statusFrom (r .kind) (r .number);
+  word = r .word;
+  operand = record { word = r .operand; tagged = r .tagged };
+  frame = frameOf (r .gas) (r .heap) (r .aux) (r .«heap_bound») (r .«aux_bound») (r .panicked);
+}

@@ -1,0 +1,3 @@
+-- Answers: what the structs mean that functions return.
+
+pub mod Answers

@@ -1,0 +1,91 @@
+//! Heap loads and stores, each with an increment and without growth, against vm2's own handlers.
+//!
+//! vm2's handler takes its operand from a register and puts its results to registers. It also looks at predicate and mode,
+//! pays the fixed cost and moves the program counter: that is part of what is timed.
+
+use std::hint::black_box;
+
+use vm2_example::testonly::speed::Machine;
+use zincpapaya::{Area, Error, Frame, Heaps, Outcome, PageId, Word};
+
+use crate::{
+    both::{used, Both, WORD},
+    places::{heap, walk, Held, Walk},
+    times::{each, Times},
+};
+
+const PAGE: u32 = heap(0);
+
+const FRAME: Frame = Frame {
+    gas: 1000,
+    heap: PageId(PAGE),
+    aux: PageId(PAGE + 1),
+    heap_bound: u32::MAX,
+    aux_bound: u32::MAX,
+    panicked: false,
+};
+
+/// A page of both sides that holds as many chunks, and the addresses of a walk through it.
+fn sides(chunks: u32, order: Walk) -> (Machine, Heaps, Vec<u32>) {
+    let held = Held::by_one_page(chunks);
+    let mut machine = Machine::new(PAGE);
+    let ours = Both::holding(held).ours;
+    (0..chunks).for_each(|chunk| _ = machine.store(chunk * 256, [chunk.into(), PAGE.into(), 3, 4]));
+    (machine, ours, walk(held, order).into_iter().map(|(_, address)| address).collect())
+}
+
+#[inline]
+fn store(memory: &mut Heaps, frame: &mut Frame, address: u32) -> Result<Outcome, Error> {
+    memory.store(frame, Area::Heap, address.into(), Word(black_box(WORD)), None)
+}
+
+/// The word and the incremented operand of an instruction that was carried out.
+#[inline]
+fn results(outcome: &Result<Outcome, Error>) -> [&[u64; 4]; 2] {
+    match outcome {
+        Ok(Outcome::Running { word, next }) => [&word.0, &next.word.0],
+        _ => panic!("an instruction was not carried out"),
+    }
+}
+
+fn compare(machine: &mut Machine, ours: &Heaps, at: &[u32]) {
+    let mut frame = FRAME;
+    for &a in at {
+        let loaded = ours.load(&mut frame, Area::Heap, a.into());
+        assert_eq!(machine.load(a), results(&loaded), "address {a}");
+    }
+    assert_eq!((machine.gas(), FRAME), (frame.gas, frame));
+}
+
+pub fn loads(chunks: u32, order: Walk) -> Times {
+    let (mut machine, ours, at) = sides(chunks, order);
+    let mut frame = FRAME;
+    let times = Times::of(
+        at.len(),
+        || each(&at, |a| _ = machine.load(a).map(used)),
+        || {
+            each(&at, |a| {
+                let loaded = ours.load(&mut frame, Area::Heap, a.into());
+                _ = results(&loaded).map(used);
+            })
+        },
+    );
+    compare(&mut machine, &ours, &at);
+    times
+}
+
+pub fn stores(chunks: u32, order: Walk) -> Times {
+    let (mut machine, mut ours, at) = sides(chunks, order);
+    let mut frame = FRAME;
+    let times = Times::of(
+        at.len(),
+        || each(&at, |a| used(machine.store(a, black_box(WORD)))),
+        || each(&at, |a| used(results(&store(&mut ours, &mut frame, a))[1])),
+    );
+    for &a in &at {
+        let stored = store(&mut ours, &mut frame, a);
+        assert_eq!(machine.store(a, WORD), results(&stored)[1], "address {a}");
+    }
+    compare(&mut machine, &ours, &at);
+    times
+}

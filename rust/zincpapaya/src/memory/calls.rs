@@ -1,0 +1,389 @@
+//! The functions of `libowned.a`, which demand a memory that is well formed and do not test it, and
+//! the calls of a [`Memory`] over them.
+//!
+//! The demand is met by every [`Memory`]; the head of the parent module says why. What else is asked
+//! of a caller is what `ffi` tells, and it is met in the same way. Below, a memory that is *owned* is
+//! one that meets both: `&self` where the library only reads it, `&mut self` where it may change it.
+//! In debug builds every call makes the test all the same.
+
+use std::ops::Range;
+
+use super::Memory;
+use crate::{
+    error::{carried_out, refusal},
+    ffi::ZEROS,
+    methods::Calls,
+    Area, Error, Frame, Operand, Outcome, PageId, Snapshot, Word,
+};
+
+/// The word of a partial read, or a refusal.
+#[repr(C)]
+struct WordRead {
+    refusal: u32,
+    word: Word,
+}
+
+/// The lengths of both journals. The refusal is 0.
+#[repr(C)]
+struct Marks {
+    refusal: u32,
+    heap: u32,
+    aux: u32,
+}
+
+/// Whether two memories are equal, or a refusal.
+#[repr(C)]
+struct Compared {
+    refusal: u32,
+    equal: bool,
+}
+
+/// How an instruction ended, the frame that it leaves, the word that it read, and the operand plus 32.
+#[repr(C)]
+struct Ran {
+    word: Word,
+    operand: Word,
+    kind: u32,
+    number: u32,
+    gas: u32,
+    heap: u32,
+    aux: u32,
+    heap_bound: u32,
+    aux_bound: u32,
+    panicked: bool,
+    tagged: bool,
+}
+
+// The values of `Ran::kind`; the one that is left is 2, an EraVM panic.
+const RUNNING: u32 = 0;
+const SUSPENDED: u32 = 1;
+const REFUSED: u32 = 3;
+
+declare! {
+    reading fn own_well_formed() -> bool;
+    reading fn own_read_u256(page: u32, address: u32) -> Word;
+    reading fn own_read_u256_partially(page: u32, start: u32, end: u32) -> WordRead;
+    reading fn own_read_range_big_endian(
+        page: u32, start: u32, end: u32, output: *mut u8, output_len: usize,
+    ) -> u32;
+    reading fn own_read_byte(page: u32, address: u32) -> u8;
+    reading fn own_dynamic_len() -> u32;
+    reading fn own_snapshot() -> Marks;
+    reading fn own_chunk(
+        page: u32, number: u32, block: *const u8, block_len: usize,
+        output: *mut u8, output_len: usize,
+    ) -> u32;
+    reading fn own_compare(
+        other_bytes: *const u8, other_bytes_len: usize, other_keys: *const u64,
+        other_keys_len: usize, other_order: *const u32, other_order_len: usize,
+        other_words: *const u64, other_words_len: usize,
+    ) -> Compared;
+    writing fn own_write_u256(
+        page: u32, address: u32, limb0: u64, limb1: u64, limb2: u64, limb3: u64,
+    ) -> u32;
+    writing fn own_write_bytes(page: u32, start: u32, src: *const u8, src_len: usize) -> u32;
+    writing fn own_allocate_at(page: u32) -> u32;
+    writing fn own_allocate_with_content_at(
+        page: u32, content: *const u8, content_len: usize,
+    ) -> u32;
+    writing fn own_deallocate(page: u32) -> u32;
+    writing fn own_compact_to_window(page: u32, start: u32, length: u32) -> u32;
+    writing fn own_truncate_dynamic_to(len: u64) -> u32;
+    restoring fn own_rollback(heap: u64, aux: u64) -> u32;
+    forgetting fn own_delete_history() -> u32;
+    reading fn own_load(
+        gas: u32, heap: u32, aux: u32, heap_bound: u32, aux_bound: u32, panicked: bool,
+        in_aux: bool, x0: u64, x1: u64, x2: u64, x3: u64, tagged: bool,
+    ) -> Ran;
+    writing fn own_store(
+        gas: u32, heap: u32, aux: u32, heap_bound: u32, aux_bound: u32, panicked: bool,
+        in_aux: bool, x0: u64, x1: u64, x2: u64, x3: u64, tagged: bool,
+        limb0: u64, limb1: u64, limb2: u64, limb3: u64, hook: bool, hook_address: u32,
+    ) -> Ran;
+    reading fn own_load_pointer(
+        gas: u32, heap: u32, aux: u32, heap_bound: u32, aux_bound: u32, panicked: bool,
+        x0: u64, x1: u64, x2: u64, x3: u64, tagged: bool,
+    ) -> Ran;
+    reading fn own_load_static(
+        gas: u32, heap: u32, aux: u32, heap_bound: u32, aux_bound: u32, panicked: bool,
+        x0: u64, x1: u64, x2: u64, x3: u64, tagged: bool,
+    ) -> Ran;
+    writing fn own_store_static(
+        gas: u32, heap: u32, aux: u32, heap_bound: u32, aux_bound: u32, panicked: bool,
+        x0: u64, x1: u64, x2: u64, x3: u64, tagged: bool,
+        limb0: u64, limb1: u64, limb2: u64, limb3: u64,
+    ) -> Ran;
+}
+
+/// The test, in debug builds; nothing in others.
+macro_rules! test {
+    ($($memory:ident),*) => {
+        $(#[cfg(debug_assertions)]
+        $memory.check()?;)*
+    };
+}
+
+/// The same word, limb by limb, so that the compiler keeps four numbers and copies no struct.
+#[inline(always)]
+fn limbs(Word([w0, w1, w2, w3]): Word) -> Word {
+    Word([w0, w1, w2, w3])
+}
+
+impl Ran {
+    /// What the instruction leaves of its frame, and how it ended.
+    #[inline(always)]
+    fn told(self, frame: &mut Frame) -> Result<Outcome, Error> {
+        if self.kind == REFUSED {
+            return Err(refusal(self.number));
+        }
+        let (heap, aux) = (PageId(self.heap), PageId(self.aux));
+        let Self { gas, heap_bound, aux_bound, panicked, .. } = self;
+        let after = Frame { gas, heap, aux, heap_bound, aux_bound, panicked };
+        // Most instructions leave the frame as it was. Where it is not written, the next one need not
+        // wait for what this one returned.
+        if *frame != after {
+            *frame = after;
+        }
+        let next = Operand { word: limbs(self.operand), tagged: self.tagged };
+        Ok(match self.kind {
+            RUNNING => Outcome::Running { word: limbs(self.word), next },
+            SUSPENDED => Outcome::SuspendedOnHook { value: self.number, next },
+            _ => Outcome::Panicked,
+        })
+    }
+}
+
+impl Calls for Memory {
+    fn check(&self) -> Result<(), Error> {
+        // SAFETY: the test takes any buffers, and only reads them.
+        match unsafe { lend!(& self => own_well_formed()) } {
+            true => Ok(()),
+            false => Err(Error::NotFormed),
+        }
+    }
+
+    #[inline(always)]
+    fn read_u256(&self, page: PageId, address: u32) -> Result<Word, Error> {
+        test!(self);
+        // SAFETY: the memory is owned.
+        Ok(limbs(unsafe { lend!(& self => own_read_u256(page.0, address)) }))
+    }
+
+    fn read_u256_partially(
+        &self,
+        page: PageId,
+        Range { start, end }: Range<u32>,
+    ) -> Result<Word, Error> {
+        test!(self);
+        // SAFETY: the memory is owned.
+        let read = unsafe { lend!(& self => own_read_u256_partially(page.0, start, end)) };
+        carried_out(read.refusal)?;
+        Ok(read.word)
+    }
+
+    fn read_range_into(
+        &self,
+        page: PageId,
+        Range { start, end }: Range<u32>,
+        output: &mut [u8],
+    ) -> Result<(), Error> {
+        test!(self);
+        // SAFETY: the memory is owned, and `output`, of any length, is borrowed by `&mut`.
+        carried_out(unsafe {
+            lend!(& self => own_read_range_big_endian(
+                page.0, start, end, output.as_mut_ptr(), output.len(),
+            ))
+        })
+    }
+
+    fn read_byte(&self, page: PageId, address: u32) -> Result<u8, Error> {
+        test!(self);
+        // SAFETY: the memory is owned.
+        Ok(unsafe { lend!(& self => own_read_byte(page.0, address)) })
+    }
+
+    fn chunk(&self, page: PageId, number: u32) -> Result<[u8; 256], Error> {
+        test!(self);
+        let mut output = [0; 256];
+        // SAFETY: the memory is owned, the zeros are only read, and `output` is another array.
+        carried_out(unsafe {
+            lend!(& self => own_chunk(
+                page.0, number, ZEROS.as_ptr(), ZEROS.len(), output.as_mut_ptr(), output.len(),
+            ))
+        })?;
+        Ok(output)
+    }
+
+    fn dynamic_len(&self) -> Result<u64, Error> {
+        test!(self);
+        // SAFETY: the memory is owned.
+        Ok(unsafe { lend!(& self => own_dynamic_len()) }.into())
+    }
+
+    fn snapshot(&self) -> Result<Snapshot, Error> {
+        test!(self);
+        // SAFETY: the memory is owned.
+        let marks = unsafe { lend!(& self => own_snapshot()) };
+        carried_out(marks.refusal)?;
+        Ok(Snapshot { heap: marks.heap.into(), aux: marks.aux.into() })
+    }
+
+    fn equal(&self, other: &Self) -> Result<bool, Error> {
+        test!(self, other);
+        // SAFETY: both memories, which may be one, are owned.
+        let compared = unsafe {
+            lend!(& self => own_compare(
+                other.bytes.as_ptr(), other.bytes.len(), other.keys.as_ptr(), other.keys.len(),
+                other.order.as_ptr(), other.order.len(), other.words.as_ptr(), other.words.len(),
+            ))
+        };
+        carried_out(compared.refusal)?;
+        Ok(compared.equal)
+    }
+
+    #[inline(always)]
+    fn write_u256(&mut self, page: PageId, address: u32, value: Word) -> Result<(), Error> {
+        test!(self);
+        let [v0, v1, v2, v3] = value.0;
+        // SAFETY: the memory is owned.
+        carried_out(unsafe { lend!(mut self => own_write_u256(page.0, address, v0, v1, v2, v3)) })
+    }
+
+    fn write_bytes(&mut self, page: PageId, start: u32, bytes: &[u8]) -> Result<(), Error> {
+        test!(self);
+        // SAFETY: the memory is owned, and `bytes` is another slice.
+        carried_out(unsafe {
+            lend!(mut self => own_write_bytes(page.0, start, bytes.as_ptr(), bytes.len()))
+        })
+    }
+
+    fn allocate_at(&mut self, page: PageId) -> Result<(), Error> {
+        test!(self);
+        // SAFETY: the memory is owned.
+        carried_out(unsafe { lend!(mut self => own_allocate_at(page.0)) })
+    }
+
+    fn allocate_with_content_at(&mut self, page: PageId, content: &[u8]) -> Result<(), Error> {
+        test!(self);
+        // SAFETY: the memory is owned, and `content` is another slice.
+        carried_out(unsafe {
+            lend!(mut self => own_allocate_with_content_at(
+                page.0, content.as_ptr(), content.len(),
+            ))
+        })
+    }
+
+    fn deallocate(&mut self, page: PageId) -> Result<(), Error> {
+        test!(self);
+        // SAFETY: the memory is owned.
+        carried_out(unsafe { lend!(mut self => own_deallocate(page.0)) })
+    }
+
+    fn compact_to_window(&mut self, page: PageId, start: u32, length: u32) -> Result<(), Error> {
+        test!(self);
+        // SAFETY: the memory is owned.
+        carried_out(unsafe { lend!(mut self => own_compact_to_window(page.0, start, length)) })
+    }
+
+    fn truncate_dynamic_to(&mut self, len: u64) -> Result<(), Error> {
+        test!(self);
+        // SAFETY: the memory is owned.
+        carried_out(unsafe { lend!(mut self => own_truncate_dynamic_to(len)) })
+    }
+
+    fn rollback(&mut self, to: Snapshot) -> Result<(), Error> {
+        test!(self);
+        // SAFETY: the memory is owned.
+        carried_out(unsafe { lend!(mut self => own_rollback(to.heap, to.aux)) })
+    }
+
+    fn delete_history(&mut self) -> Result<(), Error> {
+        test!(self);
+        // SAFETY: the memory is owned.
+        carried_out(unsafe { lend!(mut self => own_delete_history()) })
+    }
+
+    #[inline(always)]
+    fn load(&self, frame: &mut Frame, area: Area, operand: Operand) -> Result<Outcome, Error> {
+        test!(self);
+        let Frame { gas, heap, aux, heap_bound, aux_bound, panicked } = *frame;
+        let Operand { word: Word([x0, x1, x2, x3]), tagged } = operand;
+        // SAFETY: the memory is owned.
+        let ran = unsafe {
+            lend!(& self => own_load(
+                gas, heap.0, aux.0, heap_bound, aux_bound, panicked, area.is_aux(),
+                x0, x1, x2, x3, tagged,
+            ))
+        };
+        ran.told(frame)
+    }
+
+    #[inline(always)]
+    fn store(
+        &mut self,
+        frame: &mut Frame,
+        area: Area,
+        operand: Operand,
+        value: Word,
+        hook: Option<u32>,
+    ) -> Result<Outcome, Error> {
+        test!(self);
+        let Frame { gas, heap, aux, heap_bound, aux_bound, panicked } = *frame;
+        let Operand { word: Word([x0, x1, x2, x3]), tagged } = operand;
+        let [v0, v1, v2, v3] = value.0;
+        // SAFETY: the memory is owned.
+        let ran = unsafe {
+            lend!(mut self => own_store(
+                gas, heap.0, aux.0, heap_bound, aux_bound, panicked, area.is_aux(),
+                x0, x1, x2, x3, tagged, v0, v1, v2, v3, hook.is_some(), hook.unwrap_or(0),
+            ))
+        };
+        ran.told(frame)
+    }
+
+    fn load_pointer(&self, frame: &mut Frame, operand: Operand) -> Result<Outcome, Error> {
+        test!(self);
+        let Frame { gas, heap, aux, heap_bound, aux_bound, panicked } = *frame;
+        let Operand { word: Word([x0, x1, x2, x3]), tagged } = operand;
+        // SAFETY: the memory is owned.
+        let ran = unsafe {
+            lend!(& self => own_load_pointer(
+                gas, heap.0, aux.0, heap_bound, aux_bound, panicked, x0, x1, x2, x3, tagged,
+            ))
+        };
+        ran.told(frame)
+    }
+
+    fn load_static(&self, frame: &mut Frame, operand: Operand) -> Result<Outcome, Error> {
+        test!(self);
+        let Frame { gas, heap, aux, heap_bound, aux_bound, panicked } = *frame;
+        let Operand { word: Word([x0, x1, x2, x3]), tagged } = operand;
+        // SAFETY: the memory is owned.
+        let ran = unsafe {
+            lend!(& self => own_load_static(
+                gas, heap.0, aux.0, heap_bound, aux_bound, panicked, x0, x1, x2, x3, tagged,
+            ))
+        };
+        ran.told(frame)
+    }
+
+    fn store_static(
+        &mut self,
+        frame: &mut Frame,
+        operand: Operand,
+        value: Word,
+    ) -> Result<Outcome, Error> {
+        test!(self);
+        let Frame { gas, heap, aux, heap_bound, aux_bound, panicked } = *frame;
+        let Operand { word: Word([x0, x1, x2, x3]), tagged } = operand;
+        let [v0, v1, v2, v3] = value.0;
+        // SAFETY: the memory is owned.
+        let ran = unsafe {
+            lend!(mut self => own_store_static(
+                gas, heap.0, aux.0, heap_bound, aux_bound, panicked, x0, x1, x2, x3, tagged,
+                v0, v1, v2, v3,
+            ))
+        };
+        ran.told(frame)
+    }
+}

@@ -1,0 +1,198 @@
+//! That `ffi.rs` declares every checked function as `include/zincpapaya.h` does, and
+//! `memory/calls.rs` every function of an owned memory as its source in Rattle does: arguments,
+//! results, and the structs among them.
+
+use std::collections::BTreeMap;
+
+use zincpapaya::Word;
+
+const HEADER: &str = include_str!("../../../include/zincpapaya.h");
+const FFI: &str = include_str!("../src/ffi.rs");
+
+const OWNED: [&str; 2] = [
+    include_str!("../../../crates/owned/src/memory.rt"),
+    include_str!("../../../crates/owned/src/execute.rt"),
+];
+const CALLS: &str = include_str!("../src/memory/calls.rs");
+
+/// Functions by name, each with the names and Rust types of its arguments, and its result.
+type Functions = BTreeMap<String, (Vec<Argument>, String)>;
+type Argument = (String, String);
+
+/// The four buffers with the types of their elements.
+const BUFFERS: [(&str, &str); 4] =
+    [("bytes", "u8"), ("keys", "u64"), ("order", "u32"), ("words", "u64")];
+
+/// Name, arguments and what follows, of each function that stands behind `before`.
+fn declarations<'a>(text: &'a str, before: &str, prefix: &str) -> Vec<[&'a str; 3]> {
+    let starts = text.match_indices(before).map(|(at, _)| &text[at + before.len()..]);
+    let parts = starts.filter(|rest| rest.starts_with(prefix));
+    parts
+        .map(|rest| {
+            let (name, rest) = rest.split_once('(').expect("arguments follow a name");
+            let (arguments, rest) = rest.split_once(')').expect("arguments end");
+            [name, arguments, rest]
+        })
+        .collect()
+}
+
+fn words(text: &str) -> Vec<&str> {
+    text.split_whitespace().collect()
+}
+
+/// What stands between commas.
+fn listed(text: &str) -> impl Iterator<Item = &str> {
+    text.split(',').map(str::trim).filter(|item| !item.is_empty())
+}
+
+/// A slice as two arguments.
+fn slice(name: &str, pointer: &str, element: &str) -> [Argument; 2] {
+    [(name.into(), format!("*{pointer} {element}")), (format!("{name}_len"), "usize".into())]
+}
+
+/// The name and the Rust type of an argument in C.
+fn from_c(argument: &str) -> Argument {
+    let argument = argument.replace('*', " * ");
+    let rust = |name| match name {
+        "uint8_t" => "u8",
+        "uint32_t" => "u32",
+        "uint64_t" => "u64",
+        "size_t" => "usize",
+        "bool" => "bool",
+        other => panic!("the type {other} is not known here"),
+    };
+    match words(&argument)[..] {
+        ["const", kind, "*", name] => (name.into(), format!("*const {}", rust(kind))),
+        [kind, "*", name] => (name.into(), format!("*mut {}", rust(kind))),
+        [kind, name] => (name.into(), rust(kind).into()),
+        _ => panic!("the argument '{argument}' is not read here"),
+    }
+}
+
+/// The header's functions, with the arguments of a memory written out.
+fn header() -> Functions {
+    let memory = |pointer: &str| {
+        let buffer = |(name, kind)| format!("{pointer}uint{kind}_t *{name}, size_t {name}_len");
+        BUFFERS.map(|(name, kind)| buffer((name, &kind[1..]))).join(", ")
+    };
+    let functions = declarations(HEADER, "uint32_t ", "zp_").into_iter();
+    let functions = functions.map(|[name, arguments, _]| {
+        let arguments = arguments
+            .replace("ZP_CONST_MEMORY", &memory("const "))
+            .replace("ZP_MEMORY", &memory(""));
+        (name.into(), (listed(&arguments).map(from_c).collect(), "u32".into()))
+    });
+    functions.collect()
+}
+
+/// The arguments that an argument in Rattle stands for.
+fn from_rattle(argument: &str) -> Vec<Argument> {
+    let (name, kind) = argument.split_once(':').expect("a name and a type");
+    let kind = kind.trim().replace("'a ", "");
+    let of_slice = |begin: &str| kind.strip_prefix(begin)?.strip_suffix(']');
+    match (of_slice("&["), of_slice("&mut [")) {
+        (Some(element), _) => slice(name, "const", element).into(),
+        (_, Some(element)) => slice(name, "mut", element).into(),
+        _ => vec![(name.into(), kind)],
+    }
+}
+
+/// The exported functions of the crate `owned`.
+fn owned() -> Functions {
+    let functions = OWNED.into_iter().flat_map(|text| declarations(text, "extern \"C\" fn ", ""));
+    let functions = functions.map(|[name, arguments, rest]| {
+        let name = name.trim_end_matches("<'a>");
+        let result = rest.trim_start().strip_prefix("->").expect("each returns something");
+        let result = words(result)[0].to_owned();
+        (name.into(), (listed(arguments).flat_map(from_rattle).collect(), result))
+    });
+    functions.collect()
+}
+
+/// The functions of a `declare!`, with the arguments of a memory written out.
+fn declared(text: &str, prefix: &str) -> Functions {
+    let sorts = [
+        ("plain", None),
+        ("reading", Some(["const"; 4])),
+        ("writing", Some(["mut"; 4])),
+        ("restoring", Some(["mut", "const", "const", "mut"])),
+        ("forgetting", Some(["const", "const", "const", "mut"])),
+    ];
+    let mut functions = Functions::new();
+    for (sort, pointers) in sorts {
+        let lent = pointers.into_iter().flatten().zip(BUFFERS);
+        let memory: Vec<_> =
+            lent.flat_map(|(pointer, (name, kind))| slice(name, pointer, kind)).collect();
+        for [name, arguments, rest] in declarations(text, &format!("    {sort} fn "), prefix) {
+            let more = listed(arguments).map(|argument| {
+                let (name, kind) = argument.split_once(':').expect("a name and a type");
+                (name.trim().to_owned(), words(kind).join(" "))
+            });
+            let arguments = memory.iter().cloned().chain(more).collect();
+            let result = rest.strip_prefix(" -> ").and_then(|rest| rest.split_once(';'));
+            let result = result.expect("a result").0.to_owned();
+            functions.insert(name.into(), (arguments, result));
+        }
+    }
+    functions
+}
+
+fn same(theirs: &Functions, ours: &Functions, least: usize) {
+    assert!(theirs.len() >= least);
+    assert!(theirs.keys().eq(ours.keys()), "{:?}\n{:?}", theirs.keys(), ours.keys());
+    for (name, function) in theirs {
+        assert_eq!(function, &ours[name], "{name}");
+    }
+}
+
+#[test]
+fn ffi_declares_what_the_header_does() {
+    same(&header(), &declared(FFI, "zp_"), 34);
+}
+
+#[test]
+fn calls_declares_what_the_crate_owned_exports() {
+    same(&owned(), &declared(CALLS, "own_"), 23);
+}
+
+/// The fields of a struct that is laid out as C does it.
+fn fields(text: &str, name: &str) -> Vec<Argument> {
+    let begin = format!("struct {name} {{");
+    let (before, rest) = text.split_once(&begin).expect("the struct is there");
+    let before = before.trim_end().trim_end_matches("pub").trim_end();
+    assert!(before.ends_with("#[repr(C)]"), "{name}");
+    let lines = rest.split_once('}').expect("the struct ends").0.lines().map(str::trim);
+    let fields = lines.filter(|line| !line.is_empty() && !line.starts_with("//"));
+    fields
+        .map(|line| {
+            let (name, kind) = line.split_once(": ").expect("a name and a type");
+            (name.trim_start_matches("pub ").into(), kind.trim_end_matches(',').into())
+        })
+        .collect()
+}
+
+#[test]
+fn structs_have_the_fields_that_they_have_in_rattle() {
+    let [memory, execute] = OWNED;
+    let reads = include_str!("../../../crates/reads/src/lib.rt");
+    let structs = [(reads, "WordRead"), (reads, "Marks"), (memory, "Compared"), (execute, "Ran")];
+    for (text, name) in structs {
+        assert_eq!(fields(text, name), fields(CALLS, name), "{name}");
+    }
+    let word = fields(include_str!("../../../crates/word/src/lib.rt"), "Word");
+    assert_eq!(word, [("limbs".to_owned(), "[u64; 4]".to_owned())]);
+    let Word(limbs) = Word::ZERO;
+    let _: [u64; 4] = limbs;
+    assert!(include_str!("../src/word.rs").contains("#[repr(C)]\npub struct Word("));
+}
+
+#[test]
+fn ends_of_instructions_have_their_numbers() {
+    let constants = |text: &'static str| {
+        let lines = text.lines().map(|line| line.trim_start_matches("pub "));
+        lines.filter(|line| line.starts_with("const ")).collect::<Vec<_>>()
+    };
+    let (rattle, ours) = (constants(OWNED[1]), constants(CALLS));
+    assert_eq!((rattle.len(), ours.len()), (4, 3));
+    assert!(ours.iter().all(|constant| rattle.contains(constant)), "{rattle:?}\n{ours:?}");
+}

@@ -22,9 +22,10 @@ pub struct Snapshot {
 ///
 /// Nobody else can write to the buffers, and the library proves that every call leaves them well
 /// formed. So no call tests them, and none is refused with [`Error::NotFormed`]. Debug builds make
-/// the test at every call all the same, and so does the feature `tested` in all builds;
-/// [`check`](Self::check) makes it whenever it is called. For buffers that others can write to there
-/// is [`Lent`](crate::Lent).
+/// the test all the same, and so does the feature `tested` in all builds: at every call but
+/// [`reopen`](Self::reopen), [`layout`](Self::layout), [`capacity`](Self::capacity),
+/// [`usage`](Self::usage) and [`buffers`](Self::buffers). [`check`](Self::check) makes it whenever it
+/// is called. For buffers that others can write to there is [`Lent`](crate::Lent).
 ///
 /// ```
 /// use zincpapaya::{Capacity, Error, Heaps, Layout, PageId, Word};

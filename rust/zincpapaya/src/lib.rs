@@ -35,7 +35,7 @@
 //!
 //! | | [`Heaps`] | [`Lent`] |
 //! |---|---|---|
-//! | the four buffers | are its own: nobody else can write to them | are lent by the host, and others may write to them between calls |
+//! | the four buffers | are its own: nobody else can write to them | are lent by the host, and others may write to them while they are not lent |
 //! | a call | makes no test, since the library proves that every call leaves the memory well formed | tests the whole memory first, and may be refused with [`Error::NotFormed`] |
 //! | a word read or write takes | some nanoseconds | half a microsecond in a memory of 128 chunks, half a millisecond in one of 65,536 |
 //!
@@ -43,8 +43,10 @@
 //! So the test can be had for [`Heaps`] as well:
 //!
 //! - [`Heaps::check`] makes it, whenever it is called.
-//! - In debug builds, where `debug_assertions` are on, every call makes it.
-//! - With the feature `tested` every call makes it in all builds: they are then the calls of [`Lent`],
+//! - In debug builds, where `debug_assertions` are on, every call makes it but [`Heaps::reopen`],
+//!   [`layout`](Heaps::layout), [`capacity`](Heaps::capacity), [`usage`](Heaps::usage) and
+//!   [`buffers`](Heaps::buffers).
+//! - With the feature `tested` the same calls make it in all builds: they are then those of [`Lent`],
 //!   and `libowned.a` is not linked.
 //!
 //! # Words

@@ -1,17 +1,23 @@
 //! The memory that [`Heaps`](crate::Heaps) owns. Its four buffers are private to this module and to
-//! its child `calls`, which has the calls that do not test them.
+//! its child `calls`, which has the functions that do not test them. A second child, `tests`, damages
+//! memories; only test builds have it.
 //!
-//! Those calls demand a memory that is well formed. Every [`Memory`] is:
+//! The functions of `calls`, all but the opening and the test, demand a memory that is well formed.
+//! Every [`Memory`] is:
 //!
 //! - It comes from an opening that was accepted, or is a clone of one that does. Where the opening
 //!   is refused, no value leaves this module.
-//! - Only the library writes to its buffers: an opening, which is carried out whole or changes
-//!   nothing, and the calls of `calls`. The library proves that all of them leave a memory that is
-//!   well formed (`docs/PROOF.md`), and keeps no pointer.
-//! - Nothing else is lent a buffer by `&mut`: `ffi::open` hands them to the library and does no more.
-//!   What [`Memory::buffers`] gives is shared, and can be used no more when the next change begins.
+//! - Its buffers are written by whole copies of another [`Memory`] and by the library's own
+//!   functions, in `calls`: the opening, which is carried out whole or changes nothing, and the
+//!   calls. The library proves that all of them leave a memory that is well formed
+//!   (`docs/PROOF.md`), and keeps no pointer.
+//! - No other module is lent a buffer by `&mut`. What [`Memory::buffers`] gives is shared, and can be
+//!   used no more when the next change begins.
 //! - A clone has all four, and `clone_from` puts all four in place or none: nothing can fail between
 //!   the first and the last.
+//!
+//! With the feature `tested` there is no `calls`, and nothing rests on this list: `ffi` and `checked`
+//! are lent the buffers by `&mut`, and the functions that they call demand nothing of a memory.
 
 #[cfg(not(feature = "tested"))]
 #[allow(unsafe_code)]
@@ -19,13 +25,14 @@ mod calls;
 #[cfg(test)]
 mod tests;
 
-#[cfg(feature = "tested")]
-use crate::checked::Checked;
+#[cfg(any(test, feature = "tested"))]
+use crate::buffers::BuffersMut;
 use crate::{
-    buffers::{Buffers, BuffersMut, Capacity, Lengths},
-    error::carried_out,
-    ffi, Error, Layout,
+    buffers::{Buffers, Capacity, Lengths},
+    Error, Layout,
 };
+#[cfg(feature = "tested")]
+use crate::{checked::Checked, error::carried_out, ffi};
 
 /// The four buffers, owned.
 #[derive(Debug)]
@@ -47,14 +54,14 @@ impl Memory {
             order: vec![0; order].into(),
             words: vec![0; words].into(),
         };
-        carried_out(ffi::open(memory.buffers_mut(), layout.numbers(), capacity, calldata))?;
+        memory.start(layout, capacity, calldata)?;
         Ok(memory)
     }
 
     /// Opens the memory afresh, with the capacity that it has. A refusal leaves it as it was.
     pub(crate) fn reopen(&mut self, layout: Layout, calldata: &[u8]) -> Result<(), Error> {
         let capacity = self.buffers().capacity();
-        carried_out(ffi::open(self.buffers_mut(), layout.numbers(), capacity, calldata))
+        self.start(layout, capacity, calldata)
     }
 
     pub(crate) fn buffers(&self) -> Buffers<'_> {
@@ -62,7 +69,8 @@ impl Memory {
         Buffers { bytes, keys, order, words }
     }
 
-    /// For the library alone.
+    /// For the functions that test a memory first, and for tests that damage one.
+    #[cfg(any(test, feature = "tested"))]
     fn buffers_mut(&mut self) -> BuffersMut<'_> {
         let Self { bytes, keys, order, words } = self;
         BuffersMut { bytes, keys, order, words }
@@ -96,6 +104,14 @@ impl Clone for Memory {
         self.keys.copy_from_slice(&source.keys);
         self.order.copy_from_slice(&source.order);
         self.words.copy_from_slice(&source.words);
+    }
+}
+
+/// With the feature `tested` the memory is opened as if it were lent.
+#[cfg(feature = "tested")]
+impl Memory {
+    fn start(&mut self, layout: Layout, capacity: Capacity, calldata: &[u8]) -> Result<(), Error> {
+        carried_out(ffi::open(self.buffers_mut(), layout.numbers(), capacity, calldata))
     }
 }
 

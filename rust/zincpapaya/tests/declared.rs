@@ -152,7 +152,7 @@ fn ffi_declares_what_the_header_does() {
 
 #[test]
 fn calls_declares_what_the_crate_owned_exports() {
-    same(&owned(), &declared(CALLS, "own_"), 23);
+    same(&owned(), &declared(CALLS, "own_"), 24);
 }
 
 /// The fields of a struct that is laid out as C does it.

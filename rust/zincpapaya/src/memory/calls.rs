@@ -1,19 +1,20 @@
-//! The functions of `libowned.a`, which demand a memory that is well formed and do not test it, and
-//! the calls of a [`Memory`] over them.
+//! The functions of `libowned.a`, and the opening and the calls of a [`Memory`] over them. All but the
+//! opening and the test demand a memory that is well formed, and do not test it.
 //!
 //! The demand is met by every [`Memory`]; the head of the parent module says why. What else is asked
 //! of a caller is what `ffi` tells, and it is met in the same way. Below, a memory that is *owned* is
 //! one that meets both: `&self` where the library only reads it, `&mut self` where it may change it.
-//! In debug builds every call makes the test all the same.
+//! In debug builds every call of [`Calls`] makes the test all the same.
 
 use std::ops::Range;
 
 use super::Memory;
 use crate::{
+    buffers::Capacity,
     error::{carried_out, refusal},
     ffi::ZEROS,
     methods::Calls,
-    Area, Error, Frame, Operand, Outcome, PageId, Snapshot, Word,
+    Area, Error, Frame, Layout, Operand, Outcome, PageId, Snapshot, Word,
 };
 
 /// The word of a partial read, or a refusal.
@@ -54,13 +55,18 @@ struct Ran {
     tagged: bool,
 }
 
-// The values of `Ran::kind`; the one that is left is 2, an EraVM panic.
+// The values of `Ran::kind`: 2 is an EraVM panic, and all from 3 up mean that it was refused.
 const RUNNING: u32 = 0;
 const SUSPENDED: u32 = 1;
 const REFUSED: u32 = 3;
 
 declare! {
     reading fn own_well_formed() -> bool;
+    writing fn own_open(
+        static_memory: u32, calldata_page: u32, bootloader_heap: u32, bootloader_aux: u32,
+        base: u32, stride: u32, chunks: u32, pages: u32, journal_words: u32,
+        calldata: *const u8, calldata_len: usize,
+    ) -> u32;
     reading fn own_read_u256(page: u32, address: u32) -> Word;
     reading fn own_read_u256_partially(page: u32, start: u32, end: u32) -> WordRead;
     reading fn own_read_range_big_endian(
@@ -133,7 +139,7 @@ impl Ran {
     /// What the instruction leaves of its frame, and how it ended.
     #[inline(always)]
     fn told(self, frame: &mut Frame) -> Result<Outcome, Error> {
-        if self.kind == REFUSED {
+        if self.kind >= REFUSED {
             return Err(refusal(self.number));
         }
         let (heap, aux) = (PageId(self.heap), PageId(self.aux));
@@ -149,6 +155,27 @@ impl Ran {
             RUNNING => Outcome::Running { word: limbs(self.word), next },
             SUSPENDED => Outcome::SuspendedOnHook { value: self.number, next },
             _ => Outcome::Panicked,
+        })
+    }
+}
+
+impl Memory {
+    /// Opens the memory, whatever its buffers hold. A refusal leaves them as they were.
+    pub(super) fn start(
+        &mut self,
+        layout: Layout,
+        Capacity { chunks, pages, journal_words }: Capacity,
+        calldata: &[u8],
+    ) -> Result<(), Error> {
+        let [static_memory, calldata_page, bootloader_heap, bootloader_aux, base, stride] =
+            layout.numbers();
+        // SAFETY: an opening takes any buffers. They are borrowed by `&mut`, and `calldata` is another
+        // slice.
+        carried_out(unsafe {
+            lend!(mut self => own_open(
+                static_memory, calldata_page, bootloader_heap, bootloader_aux, base, stride,
+                chunks, pages, journal_words, calldata.as_ptr(), calldata.len(),
+            ))
         })
     }
 }

@@ -6,3 +6,4 @@ pub mod Kept
 pub mod Pieces
 pub mod Puts
 pub mod Words
+pub mod Walks

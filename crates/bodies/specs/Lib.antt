@@ -1,2 +1,3 @@
--- The definitions that the contracts of this crate cite.
+-- The definitions that the contracts of this crate and of those above it cite.
 pub mod Words
+pub mod Walk

@@ -6,3 +6,4 @@ pub mod Journals
 pub mod Numbers
 pub mod Passed
 pub mod Chosen
+pub mod One

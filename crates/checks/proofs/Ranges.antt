@@ -1,11 +1,11 @@
 -- How many chunks and words a range touches.
 -- Assumes nothing.
 use mathlib.Core.Path.{_≡_, refl, sym, ap, _∙_}
-use mathlib.Core.Bool.{Bool, true, false, cond, not}
+use mathlib.Core.Bool.{Bool, true, false, cond}
 use Prim.Native.Nat.{ℕ, zero, suc, _+_, _-_, _/_, _≤_, _<_}
 use native.Mathlib.Omega.{arith}
 use lib.Dec.{ltb}
-use borrow.Author.Tests.{lt-ltb, le-ltb, not-false, not-true}
+use borrow.Author.Tests.{lt-ltb, le-ltb}
 use Rattle.view.proofs.Missing.{missing-more, missing-le}
 use Rattle.view.specs.Steps.{touchedCount, alignedCount, missing}
 
@@ -18,23 +18,23 @@ aligned-some a zero e = absurd (e refl)
 aligned-some a (suc n) e = let q : suc n - 1 ≡ n = omega arith in ap (λ (x : ℕ). (a + x) / 32 - a / 32 + 1) q
 
 -- ---- counting the missing chunks, stopping where there are more than n
-module _ (has : ℕ → Bool) (k : ℕ) (lacks : Bool) (i : ℕ) (is : lacks ≡ not (has (k + i))) where
-  count-lack : lacks ≡ true → missing has k (i + 1) ≡ missing has k i + 1
-  count-lack t = missing-more has k i ∙ ap (λ (b : Bool). missing has k i + cond b 0 1) (not-true (has (k + i)) (sym is ∙ t))
+module _ (has : ℕ → Bool) (k i : ℕ) where
+  count-lack : has (k + i) ≡ false → missing has k (i + 1) ≡ missing has k i + 1
+  count-lack t = missing-more has k i ∙ ap (λ (b : Bool). missing has k i + cond b 0 1) t
 
-  count-has : lacks ≡ false → missing has k (i + 1) ≡ missing has k i
-  count-has t = missing-more has k i ∙ ap (λ (b : Bool). missing has k i + cond b 0 1) (not-false (has (k + i)) (sym is ∙ t)) ∙ none (missing has k i)
+  count-has : has (k + i) ≡ true → missing has k (i + 1) ≡ missing has k i
+  count-has t = missing-more has k i ∙ ap (λ (b : Bool). missing has k i + cond b 0 1) t ∙ none (missing has k i)
     where
       none : (n : ℕ) → n + 0 ≡ n
       none n = omega arith
 
-  pub counted-lack : (n : ℕ) → lacks ≡ true → n ≡ missing has k i → n + 1 ≡ missing has k (i + 1)
+  pub counted-lack : (n : ℕ) → has (k + i) ≡ false → n ≡ missing has k i → n + 1 ≡ missing has k (i + 1)
   counted-lack n t e = ap (λ (x : ℕ). x + 1) e ∙ sym (count-lack t)
 
-  pub counted-has : (n : ℕ) → lacks ≡ false → n ≡ missing has k i → n ≡ missing has k (i + 1)
+  pub counted-has : (n : ℕ) → has (k + i) ≡ true → n ≡ missing has k i → n ≡ missing has k (i + 1)
   counted-has n t e = e ∙ sym (count-has t)
 
-  pub over-pool : (count pool n : ℕ) → i < count → lacks ≡ true → n ≡ missing has k i → n ≡ pool → true ≡ ltb pool (missing has k count)
+  pub over-pool : (count pool n : ℕ) → i < count → has (k + i) ≡ false → n ≡ missing has k i → n ≡ pool → true ≡ ltb pool (missing has k count)
   over-pool count pool n l t e q =
       let a = count-lack t in
       let b = missing-le has k count (i + 1) (omega arith) in

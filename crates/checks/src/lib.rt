@@ -1,22 +1,21 @@
 // Which refusal a write to a well-formed memory or an allocation in it gets, or 0: the tests in the order of 01's table.
 ghost use mathlib.Core.Path.{_≡_};
 ghost use mathlib.Core.Bool.{true, not, _&&_};
-ghost use Prim.Native.Nat.{_+_, _<_, _≤_, _^_};
+ghost use Prim.Native.Nat.{_+_, _/_, _%_, _<_, _≤_, _^_};
 ghost use lib.Dec.{eqb, ltb};
 ghost use lib.ListN.{length, drop};
 ghost use Rattle.index.specs.Index.{seek};
 ghost use Rattle.view.specs.Calls.{firstRefusal};
 ghost use Rattle.page_ids.specs.Decode.{pageOf, decoded};
 ghost use Rattle.store.specs.Mem.{mem, headLength, layoutOf, slotCount};
-ghost use Rattle.store.specs.Find.{Findable};
+ghost use Rattle.store.specs.Find.{slotWithin, Findable};
 ghost use Rattle.formed.specs.Pages.{journalCount};
-ghost use Rattle.formed.specs.Parts.{entryOf};
+ghost use Rattle.formed.specs.Parts.{entryOf, slotOfChunk};
 ghost use Rattle.formed.specs.Formed.{narrow};
 ghost use Rattle.formed.specs.WellFormed.{WellFormed};
 ghost use Rattle.view.specs.View.{settingOf, viewOf};
 ghost use Rattle.view.specs.Steps.{missing, touchedCount, alignedCount};
 ghost use Rattle.view.specs.Checks.{overfull, capacityChecks, wordWriteChecks, byteWriteChecks, allocateChecks};
-ghost use Rattle.checks.specs.Missing.{lacksAt};
 use page_ids::Address;
 use page_ids::DecodedPage;
 use page_ids::PageId;
@@ -72,19 +71,31 @@ fn no_entry(
     words[head::ENTRIES] == words[head::PAGES] + head::FIXED_PAGES
 }
 
-// Whether the page at entry e does not hold chunk k: by a hint, or else by search.
-fn lacks(keys: &[u64], order: &[u32], words: &[u64], page: PageId, e: usize, k: u64) -> bool
+// The slot of chunk k of the page at entry e, or the number of slots where none holds it: the slot `guess`, if it has the chunk's key, or by a hint, or else by search.
+fn slot_near(
+    keys: &[u64],
+    order: &[u32],
+    words: &[u64],
+    page: PageId,
+    e: usize,
+    k: u64,
+    guess: usize,
+) -> usize
     requires { ⌜ (Findable (now keys) (now order) (now words)) × (e ≤ 4100) × (e ≡ seek (drop (slotCount (now words)) (now keys)) ((page .0) + 1)) ⌝ }
-    ensures { λ r. ⌜ r ≡ lacksAt (now (keys .entry)) (now (words .entry)) e k ⌝ }
+    ensures { λ r. ⌜ r ≡ slotWithin (now (keys .entry)) (now (words .entry)) e k ⌝ }
 {
-    if k > store::LAST_CHUNK as u64 {
-        return true;
-    }
     let c = words[head::CHUNKS] as usize;
-    if store::hinted(keys, order, words, page, k as u32) < c {
-        return false;
+    if k > store::LAST_CHUNK as u64 {
+        return c;
     }
-    c <= store::slot_at_entry(keys, order, words, e, k)
+    if store::has_key(keys, words, guess, store::key_of(e, k)) {
+        return guess;
+    }
+    let s = store::hinted(keys, order, words, page, k as u32);
+    if s < c {
+        return s;
+    }
+    store::slot_at_entry(keys, order, words, e, k)
 }
 
 // 10: more of the chunks first, .., first + count - 1 are missing than the pool has. The page's entry is e. It stops as soon as that is sure.
@@ -102,18 +113,42 @@ fn short_of_chunks(
     ensures { λ r. ⌜ r ≡ ltb (viewOf (mem (now (bytes .entry)) (now (keys .entry)) (now (order .entry)) (now (words .entry))) .pool) (missing (viewOf (mem (now (bytes .entry)) (now (keys .entry)) (now (order .entry)) (now (words .entry))) .held (page .0)) first count) ⌝ }
 {
     let pool = store::pool_count(keys, order, words);
+    let c = words[head::CHUNKS] as usize;
     let mut missing: u64 = 0;
+    // Chunks that follow each other often have slots that do.
+    let mut guess = c;
     let mut i: u64 = 0;
     while i < count {
-        if lacks(keys, order, words, page, e, first + i) {
+        let s = slot_near(keys, order, words, page, e, first + i, guess);
+        if c <= s {
             if missing == pool {
                 return true;
             }
             missing += 1;
         }
+        guess = s + 1;
         i += 1;
     }
     false
+}
+
+// 10 of one chunk: no slot holds it, and the pool has none. Its slot is s, or the number of slots.
+fn short_of_chunk(
+    bytes: &[u8],
+    keys: &[u64],
+    order: &[u32],
+    words: &[u64],
+    page: PageId,
+    chunk: u32,
+    s: usize,
+) -> bool
+    requires { ⌜ (WellFormed (mem (now bytes) (now keys) (now order) (now words))) × (s ≡ slotOfChunk (mem (now bytes) (now keys) (now order) (now words)) (page .0) chunk) ⌝ }
+    ensures { λ r. ⌜ r ≡ ltb (viewOf (mem (now (bytes .entry)) (now (keys .entry)) (now (order .entry)) (now (words .entry))) .pool) (missing (viewOf (mem (now (bytes .entry)) (now (keys .entry)) (now (order .entry)) (now (words .entry))) .held (page .0)) chunk 1) ⌝ }
+{
+    if s < words[head::CHUNKS] as usize {
+        return false;
+    }
+    store::pool_count(keys, order, words) == 0
 }
 
 // 11: w more words do not fit the page's journal.
@@ -196,6 +231,29 @@ pub fn word_refusal(
         count,
         1,
     )
+}
+
+// A word write in one chunk of an allocated page: 10 and 11 are left. The chunk's slot is s, or the number of slots where none holds it.
+pub fn one_chunk_refusal(
+    bytes: &[u8],
+    keys: &[u64],
+    order: &[u32],
+    words: &[u64],
+    page: PageId,
+    address: Address,
+    s: usize,
+) -> u32
+    requires { ⌜ (WellFormed (mem (now bytes) (now keys) (now order) (now words))) × (s ≡ slotOfChunk (mem (now bytes) (now keys) (now order) (now words)) (page .0) ((address .0) / 256)) ⌝ }
+    requires { ⌜ (viewOf (mem (now bytes) (now keys) (now order) (now words)) .allocated (page .0) ≡ true) × ((address .0) % 256 ≤ 224) ⌝ }
+    ensures { λ r. ⌜ r ≡ firstRefusal (wordWriteChecks (settingOf (mem (now (bytes .entry)) (now (keys .entry)) (now (order .entry)) (now (words .entry)))) (viewOf (mem (now (bytes .entry)) (now (keys .entry)) (now (order .entry)) (now (words .entry)))) (page .0) (address .0)) ⌝ }
+{
+    if short_of_chunk(bytes, keys, order, words, page, address.0 / 256, s) {
+        return 10;
+    }
+    if short_of_words(bytes, keys, order, words, page, 1) {
+        return 11;
+    }
+    0
 }
 
 // A write of n bytes.

@@ -6,6 +6,7 @@ use mathlib.Core.List.{List}
 use Prim.Native.Nat.{ℕ, _+_, _≤_, _<_}
 use native.Mathlib.Omega.{arith}
 use lib.ListN.{length, getD, take}
+use lib.Seq.{getD-take}
 use borrow.Author.Tests.{ltb-true}
 use Rattle.store.specs.Keys.{keyOf, keyEntry, keyChunk}
 use Rattle.view.proofs.Missing.{missing-more, missing-one, missing-le}
@@ -16,11 +17,12 @@ use Rattle.store.specs.Mem.{Mem, mem, slotCount, heldNow, holders, entries}
 use Rattle.store.specs.Hold.{lacks, Held}
 use Rattle.store.specs.Find.{slotFor, HintLearnt}
 use Rattle.store.proofs.Holds.{held-was}
-use Rattle.formed.specs.Parts.{entryOf, allocated, holds}
+use Rattle.formed.specs.Parts.{entryOf, slotOfChunk, allocated, holds}
 use Rattle.formed.specs.WellFormed.{WellFormed}
-use Rattle.formed.proofs.Keys.{key-entry, key-chunk}
-use Rattle.formed.proofs.Sense.{pool-is}
-use Rattle.view.specs.View.{View, viewOf, settingOf}
+use Rattle.formed.proofs.Keys.{seek-is, key-entry, key-chunk}
+use Rattle.formed.proofs.Meaning.{slot-once}
+use Rattle.formed.proofs.Sense.{pool-is, slot-near}
+use Rattle.view.specs.View.{View, Setting, viewOf, settingOf}
 use Rattle.view.specs.Steps.{missing}
 use Rattle.view.specs.Does.{Shows}
 use Rattle.view.specs.Inner.{holding, HoldAsks}
@@ -119,6 +121,24 @@ module _ (bytes keys order words : List ℕ) (p n : ℕ) (asks : HoldAsks (mem b
 
   pub one-held : (s : ℕ) (keys' order' words' : List ℕ) → Held key keys order words s keys' order' words' → After m₂ p n 1 (mem bytes keys' order' words')
   one-held = turn-after m₂ p n 1 asks 0 (omega arith) bytes keys order words (after-none m₂ p n (asks .formed)) (entryOf m₂ p) key refl (omega arith)
+
+  -- its slot, whatever the hints are then
+  pub one-slot : (s : ℕ) (keys' order' words' : List ℕ) → Held key keys order words s keys' order' words' → (order'' : List ℕ) → s ≡ slotOfChunk (mem bytes keys' order'' words') p n
+  one-slot s keys' order' words' h order'' =
+      let a = one-held s keys' order' words' h in
+      let c : slotCount words' ≡ slotCount words = ap (λ (x : Setting). x .chunks) (a .shows .setting) in
+      let e : entryOf (mem bytes keys' order'' words') p ≡ entryOf m₂ p = ap (λ (x : List ℕ). seek x (p + 1)) (a .pages) in
+      sym (slot-near (mem bytes keys' order'' words') p n (let t = asks .top in omega arith)
+      ∙ ap (λ (x : ℕ). seek (take x keys') (keyOf (entryOf (mem bytes keys' order'' words') p) n)) c
+      ∙ ap (λ (x : ℕ). seek (take (slotCount words) keys') (keyOf x n)) e
+      ∙ ap (seek (take (slotCount words) keys')) (sym is)
+      ∙ sym (h .slot))
+
+  -- a slot has its key
+  pub one-there : (s : ℕ) → (s < slotCount words) × (getD keys s 0 ≡ key) → After m₂ p n 1 m₂
+  one-there s t =
+      let at : seek (holders m₂) key ≡ s = seek-is (holders m₂) key s (slot-once m₂ (asks .formed)) (omega arith) (getD-take (slotCount words) keys s 0 (t .0) ∙ t .1) in
+      one-held s keys order words (held-was keys order words (slots-asked m₂ (asks .formed)) key (omega arith) s (sym at) (t .0))
 
   -- a hint knows its slot
   pub one-known : (s : ℕ) → s < slotCount words → (s < slotCount words → s ≡ slotFor keys words p n) → After m₂ p n 1 m₂

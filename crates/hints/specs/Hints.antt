@@ -3,7 +3,7 @@
 use mathlib.Core.Path.{_≡_}
 use mathlib.Core.List.{List}
 use Prim.Native.Nat.{ℕ, _/_, _%_, _<_, _≤_}
-use Rattle.store.specs.Mem.{layoutOf}
+use Rattle.page_ids.specs.declared.Layout.{Layout}
 use Rattle.store.specs.Find.{slotFor}
 use Rattle.formed.specs.Pages.{journalCount, journalPage}
 
@@ -12,7 +12,6 @@ pub record InOneChunk (keys words : List ℕ) (p a s : ℕ) : Type 0 where
   pub slot : s ≡ slotFor keys words p (a / 256)
   pub inside : a % 256 ≤ 224
 
--- and the page has no journal
-pub record InOnePlainChunk (keys words : List ℕ) (p a s : ℕ) : Type 0 where
-  pub found : InOneChunk keys words p a s
-  pub plain : (j : ℕ) → j < journalCount → p ≡ journalPage (layoutOf words) j → ⊥
+-- page p has no journal
+abbrev pub WithoutJournal : Layout → ℕ → Type 0
+WithoutJournal layout p = (j : ℕ) → j < journalCount → p ≡ journalPage layout j → ⊥

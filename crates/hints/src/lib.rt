@@ -3,12 +3,13 @@ use page_ids::Address;
 use page_ids::PageId;
 use store::head;
 ghost use mathlib.Core.Path.{_≡_};
+ghost use mathlib.Core.Bool.{true};
 ghost use Prim.Native.Nat.{_+_, _<_, _≤_};
 ghost use lib.ListN.{length, getD};
-ghost use Rattle.store.specs.Mem.{slotCount};
+ghost use Rattle.store.specs.Mem.{headLength, slotCount, layoutOf};
 ghost use Rattle.store.specs.Find.{Findable};
 ghost use Rattle.formed.specs.Parts.{tab};
-ghost use Rattle.hints.specs.Hints.{InOneChunk, InOnePlainChunk};
+ghost use Rattle.hints.specs.Hints.{InOneChunk, WithoutJournal};
 
 // The slot of the chunk in which the whole word at an address lies, if a hint names it. Any other answer is at least the number of slots, and says nothing.
 pub fn one_chunk(
@@ -27,21 +28,12 @@ pub fn one_chunk(
     store::hinted(keys, order, words, page, address.0 / 256)
 }
 
-// The same on a page that has no journal.
-pub fn one_plain_chunk(
-    keys: &[u64],
-    order: &[u32],
-    words: &[u64],
-    page: PageId,
-    address: Address,
-) -> usize
-    requires { ⌜ Findable (now keys) (now order) (now words) ⌝ }
-    ensures { λ r. ⌜ (r < slotCount (now (words .entry)) → InOnePlainChunk (now (keys .entry)) (now (words .entry)) (page .0) (address .0) r) ⌝ }
+// Whether a page has no journal.
+pub fn has_no_journal(words: &[u64], page: PageId) -> bool
+    requires { ⌜ headLength ≤ length (now words) ⌝ }
+    ensures { λ r. ⌜ (r ≡ true → WithoutJournal (layoutOf (now (words .entry))) (page .0)) ⌝ }
 {
-    if formed::journals::journal_of(words, page) < head::JOURNAL_COUNT {
-        return words[head::CHUNKS] as usize;
-    }
-    one_chunk(keys, order, words, page, address)
+    formed::journals::journal_of(words, page) >= head::JOURNAL_COUNT
 }
 
 // The 32 bytes from a place on.

@@ -88,7 +88,7 @@ pub fn rank_below(keys: &[u64], order: &[u32], n: usize, k: u64) -> usize
 }
 
 // The same, the end first: a page that grows asks for keys past all others.
-fn rank(keys: &[u64], order: &[u32], n: usize, k: u64) -> usize
+pub fn rank(keys: &[u64], order: &[u32], n: usize, k: u64) -> usize
     requires { ⌜ (n ≤ length (now order)) × (all (rises (now keys) (now order)) n ≡ true) ⌝ }
     ensures { λ r. ⌜ LowerBound (now (keys .entry)) (now (order .entry)) n k r ⌝ }
 {
@@ -101,20 +101,28 @@ fn rank(keys: &[u64], order: &[u32], n: usize, k: u64) -> usize
     rank_below(keys, order, n, k)
 }
 
-// The place of the key k, or the number of places where none has it.
-pub fn find(keys: &[u64], order: &[u32], n: usize, k: u64) -> usize
-    requires { ⌜ (indexed (now keys) (now order) n ≡ true) × (0 < k) ⌝ }
+// The place of the key k, whose rank is `at`, or the number of places where none has it.
+pub fn place_at(keys: &[u64], order: &[u32], n: usize, at: usize, k: u64) -> usize
+    requires { ⌜ (indexed (now keys) (now order) n ≡ true) × (0 < k) × (LowerBound (now keys) (now order) n k at) ⌝ }
     ensures { λ r. ⌜ r ≡ seek (now (keys .entry)) k ⌝ }
 {
-    let i = rank(keys, order, n, k);
-    if n <= i {
+    if n <= at {
         return keys.len();
     }
-    let s = order[i] as usize;
+    let s = order[at] as usize;
     if keys[s] == k {
         return s;
     }
     keys.len()
+}
+
+// The same, where the rank is not known.
+pub fn find(keys: &[u64], order: &[u32], n: usize, k: u64) -> usize
+    requires { ⌜ (indexed (now keys) (now order) n ≡ true) × (0 < k) ⌝ }
+    ensures { λ r. ⌜ r ≡ seek (now (keys .entry)) k ⌝ }
+{
+    let at = rank(keys, order, n, k);
+    place_at(keys, order, n, at, k)
 }
 
 // Moves what stands from `at` to n up by one.
@@ -129,15 +137,23 @@ fn move_up(order: &mut [u32], at: usize, n: usize)
     }
 }
 
-// Gives the free place s the key k, which no place has.
+// Gives the free place s the key k, which no place has and whose rank is `at`.
+pub fn insert_at(keys: &mut [u64], order: &mut [u32], n: usize, at: usize, s: u32, k: u64)
+    requires { ⌜ (Insertable (now keys) (now order) n s k) × (LowerBound (now keys) (now order) n k at) ⌝ }
+    ensures { λ _. ⌜ (now (keys .exit) ≡ set (now (keys .entry)) s k) × (indexed (now (keys .exit)) (now (order .exit)) (n + 1) ≡ true) ⌝ }
+{
+    move_up(order, at, n);
+    order[at] = s;
+    keys[s as usize] = k;
+}
+
+// The same, where the rank is not known.
 pub fn insert(keys: &mut [u64], order: &mut [u32], n: usize, s: u32, k: u64)
     requires { ⌜ Insertable (now keys) (now order) n s k ⌝ }
     ensures { λ _. ⌜ (now (keys .exit) ≡ set (now (keys .entry)) s k) × (indexed (now (keys .exit)) (now (order .exit)) (n + 1) ≡ true) ⌝ }
 {
     let at = rank(keys, order, n, k);
-    move_up(order, at, n);
-    order[at] = s;
-    keys[s as usize] = k;
+    insert_at(keys, order, n, at, s, k);
 }
 
 // Frees the places of the ranks from `from` up to, but without, `to`.

@@ -18,7 +18,7 @@ use Rattle.compare.proofs.compare.Reads as compare-reads
 use Rattle.lists.proofs.Compares.{left-call, right-call, both-call}
 use Rattle.lists.proofs.Inhabited.{Answers, ref}
 use Rattle.lists.specs.Went.{Went}
-use Rattle.lists.specs.Steps.{Step, did-compare-left, did-compare-right, did-compare-both}
+use Rattle.lists.specs.Steps.{PublicStep, did-compare-left, did-compare-right, did-compare-both}
 
 -- an answer that tells the outcome
 record Tells (o : Outcome Value) : Type 0 where
@@ -50,14 +50,14 @@ compared left right = record {
 pub can-compare-left : (other : Mem) → Answers (CompareLeft other)
 can-compare-left other m =
     let t = tells m other in
-    subst (λ (o : Outcome Value). Step m (CompareLeft other) o m) (left-call m other (compares.comparisonOutcome (t .answer)) (t .is) .answer) (did-compare-left (compared m other))
+    subst (λ (o : Outcome Value). PublicStep m (CompareLeft other) o m) (left-call m other (compares.comparisonOutcome (t .answer)) (t .is) .answer) (did-compare-left (compared m other))
 
 pub can-compare-right : (other : Mem) → Answers (CompareRight other)
 can-compare-right other m =
     let t = tells other m in
-    subst (λ (o : Outcome Value). Step m (CompareRight other) o m) (right-call m other (compares.comparisonOutcome (t .answer)) (t .is) .answer) (did-compare-right (compared other m))
+    subst (λ (o : Outcome Value). PublicStep m (CompareRight other) o m) (right-call m other (compares.comparisonOutcome (t .answer)) (t .is) .answer) (did-compare-right (compared other m))
 
 pub can-compare-both : Answers CompareBoth
 can-compare-both m =
     let t = tells m m in
-    subst (λ (o : Outcome Value). Step m CompareBoth o m) (both-call m m (compares.comparisonOutcome (t .answer)) refl (t .is) .answer) (did-compare-both (compared m m) refl)
+    subst (λ (o : Outcome Value). PublicStep m CompareBoth o m) (both-call m m (compares.comparisonOutcome (t .answer)) refl (t .is) .answer) (did-compare-both (compared m m) refl)

@@ -20,36 +20,40 @@ use Rattle.lists.specs.Went.{lent, rest}
 use Rattle.lists.proofs.Linked.{linked-does}
 use Rattle.lists.proofs.Owned.{owned-does}
 use Rattle.lists.proofs.Meets.{Shown, Meets, by-open, by-call}
-use Rattle.lists.specs.Steps.{Step, linked, owned, did-open, did-read-word, did-read-partial, did-read-range, did-read-byte, did-dynamic-length, did-lookup, did-lookup-check, did-snapshot, did-write-word, did-write-bytes, did-allocate, did-allocate-with, did-free, did-window, did-truncate, did-compare-left, did-compare-right, did-compare-both, did-rollback, did-delete-history, did-load, did-store, did-load-pointer, did-load-static, did-store-static}
+use Rattle.lists.specs.Steps.{PublicStep, Step, public, linked, owned, did-open, did-read-word, did-read-partial, did-read-range, did-read-byte, did-dynamic-length, did-lookup, did-lookup-check, did-snapshot, did-write-word, did-write-bytes, did-allocate, did-allocate-with, did-free, did-window, did-truncate, did-compare-left, did-compare-right, did-compare-both, did-rollback, did-delete-history, did-load, did-store, did-load-pointer, did-load-static, did-store-static}
+
+-- each line is the contract itself, that of a read by its law
+public-does : {m m' : Mem} {c : Call} {o : Outcome Value} → PublicStep m c o m' → Meets m c o m'
+public-does (did-open w) = by-open _ _ (w .ensures)
+public-does (did-read-word w) = by-call _ (λ s d e. never (cc)) (λ _. word-call (lent (w .args)) (rest (w .args) .0 .0) (rest (w .args) .1 .0 .0) _ (w .ensures .answer))
+public-does (did-read-partial w) = by-call _ (λ s d e. never (cc)) (λ _. partial-call (lent (w .args)) (rest (w .args) .0 .0) (rest (w .args) .1 .0 .0) (rest (w .args) .1 .1 .0 .0) _ (w .ensures .answer))
+public-does (did-read-range w) = by-call _ (λ s d e. never (cc)) (λ _. range-call (lent (w .args)) (rest (w .args) .0 .0) (rest (w .args) .1 .0 .0) (rest (w .args) .1 .1 .0 .0) _ _ _ (w .ensures))
+public-does (did-read-byte w) = by-call _ (λ s d e. never (cc)) (λ _. byte-call (lent (w .args)) (rest (w .args) .0 .0) (rest (w .args) .1 .0 .0) _ (w .ensures .answer))
+public-does (did-dynamic-length w) = by-call _ (λ s d e. never (cc)) (λ _. length-call (lent (w .args)) _ (w .ensures .answer))
+public-does (did-lookup w) = by-call _ (λ s d e. never (cc)) (λ f. lookup-call (lent (w .args)) (rest (w .args) .0 .0) (rest (w .args) .1 .0) (now (rest (w .args) .1 .1 .0)) _ (f _ _ _ refl) (w .ensures))
+public-does (did-lookup-check w) = by-call _ (λ s d e. never (cc)) (λ _. check-call (lent (w .args)) (rest (w .args) .0 .0) (rest (w .args) .1 .0) (now (rest (w .args) .1 .1 .0)) _ (w .ensures))
+public-does (did-snapshot w) = by-call _ (λ s d e. never (cc)) (λ _. marks-call (lent (w .args)) _ (w .ensures .answer))
+public-does (did-write-word w) = by-call _ (λ s d e. never (cc)) (λ _. w .ensures)
+public-does (did-write-bytes w) = by-call _ (λ s d e. never (cc)) (λ _. w .ensures)
+public-does (did-allocate w) = by-call _ (λ s d e. never (cc)) (λ _. w .ensures)
+public-does (did-allocate-with w) = by-call _ (λ s d e. never (cc)) (λ _. w .ensures)
+public-does (did-free w) = by-call _ (λ s d e. never (cc)) (λ _. w .ensures)
+public-does (did-window w) = by-call _ (λ s d e. never (cc)) (λ _. w .ensures)
+public-does (did-truncate w) = by-call _ (λ s d e. never (cc)) (λ _. w .ensures)
+public-does (did-compare-left w) = by-call _ (λ s d e. never (cc)) (λ _. left-call (lent (w .args)) (lent (rest (w .args))) _ (w .ensures))
+public-does (did-compare-right w) = by-call _ (λ s d e. never (cc)) (λ _. right-call (lent (rest (w .args))) (lent (w .args)) _ (w .ensures))
+public-does (did-compare-both w e) = by-call _ (λ s d e. never (cc)) (λ _. both-call (lent (w .args)) (lent (rest (w .args))) _ e (w .ensures))
+public-does (did-rollback w) = by-call _ (λ s d e. never (cc)) (λ _. w .ensures)
+public-does (did-delete-history w) = by-call _ (λ s d e. never (cc)) (λ _. w .ensures)
+public-does (did-load w) = by-call _ (λ s d e. never (cc)) (λ _. w .ensures .does)
+public-does (did-store w) = by-call _ (λ s d e. never (cc)) (λ _. w .ensures .does)
+public-does (did-load-pointer w) = by-call _ (λ s d e. never (cc)) (λ _. w .ensures .does)
+public-does (did-load-static w) = by-call _ (λ s d e. never (cc)) (λ _. w .ensures .does)
+public-does (did-store-static w) = by-call _ (λ s d e. never (cc)) (λ _. w .ensures .does)
 
 -- each line is the contract itself, that of a read by its law
 pub does : {m m' : Mem} {c : Call} {o : Outcome Value} → Step m c o m' → Meets m c o m'
-does (did-open w) = by-open _ _ (w .ensures)
-does (did-read-word w) = by-call _ (λ s d e. never (cc)) (λ _. word-call (lent (w .args)) (rest (w .args) .0 .0) (rest (w .args) .1 .0 .0) _ (w .ensures .answer))
-does (did-read-partial w) = by-call _ (λ s d e. never (cc)) (λ _. partial-call (lent (w .args)) (rest (w .args) .0 .0) (rest (w .args) .1 .0 .0) (rest (w .args) .1 .1 .0 .0) _ (w .ensures .answer))
-does (did-read-range w) = by-call _ (λ s d e. never (cc)) (λ _. range-call (lent (w .args)) (rest (w .args) .0 .0) (rest (w .args) .1 .0 .0) (rest (w .args) .1 .1 .0 .0) _ _ _ (w .ensures))
-does (did-read-byte w) = by-call _ (λ s d e. never (cc)) (λ _. byte-call (lent (w .args)) (rest (w .args) .0 .0) (rest (w .args) .1 .0 .0) _ (w .ensures .answer))
-does (did-dynamic-length w) = by-call _ (λ s d e. never (cc)) (λ _. length-call (lent (w .args)) _ (w .ensures .answer))
-does (did-lookup w) = by-call _ (λ s d e. never (cc)) (λ f. lookup-call (lent (w .args)) (rest (w .args) .0 .0) (rest (w .args) .1 .0) (now (rest (w .args) .1 .1 .0)) _ (f _ _ _ refl) (w .ensures))
-does (did-lookup-check w) = by-call _ (λ s d e. never (cc)) (λ _. check-call (lent (w .args)) (rest (w .args) .0 .0) (rest (w .args) .1 .0) (now (rest (w .args) .1 .1 .0)) _ (w .ensures))
-does (did-snapshot w) = by-call _ (λ s d e. never (cc)) (λ _. marks-call (lent (w .args)) _ (w .ensures .answer))
-does (did-write-word w) = by-call _ (λ s d e. never (cc)) (λ _. w .ensures)
-does (did-write-bytes w) = by-call _ (λ s d e. never (cc)) (λ _. w .ensures)
-does (did-allocate w) = by-call _ (λ s d e. never (cc)) (λ _. w .ensures)
-does (did-allocate-with w) = by-call _ (λ s d e. never (cc)) (λ _. w .ensures)
-does (did-free w) = by-call _ (λ s d e. never (cc)) (λ _. w .ensures)
-does (did-window w) = by-call _ (λ s d e. never (cc)) (λ _. w .ensures)
-does (did-truncate w) = by-call _ (λ s d e. never (cc)) (λ _. w .ensures)
-does (did-compare-left w) = by-call _ (λ s d e. never (cc)) (λ _. left-call (lent (w .args)) (lent (rest (w .args))) _ (w .ensures))
-does (did-compare-right w) = by-call _ (λ s d e. never (cc)) (λ _. right-call (lent (rest (w .args))) (lent (w .args)) _ (w .ensures))
-does (did-compare-both w e) = by-call _ (λ s d e. never (cc)) (λ _. both-call (lent (w .args)) (lent (rest (w .args))) _ e (w .ensures))
-does (did-rollback w) = by-call _ (λ s d e. never (cc)) (λ _. w .ensures)
-does (did-delete-history w) = by-call _ (λ s d e. never (cc)) (λ _. w .ensures)
-does (did-load w) = by-call _ (λ s d e. never (cc)) (λ _. w .ensures .does)
-does (did-store w) = by-call _ (λ s d e. never (cc)) (λ _. w .ensures .does)
-does (did-load-pointer w) = by-call _ (λ s d e. never (cc)) (λ _. w .ensures .does)
-does (did-load-static w) = by-call _ (λ s d e. never (cc)) (λ _. w .ensures .does)
-does (did-store-static w) = by-call _ (λ s d e. never (cc)) (λ _. w .ensures .does)
+does (public x) = public-does x
 does (linked x) = linked-does x
 does (owned x) = owned-does x
 

@@ -41,12 +41,12 @@ use Rattle.history.proofs.History.{rollback-refusals, rollback-asks}
 use Rattle.checks.proofs.Passed.{room-refusals}
 use Rattle.lists.proofs.Writing.{word-there, bytes-there, contents-there}
 use Rattle.lists.proofs.Reach.{Reached, started-there, calldata-there, rolled-there}
-use Rattle.lists.specs.Steps.{Step, did-read-word, did-read-partial, did-read-range, did-read-byte, did-dynamic-length, did-lookup, did-lookup-check, did-snapshot, did-open, did-write-word, did-write-bytes, did-allocate, did-allocate-with, did-rollback, did-delete-history}
+use Rattle.lists.specs.Steps.{PublicStep, did-read-word, did-read-partial, did-read-range, did-read-byte, did-dynamic-length, did-lookup, did-lookup-check, did-snapshot, did-open, did-write-word, did-write-bytes, did-allocate, did-allocate-with, did-rollback, did-delete-history}
 use Rattle.lists.specs.Goes.{Goes, Narrow}
 
 -- every memory has a step of c, which leaves it as it is
 abbrev pub Answers : Call → Type 0
-Answers c = (m : Mem) → Step m c (answerOf m c) m
+Answers c = (m : Mem) → PublicStep m c (answerOf m c) m
 
 abbrev pub ref : List ℕ → RefT (List ℕ)
 ref l = record { ptr = (0, 0); name = 0; now = l }
@@ -126,7 +126,7 @@ marks o = record { refusal = refusalNumber o; heap = valueOf (0, 0) o .0; aux = 
 
 pub can-read-word : (p a : ℕ) → Answers (ReadWord p a)
 can-read-word p a m =
-    subst (λ (o : Outcome Value). Step m (ReadWord p a) o m) (word-call m p a (reads.wordOutcome (word out)) (d .answer) .answer)
+    subst (λ (o : Outcome Value). PublicStep m (ReadWord p a) o m) (word-call m p a (reads.wordOutcome (word out)) (d .answer) .answer)
     (did-read-word
     (record {
       lifetimes = ([], ([], ([], ([], tt))));
@@ -146,7 +146,7 @@ can-read-word p a m =
 
 pub can-read-partial : (p x y : ℕ) → Answers (ReadPartial p x y)
 can-read-partial p x y m =
-    subst (λ (o : Outcome Value). Step m (ReadPartial p x y) o m) (partial-call m p x y (reads.wordOutcome (word out)) (d .answer) .answer)
+    subst (λ (o : Outcome Value). PublicStep m (ReadPartial p x y) o m) (partial-call m p x y (reads.wordOutcome (word out)) (d .answer) .answer)
     (did-read-partial
     (record {
       lifetimes = ([], ([], ([], ([], tt))));
@@ -186,7 +186,7 @@ taken-long m p x y l = go (wellFormed m) (eqb (length l) (y - x)) refl
 
 pub can-read-range : (p x y : ℕ) (l : List ℕ) → Answers (ReadRange p x y (length l))
 can-read-range p x y l m =
-    subst (λ (o : Outcome Value). Step m (ReadRange p x y (length l)) o m) (range-call m p x y l (taken out l bs) (unitOutcome (answerTo out)) (range-does out l bs right) .answer)
+    subst (λ (o : Outcome Value). PublicStep m (ReadRange p x y (length l)) o m) (range-call m p x y l (taken out l bs) (unitOutcome (answerTo out)) (range-does out l bs right) .answer)
     (did-read-range
     (record {
       lifetimes = ([], ([], ([], ([], ([], tt)))));
@@ -209,7 +209,7 @@ can-read-range p x y l m =
 
 pub can-read-byte : (p a : ℕ) → Answers (ReadByte p a)
 can-read-byte p a m =
-    subst (λ (o : Outcome Value). Step m (ReadByte p a) o m) (byte-call m p a (byteOutcome (byte out)) (d .answer) .answer)
+    subst (λ (o : Outcome Value). PublicStep m (ReadByte p a) o m) (byte-call m p a (byteOutcome (byte out)) (d .answer) .answer)
     (did-read-byte
     (record {
       lifetimes = ([], ([], ([], ([], tt))));
@@ -229,7 +229,7 @@ can-read-byte p a m =
 
 pub can-tell-length : Answers DynamicLength
 can-tell-length m =
-    subst (λ (o : Outcome Value). Step m DynamicLength o m) (length-call m (lengthOutcome (size out)) (d .answer) .answer)
+    subst (λ (o : Outcome Value). PublicStep m DynamicLength o m) (length-call m (lengthOutcome (size out)) (d .answer) .answer)
     (did-dynamic-length
     (record {
       lifetimes = ([], ([], ([], ([], tt))));
@@ -249,7 +249,7 @@ can-tell-length m =
 
 pub can-snapshot : Answers Snapshot
 can-snapshot m =
-    subst (λ (o : Outcome Value). Step m Snapshot o m) (marks-call m (snapshotOutcome (marks out)) (d .answer) .answer)
+    subst (λ (o : Outcome Value). PublicStep m Snapshot o m) (marks-call m (snapshotOutcome (marks out)) (d .answer) .answer)
     (did-snapshot
     (record {
       lifetimes = ([], ([], ([], ([], tt))));
@@ -267,7 +267,7 @@ can-snapshot m =
     d : ReadDoes out (snapshotOutcome (marks out)) (marks out .heap, marks out .aux) (0, 0)
     d = read-does (0, 0) out (right-plain m (length (viewOf m .journal 0), length (viewOf m .journal 1)))
 
-pub can-look-up : (p k : ℕ) (z : List ℕ) (m : Mem) → Step m (Lookup p k z) (done (bytes (cond (wellFormed m) (shown (viewOf m) p k z) []))) m
+pub can-look-up : (p k : ℕ) (z : List ℕ) (m : Mem) → PublicStep m (Lookup p k z) (done (bytes (cond (wellFormed m) (shown (viewOf m) p k z) []))) m
 can-look-up p k z m =
     did-lookup
     (record {
@@ -282,7 +282,7 @@ can-look-up p k z m =
 
 pub can-check : (p k : ℕ) (z : List ℕ) → Answers (LookupCheck p k z)
 can-check p k z m =
-    subst (λ (o : Outcome Value). Step m (LookupCheck p k z) o m) (check-call m p k z (unitOutcome (answerTo out)) (told-to out right) .answer)
+    subst (λ (o : Outcome Value). PublicStep m (LookupCheck p k z) o m) (check-call m p k z (unitOutcome (answerTo out)) (told-to out right) .answer)
     (did-lookup-check
     (record {
       lifetimes = ([], ([], ([], ([], ([], tt)))));
@@ -332,13 +332,13 @@ setting-same {m} {m'} f h =
 record Carried (m : Mem) (c : Call) : Type 0 where
   after : Mem
   shows : Shows (settingOf m) (nextOf (settingOf m) c (viewOf m)) after
-  step : CallDoes m c (done nothing) after → Step m c (done nothing) after
+  step : CallDoes m c (done nothing) after → PublicStep m c (done nothing) after
 
 -- ---- a call that goes by a list of tests: it is refused where the memory is not well formed or a test holds, else carried out
 module _ (m : Mem) (c : Call) (checks : List (Check Value)) (tests : Refusals checks) (is : answerOf m c ≡ onMemory m checks nothing)
-    (refuse : (n : ℕ) → CallDoes m c (refused n) m → Step m c (refused n) m) (carry : WellFormed m → firstRefusal checks ≡ 0 → Carried m c) where
-  ended : {o : Outcome Value} {m' : Mem} → (CallDoes m c o m' → Step m c o m') → CallDoes m c o m' → Goes m c (answerOf m c)
-  ended {o} {m'} step d = record { after = m'; step = subst (λ (x : Outcome Value). Step m c x m') (d .answer) (step d) }
+    (refuse : (n : ℕ) → CallDoes m c (refused n) m → PublicStep m c (refused n) m) (carry : WellFormed m → firstRefusal checks ≡ 0 → Carried m c) where
+  ended : {o : Outcome Value} {m' : Mem} → (CallDoes m c o m' → PublicStep m c o m') → CallDoes m c o m' → Goes m c (answerOf m c)
+  ended {o} {m'} step d = record { after = m'; step = subst (λ (x : Outcome Value). PublicStep m c x m') (d .answer) (step d) }
 
   turned : {m' : Mem} {o : Outcome Value} → Does m (onMemory m checks nothing) (settingOf m) (nextOf (settingOf m) c (viewOf m)) o m' → CallDoes m c o m'
   turned {m'} {o} d = subst (λ (x : Outcome Value). Does m x (settingOf m) (nextOf (settingOf m) c (viewOf m)) o m') (sym is) d
@@ -359,7 +359,7 @@ module _ (m : Mem) (c : Call) (checks : List (Check Value)) (tests : Refusals ch
 -- ---- history
 module _ (heap aux : ℕ) (m : Mem) where
   roll-back : (r : Answer) (bs ws : List ℕ) → length bs ≡ length (m .bytes) → length ws ≡ length (m .words) → CallDoes m (Rollback heap aux) (answerOutcome nothing r) (mem bs (m .keys) (m .order) ws)
-      → Step m (Rollback heap aux) (answerOutcome nothing r) (mem bs (m .keys) (m .order) ws)
+      → PublicStep m (Rollback heap aux) (answerOutcome nothing r) (mem bs (m .keys) (m .order) ws)
   roll-back r bs ws lb lw d =
       did-rollback
       (record {
@@ -380,7 +380,7 @@ module _ (heap aux : ℕ) (m : Mem) where
       let l = setting-same f (t .shows) in
       record { after = _; shows = t .shows; step = roll-back Done (t .bytes) (t .words) (l .bytes) (l .words) })
 
-delete : (m : Mem) (r : Answer) (ws : List ℕ) → length ws ≡ length (m .words) → CallDoes m DeleteHistory (answerOutcome nothing r) (mem (m .bytes) (m .keys) (m .order) ws) → Step m DeleteHistory (answerOutcome nothing r) (mem (m .bytes) (m .keys) (m .order) ws)
+delete : (m : Mem) (r : Answer) (ws : List ℕ) → length ws ≡ length (m .words) → CallDoes m DeleteHistory (answerOutcome nothing r) (mem (m .bytes) (m .keys) (m .order) ws) → PublicStep m DeleteHistory (answerOutcome nothing r) (mem (m .bytes) (m .keys) (m .order) ws)
 delete m r ws lw d =
     did-delete-history
     (record {
@@ -402,7 +402,7 @@ can-delete m =
 
 -- ---- a call that is lent every buffer to change
 module _ (m : Mem) (c : Call) (checks : List (Check Value)) (tests : Refusals checks) (is : answerOf m c ≡ onMemory m checks nothing)
-    (step : (r : Answer) (m' : Mem) → Same m m' → CallDoes m c (answerOutcome nothing r) m' → Step m c (answerOutcome nothing r) m')
+    (step : (r : Answer) (m' : Mem) → Same m m' → CallDoes m c (answerOutcome nothing r) m' → PublicStep m c (answerOutcome nothing r) m')
     (there : (WellFormed m) × (firstRefusal checks ≡ 0) → Reached (settingOf m) (nextOf (settingOf m) c (viewOf m))) where
   pub goes : Goes m c (answerOf m c)
   goes =
@@ -417,7 +417,7 @@ module _ (p a : ℕ) (page : p ≤ 4294967295) (address : a ≤ 4294967295) wher
   can-write-word n m =
       goes m (WriteWord p a n) (wordWriteChecks (settingOf m) (viewOf m) p a) (next (room-refusals (settingOf m) (viewOf m) p a 32 1)) refl
       (λ r m' l d.
-      subst (λ (x : ℕ). Step m (WriteWord p a x) (answerOutcome nothing r) m') (value-is n)
+      subst (λ (x : ℕ). PublicStep m (WriteWord p a x) (answerOutcome nothing r) m') (value-is n)
       (did-write-word
       (record {
         lifetimes = ([], ([], ([], ([], tt))));
@@ -497,7 +497,7 @@ module _ (s : Setting) (calldata : List ℕ) (narrow : Narrow s) (m : Mem) where
       go false true true = refl
       go false true false = refl
 
-  opens : (r : Answer) (m' : Mem) → Same m m' → OpenDoes m s calldata (answerOutcome nothing r) m' → Step m (Open s calldata) (answerOutcome nothing r) m'
+  opens : (r : Answer) (m' : Mem) → Same m m' → OpenDoes m s calldata (answerOutcome nothing r) m' → PublicStep m (Open s calldata) (answerOutcome nothing r) m'
   opens r m' l d =
       did-open
       (record {
@@ -537,7 +537,7 @@ module _ (s : Setting) (calldata : List ℕ) (narrow : Narrow s) (m : Mem) where
           let u = calldata-there (t .memory) (s .layout .calldata .0) calldata q in
           let d = open-done nothing s m calldata 0 e refl (t .memory) (u .memory) (t .shows) (u .shows) in
           let l = size-same asks (d .changed (ap carriedOut (sym (d .answer)))) in
-          record { after = u .memory; step = subst (λ (o : Outcome Value). Step m (Open s calldata) o (u .memory)) (d .answer) (opens Done (u .memory) l d) }
+          record { after = u .memory; step = subst (λ (o : Outcome Value). PublicStep m (Open s calldata) o (u .memory)) (d .answer) (opens Done (u .memory) l d) }
       go (suc n) e =
           let d = open-refused nothing s m calldata (suc n) e (λ z. omega arith) in
-          record { after = m; step = subst (λ (o : Outcome Value). Step m (Open s calldata) o m) (d .answer) (opens (Refused (suc n)) m (same m) d) }
+          record { after = m; step = subst (λ (o : Outcome Value). PublicStep m (Open s calldata) o m) (d .answer) (opens (Refused (suc n)) m (same m) d) }

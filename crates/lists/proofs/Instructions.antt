@@ -29,7 +29,7 @@ use Rattle.execution.specs.declared.Execution.{Execution}
 use Rattle.execution.specs.declared.ExecutionStatus.{ExecutionStatus}
 use Rattle.execution.specs.declared.ExecutionStatus.the-variants.{Running, SuspendedOnHook, Panicked, Refused}
 use Rattle.execution.specs.Executions.{operandOf, hookOf, stopOf, resultOf, statusOutcome, executionOutcome, Runs}
-use Rattle.lists.specs.Steps.{Step, did-load, did-store, did-load-pointer, did-load-static, did-store-static}
+use Rattle.lists.specs.Steps.{PublicStep, did-load, did-store, did-load-pointer, did-load-static, did-store-static}
 use Rattle.lists.proofs.Reach.{Reached}
 use Rattle.lists.proofs.Writing.{word-there}
 use Rattle.lists.specs.Goes.{Goes}
@@ -106,9 +106,9 @@ module _ (f : Frame) where
 
 -- ---- loads
 module _ (f : Frame) (m : Mem) where
-  load-step : (area : Area) (x : Operand) → Step m (Load area f (operandOf x)) (answerOf m (Load area f (operandOf x))) m
+  load-step : (area : Area) (x : Operand) → PublicStep m (Load area f (operandOf x)) (answerOf m (Load area f (operandOf x))) m
   load-step area x =
-      subst (λ (o : Outcome Value). Step m c o m) (told-execute f ran)
+      subst (λ (o : Outcome Value). PublicStep m c o m) (told-execute f ran)
       (did-load
       (record {
         lifetimes = ([], ([], ([], ([], tt))));
@@ -129,9 +129,9 @@ module _ (f : Frame) (m : Mem) where
           (first-ran (accessChecks instructionResult area f (operandOf x .word)) (is-panicked _ refl, tt)
           (done (instructionResult (loaded (viewOf m) area f (operandOf x)))) (is-done (loaded (viewOf m) area f (operandOf x))))
 
-  pointer-step : (x : Operand) → Step m (LoadPointer f (operandOf x)) (answerOf m (LoadPointer f (operandOf x))) m
+  pointer-step : (x : Operand) → PublicStep m (LoadPointer f (operandOf x)) (answerOf m (LoadPointer f (operandOf x))) m
   pointer-step x =
-      subst (λ (o : Outcome Value). Step m c o m) (told-execute f ran)
+      subst (λ (o : Outcome Value). PublicStep m c o m) (told-execute f ran)
       (did-load-pointer
       (record {
         lifetimes = ([], ([], ([], ([], tt))));
@@ -152,9 +152,9 @@ module _ (f : Frame) (m : Mem) where
           (first-ran (pointerChecks instructionResult f (operandOf x)) (is-panicked _ refl, (is-panicked _ refl, (is-refused 14, tt)))
           (done (instructionResult (pointed (viewOf m) f (operandOf x)))) (is-done (pointed (viewOf m) f (operandOf x))))
 
-  static-step : (x : Operand) → Step m (LoadStatic f (operandOf x)) (answerOf m (LoadStatic f (operandOf x))) m
+  static-step : (x : Operand) → PublicStep m (LoadStatic f (operandOf x)) (answerOf m (LoadStatic f (operandOf x))) m
   static-step x =
-      subst (λ (o : Outcome Value). Step m c o m) (told-execute f ran)
+      subst (λ (o : Outcome Value). PublicStep m c o m) (told-execute f ran)
       (did-load-static
       (record {
         lifetimes = ([], ([], ([], ([], tt))));
@@ -176,13 +176,13 @@ module _ (f : Frame) (m : Mem) where
           (done (instructionResult (staticLoaded (settingOf m) (viewOf m) f (operandOf x)))) (is-done (staticLoaded (settingOf m) (viewOf m) f (operandOf x))))
 
 pub can-load : (area : Area) (f : Frame) (x : view.Operand) → Answers (Load area f x)
-can-load area f x m = subst (λ (y : view.Operand). Step m (Load area f y) (answerOf m (Load area f y)) m) (operand-is x) (load-step f m area (operandFor x))
+can-load area f x m = subst (λ (y : view.Operand). PublicStep m (Load area f y) (answerOf m (Load area f y)) m) (operand-is x) (load-step f m area (operandFor x))
 
 pub can-load-pointer : (f : Frame) (x : view.Operand) → Answers (LoadPointer f x)
-can-load-pointer f x m = subst (λ (y : view.Operand). Step m (LoadPointer f y) (answerOf m (LoadPointer f y)) m) (operand-is x) (pointer-step f m (operandFor x))
+can-load-pointer f x m = subst (λ (y : view.Operand). PublicStep m (LoadPointer f y) (answerOf m (LoadPointer f y)) m) (operand-is x) (pointer-step f m (operandFor x))
 
 pub can-load-static : (f : Frame) (x : view.Operand) → Answers (LoadStatic f x)
-can-load-static f x m = subst (λ (y : view.Operand). Step m (LoadStatic f y) (answerOf m (LoadStatic f y)) m) (operand-is x) (static-step f m (operandFor x))
+can-load-static f x m = subst (λ (y : view.Operand). PublicStep m (LoadStatic f y) (answerOf m (LoadStatic f y)) m) (operand-is x) (static-step f m (operandFor x))
 
 -- ---- stores
 -- a store that has passed its checks has passed those of a word write
@@ -198,13 +198,13 @@ carried-formed m o e = go (wellFormed m) refl e
     go true q e = (q, e)
     go false q e = absurd (false≢true e)
 
-module _ (m : Mem) (f : Frame) (c : Call) (ran : Ran (answerOf m c)) (step : (r : Execution) (m' : Mem) → Same m m' → Runs m c f r m' → Step m c (executionOutcome r) m')
+module _ (m : Mem) (f : Frame) (c : Call) (ran : Ran (answerOf m c)) (step : (r : Execution) (m' : Mem) → Same m m' → Runs m c f r m' → PublicStep m c (executionOutcome r) m')
     (there : wellFormed m ≡ true → carriedOut (outcomeOf (settingOf m) c (viewOf m)) ≡ true → Reached (settingOf m) (nextOf (settingOf m) c (viewOf m))) where
   stores : Goes m c (answerOf m c)
   stores = go (carriedOut (answerOf m c)) refl
     where
       goes : (m' : Mem) → Same m m' → CallDoes m c (answerOf m c) m' → Goes m c (answerOf m c)
-      goes m' l d = record { after = m'; step = subst (λ (o : Outcome Value). Step m c o m') (told-execute f ran) (step (execute f ran) m' l (runs f m c ran m' d)) }
+      goes m' l d = record { after = m'; step = subst (λ (o : Outcome Value). PublicStep m c o m') (told-execute f ran) (step (execute f ran) m' l (runs f m c ran m' d)) }
 
       go : (b : Bool) → carriedOut (answerOf m c) ≡ b → Goes m c (answerOf m c)
       go false e = goes m (same m) (record { answer = refl; kept = λ _. refl; changed = λ q. absurd (false≢true (sym e ∙ q)) })
@@ -234,7 +234,7 @@ module _ (f : Frame) (x : view.Operand) (n : ℕ) where
 
 module _ (f : Frame) (m : Mem) where
   store-step : (area : Area) (x : Operand) (w : Word) (h : Hook) (r : Execution) (m' : Mem) → Same m m' → Runs m (Store area f (operandOf x) (value (w .limbs)) (hookOf h)) f r m'
-      → Step m (Store area f (operandOf x) (value (w .limbs)) (hookOf h)) (executionOutcome r) m'
+      → PublicStep m (Store area f (operandOf x) (value (w .limbs)) (hookOf h)) (executionOutcome r) m'
   store-step area x w h r m' l d =
       did-store
       (record {
@@ -248,7 +248,7 @@ module _ (f : Frame) (m : Mem) where
       })
 
   store-static-step : (x : Operand) (w : Word) (r : Execution) (m' : Mem) → Same m m' → Runs m (StoreStatic f (operandOf x) (value (w .limbs))) f r m'
-      → Step m (StoreStatic f (operandOf x) (value (w .limbs))) (executionOutcome r) m'
+      → PublicStep m (StoreStatic f (operandOf x) (value (w .limbs))) (executionOutcome r) m'
   store-static-step x w r m' l d =
       did-store-static
       (record {

@@ -16,7 +16,7 @@ use Rattle.view.specs.Instructions.{Operand, Hook, heapOf, panic, loaded, store
 use Rattle.view.specs.Calls.{Value, Load, Store, instructionResult, answerOf}
 use Rattle.growth.specs.Charges.{LoadOrStore, by-load, by-store}
 use Rattle.growth.proofs.Carried.{is-done}
-use Rattle.lists.specs.Steps.{Step}
+use Rattle.lists.specs.Steps.{PublicStep}
 use Rattle.lists.specs.Goes.{Goes}
 use Rattle.lists.specs.Worked.{Leaves, operandAt}
 use Rattle.lists.proofs.Instructions.{can-load, can-store}
@@ -29,8 +29,8 @@ module _ (m : Mem) (w : wellFormed m ≡ true) (area : Area) where
   pub load-is : (f : Frame) (x : ℕ) → answerOf m (Load area f (operandAt x)) ≡ answer f x (frameAccessed f area x .paid)
   load-is f x = ap (λ (b : Bool). cond (not b) (refused 3) (answer f x (frameAccessed f area x .paid))) w
 
-  pub load-step : (f : Frame) (x : ℕ) {o : Outcome Value} → answerOf m (Load area f (operandAt x)) ≡ o → Step m (Load area f (operandAt x)) o m
-  load-step f x e = subst (λ (o : Outcome Value). Step m (Load area f (operandAt x)) o m) e (can-load area f (operandAt x) m)
+  pub load-step : (f : Frame) (x : ℕ) {o : Outcome Value} → answerOf m (Load area f (operandAt x)) ≡ o → PublicStep m (Load area f (operandAt x)) o m
+  load-step f x e = subst (λ (o : Outcome Value). PublicStep m (Load area f (operandAt x)) o m) e (can-load area f (operandAt x) m)
 
   pub load-leaves : (f : Frame) (x : ℕ) → frameAccessed f area x .paid ≡ true → Leaves m (Load area f (operandAt x)) (frameAccessed f area x .frame) m
   load-leaves f x p = record { result = loaded (viewOf m) area f (operandAt x); step = load-step f x (load-is f x ∙ ap (answer f x) p); frame = refl }
@@ -42,8 +42,8 @@ store-goes m area f x n h page c =
     subst (λ (o : Outcome Value). Goes m (Store area f x n h) o) (is-done checks (instructionResult (stored area f x n h)) tt c) (can-store area f x n h page m)
 
 -- ---- of a run
-pub leaves-load : {m m' : Mem} {area : Area} {f g : Frame} {x : Operand} → Leaves m (Load area f x) g m' → LoadOrStore Step area (x .word) f g
-leaves-load {area = area} {f = f} {x = x} l = subst (LoadOrStore Step area (x .word) f) (l .frame) (by-load {x = x} (l .step))
+pub leaves-load : {m m' : Mem} {area : Area} {f g : Frame} {x : Operand} → Leaves m (Load area f x) g m' → LoadOrStore PublicStep area (x .word) f g
+leaves-load {area = area} {f = f} {x = x} l = subst (LoadOrStore PublicStep area (x .word) f) (l .frame) (by-load {x = x} (l .step))
 
-pub leaves-store : {m m' : Mem} {area : Area} {f g : Frame} {x : Operand} {n : ℕ} {h : Hook} → Leaves m (Store area f x n h) g m' → LoadOrStore Step area (x .word) f g
-leaves-store {area = area} {f = f} {x = x} l = subst (LoadOrStore Step area (x .word) f) (l .frame) (by-store {x = x} (l .step))
+pub leaves-store : {m m' : Mem} {area : Area} {f g : Frame} {x : Operand} {n : ℕ} {h : Hook} → Leaves m (Store area f x n h) g m' → LoadOrStore PublicStep area (x .word) f g
+leaves-store {area = area} {f = f} {x = x} l = subst (LoadOrStore PublicStep area (x .word) f) (l .frame) (by-store {x = x} (l .step))

@@ -20,7 +20,7 @@ use Rattle.opening.specs.Opening.{OpenAsks, settingFrom}
 use Rattle.opening.proofs.Refusals.{sizes-test, refused-not}
 use Rattle.plain.specs.Claim.{by-opening}
 use Rattle.plain.proofs.Theorem.{claim}
-use Rattle.lists.specs.Steps.{Step}
+use Rattle.lists.specs.Steps.{PublicStep, Step, public}
 use Rattle.lists.specs.Goes.{Narrow, Fits, Goes, Begins, NotEmpty}
 use Rattle.lists.proofs.Contracts.{contracts}
 use Rattle.lists.proofs.Inhabited.{Answers, can-open, can-allocate-with, can-read-word, can-read-partial, can-read-range, can-read-byte, can-tell-length, can-write-word, can-write-bytes, can-look-up, can-check, can-snapshot, can-roll-back, can-delete}
@@ -42,7 +42,7 @@ module _ {s : Setting} {v : View} {m : Mem} (h : Shows s v m) where
   lengths-are t = let n = h .formed .lengths in rw (n .in-bytes, n .in-keys, n .in-order, n .in-words) (ap (sameLengths t) (h .setting))
 
   so : (c : Call) (o o' : Outcome Value) → o ≡ o' → Goes m c o → Goes m c o'
-  so c o o' e g = record { after = g .after; step = subst (λ (x : Outcome Value). Step m c x (g .after)) e (g .step) }
+  so c o o' e g = record { after = g .after; step = subst (λ (x : Outcome Value). PublicStep m c x (g .after)) e (g .step) }
 
   changes : (c : Call) → Goes m c (answerOf m c) → Goes m c (outcomeOf s c v)
   changes c g = so c (answerOf m c) (outcomeOf s c v) (answer-is c) g
@@ -86,8 +86,8 @@ begins : {m : Mem} {s : Setting} {calldata : List ℕ} → Narrow s → OpenAsks
 begins {m} {s} {calldata} narrow asks room =
     let g = can-open s calldata narrow m in
     let e = sym (refused-not nothing s m (length calldata) (asks .layout) (sizes-test s m (asks .sizes)) room) in
-    let step = subst (λ (o : Outcome Value). Step m (Open s calldata) o (g .after)) e (g .step) in
-    record { start = g .after; step = step; started = by-opening step }
+    let step = subst (λ (o : Outcome Value). PublicStep m (Open s calldata) o (g .after)) e (g .step) in
+    record { start = g .after; step = step; started = by-opening (public step) }
 
 -- a small memory, of two chunks and two pages beside the fixed ones
 abbrev pub small : Setting

@@ -24,7 +24,7 @@ use Rattle.plain.specs.Plain.{Plain, has, hold, member, freshPlain, follow, see
 use Rattle.plain.specs.Claim.{Run, Any, none, more}
 use Rattle.plain.proofs.Good.{never}
 use Rattle.growth.specs.Charges as growth
-use Rattle.lists.specs.Steps.{Step}
+use Rattle.lists.specs.Steps.{Step, public}
 use Rattle.lists.specs.Goes.{Goes}
 use Rattle.lists.specs.Worked.{Leaves, operandAt, noHook, hookAt, workedFrame, Worked}
 use Rattle.lists.proofs.Leaving.{load-leaves, store-goes, leaves-load, leaves-store}
@@ -73,7 +73,7 @@ stored-0 : Goes m₀ store-0 (done (instructionResult (stored Aux (workedFrame 1
 stored-0 = stores begun Aux (workedFrame 1000 4096 0) 0 noHook (omega arith) room-0
 
 after-0 : Run Step Any small m₀ p₀ (stored-0 .after) p₁
-after-0 = more begun (stored-0 .step) (λ t calldata e. absurd (never (cc))) tt
+after-0 = more begun (public (stored-0 .step)) (λ t calldata e. absurd (never (cc))) tt
 
 -- ---- the second store
 abbrev store-10 : Call
@@ -87,7 +87,7 @@ stored-10 : Goes (stored-0 .after) store-10 (done (instructionResult (stored Hea
 stored-10 = stores after-0 Heap (workedFrame 967 4097 32) 10 (hookAt 10) (omega arith) room-10
 
 after-10 : Run Step Any small m₀ p₀ (stored-10 .after) (follow (small .layout) store-10 p₁)
-after-10 = more after-0 (stored-10 .step) (λ t calldata e. absurd (never (cc))) tt
+after-10 = more after-0 (public (stored-10 .step)) (λ t calldata e. absurd (never (cc))) tt
 
 -- ---- the run
 pub worked : Worked

@@ -24,7 +24,7 @@ use Rattle.view.specs.Calls.{Load, Store, instructionResult, answerOf}
 use Rattle.growth.specs.Quotes.{LoadRun, QuoteOfLoads}
 use Rattle.growth.specs.Charges.{GrowthAddsUp}
 use Rattle.lists.specs.Went.{Went}
-use Rattle.lists.specs.Steps.{Step}
+use Rattle.lists.specs.Steps.{PublicStep, Step}
 use Rattle.lists.specs.Goes.{Goes}
 use Rattle.lists.specs.Worked.{Leaves, operandAt, Worked}
 
@@ -45,7 +45,7 @@ firstBound q = q .args .1 .1 .0
 pub record LoadsExist (area : Area) (f : Frame) (list : List ℕ) : Type 0 where
   pub position : ℕ
   pub last : Frame
-  pub loads : LoadRun Step area f list position last
+  pub loads : LoadRun PublicStep area f list position last
 
 -- there is a quote of a list, with this gas and bound
 pub record QuoteExists (list : List ℕ) (gas bound : ℕ) : Type 0 where

@@ -11,7 +11,7 @@ use Rattle.view.specs.Instructions.{heapOf}
 use Rattle.opening.specs.Opening.{OpenAsks}
 use Rattle.plain.specs.Plain.{Plain, freshPlain, seen}
 use Rattle.plain.specs.Claim.{Started, Run, Any}
-use Rattle.lists.specs.Steps.{Step}
+use Rattle.lists.specs.Steps.{PublicStep, Step}
 
 -- the numbers of a layout have 32 bits
 pub record Narrow (s : Setting) : Type 0 where
@@ -54,12 +54,12 @@ Fits (StoreStatic f x n) = Unit {0}
 -- the call c, lent the buffers m, has a step with the outcome o
 pub record Goes (m : Mem) (c : Call) (o : Outcome Value) : Type 0 where
   pub after : Mem
-  pub step : Step m c o after
+  pub step : PublicStep m c o after
 
 -- a list begins by opening the buffers m
 pub record Begins (m : Mem) (s : Setting) (calldata : List ℕ) : Type 0 where
   pub start : Mem
-  pub step : Step m (Open s calldata) (done nothing) start
+  pub step : PublicStep m (Open s calldata) (done nothing) start
   pub started : Started Step s start (freshPlain s calldata)
 
 pub record NotEmpty : Type 0 where

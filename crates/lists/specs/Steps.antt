@@ -66,25 +66,25 @@ use Rattle.lists.specs.Went.{Went, lent, rest, exits}
 use Rattle.lists.specs.Linked.{LinkedStep}
 use Rattle.lists.specs.Owned.{OwnedStep}
 
--- THE STEPS: a constructor for each public function, and those of the functions that hosts link
-pub data Step : Mem → Call → Outcome Value → Mem → Type 0 where
+-- a call of a public function: a constructor for each
+pub data PublicStep : Mem → Call → Outcome Value → Mem → Type 0 where
   did-open :
       (w : Went open-kinds.ps open-kinds.r open-reads.Asked open-reads.Learnt) →
-      Step
+      PublicStep
       (lent (w .args))
       (Open (settingFrom (rest (w .args) .0) (rest (w .args) .1 .0) (rest (w .args) .1 .1 .0) (rest (w .args) .1 .1 .1 .0)) (now (rest (w .args) .1 .1 .1 .1 .0)))
       (answerOutcome nothing (w .result))
       (lent (exits w))
   did-read-word :
       (w : Went word-kinds.ps word-kinds.r word-reads.Asked word-reads.Learnt) →
-      Step
+      PublicStep
       (lent (w .args))
       (ReadWord (rest (w .args) .0 .0) (rest (w .args) .1 .0 .0))
       (mapped number (reads.wordOutcome (w .result)))
       (lent (exits w))
   did-read-partial :
       (w : Went partial-kinds.ps partial-kinds.r partial-reads.Asked partial-reads.Learnt) →
-      Step
+      PublicStep
       (lent (w .args))
       (ReadPartial (rest (w .args) .0 .0) (rest (w .args) .1 .0 .0) (rest (w .args) .1 .1 .0 .0))
       (mapped number (reads.wordOutcome (w .result)))
@@ -92,21 +92,21 @@ pub data Step : Mem → Call → Outcome Value → Mem → Type 0 where
   -- the value is what the output holds after the call
   did-read-range :
       (w : Went range-kinds.ps range-kinds.r range-reads.Asked range-reads.Learnt) →
-      Step
+      PublicStep
       (lent (w .args))
       (ReadRange (rest (w .args) .0 .0) (rest (w .args) .1 .0 .0) (rest (w .args) .1 .1 .0 .0) (length (now (rest (w .args) .1 .1 .1 .0))))
       (mapped (λ _. bytes (now (rest (exits w) .1 .1 .1 .0))) (unitOutcome (w .result)))
       (lent (exits w))
   did-read-byte :
       (w : Went byte-kinds.ps byte-kinds.r byte-reads.Asked byte-reads.Learnt) →
-      Step
+      PublicStep
       (lent (w .args))
       (ReadByte (rest (w .args) .0 .0) (rest (w .args) .1 .0 .0))
       (mapped number (byteOutcome (w .result)))
       (lent (exits w))
   did-dynamic-length :
       (w : Went length-kinds.ps length-kinds.r length-reads.Asked length-reads.Learnt) →
-      Step
+      PublicStep
       (lent (w .args))
       DynamicLength
       (mapped number (lengthOutcome (w .result)))
@@ -114,70 +114,70 @@ pub data Step : Mem → Call → Outcome Value → Mem → Type 0 where
   -- a lookup shows a part, and its check says whether it is refused
   did-lookup :
       (w : Went chunk-kinds.ps chunk-kinds.r chunk-reads.Asked chunk-reads.Learnt) →
-      Step
+      PublicStep
       (lent (w .args))
       (Lookup (rest (w .args) .0 .0) (rest (w .args) .1 .0) (now (rest (w .args) .1 .1 .0)))
       (done (bytes (now (w .result))))
       (lent (exits w))
   did-lookup-check :
       (w : Went check-kinds.ps check-kinds.r check-reads.Asked check-reads.Learnt) →
-      Step
+      PublicStep
       (lent (w .args))
       (LookupCheck (rest (w .args) .0 .0) (rest (w .args) .1 .0) (now (rest (w .args) .1 .1 .0)))
       (mapped (λ _. nothing) (unitOutcome (w .result)))
       (lent (exits w))
   did-snapshot :
       (w : Went snapshot-kinds.ps snapshot-kinds.r snapshot-reads.Asked snapshot-reads.Learnt) →
-      Step
+      PublicStep
       (lent (w .args))
       Snapshot
       (mapped lengthsValue (snapshotOutcome (w .result)))
       (lent (exits w))
   did-write-word :
       (w : Went write-kinds.ps write-kinds.r write-reads.Asked write-reads.Learnt) →
-      Step
+      PublicStep
       (lent (w .args))
       (WriteWord (rest (w .args) .0 .0) (rest (w .args) .1 .0 .0) (value (rest (w .args) .1 .1 .0 .limbs)))
       (answerOutcome nothing (w .result))
       (lent (exits w))
   did-write-bytes :
       (w : Went put-kinds.ps put-kinds.r put-reads.Asked put-reads.Learnt) →
-      Step
+      PublicStep
       (lent (w .args))
       (WriteBytes (rest (w .args) .0 .0) (rest (w .args) .1 .0 .0) (now (rest (w .args) .1 .1 .0)))
       (answerOutcome nothing (w .result))
       (lent (exits w))
   did-allocate :
       (w : Went allocate-kinds.ps allocate-kinds.r allocate-reads.Asked allocate-reads.Learnt) →
-      Step
+      PublicStep
       (lent (w .args))
       (Allocate (rest (w .args) .0 .0) [])
       (answerOutcome nothing (w .result))
       (lent (exits w))
   did-allocate-with :
       (w : Went fill-kinds.ps fill-kinds.r fill-reads.Asked fill-reads.Learnt) →
-      Step
+      PublicStep
       (lent (w .args))
       (Allocate (rest (w .args) .0 .0) (now (rest (w .args) .1 .0)))
       (answerOutcome nothing (w .result))
       (lent (exits w))
   did-free :
       (w : Went free-kinds.ps free-kinds.r free-reads.Asked free-reads.Learnt) →
-      Step
+      PublicStep
       (lent (w .args))
       (Free (rest (w .args) .0 .0))
       (answerOutcome nothing (w .result))
       (lent (exits w))
   did-window :
       (w : Went window-kinds.ps window-kinds.r window-reads.Asked window-reads.Learnt) →
-      Step
+      PublicStep
       (lent (w .args))
       (Window (rest (w .args) .0 .0) (rest (w .args) .1 .0 .0) (rest (w .args) .1 .1 .0))
       (answerOutcome nothing (w .result))
       (lent (exits w))
   did-truncate :
       (w : Went truncate-kinds.ps truncate-kinds.r truncate-reads.Asked truncate-reads.Learnt) →
-      Step
+      PublicStep
       (lent (w .args))
       (Truncate (rest (w .args) .0))
       (answerOutcome nothing (w .result))
@@ -185,14 +185,14 @@ pub data Step : Mem → Call → Outcome Value → Mem → Type 0 where
   -- a comparison is lent two memories; this one is the left, the right, or both
   did-compare-left :
       (w : Went compare-kinds.ps compare-kinds.r compare-reads.Asked compare-reads.Learnt) →
-      Step
+      PublicStep
       (lent (w .args))
       (CompareLeft (lent (rest (w .args))))
       (compares.comparisonOutcome (w .result))
       (lent (exits w))
   did-compare-right :
       (w : Went compare-kinds.ps compare-kinds.r compare-reads.Asked compare-reads.Learnt) →
-      Step
+      PublicStep
       (lent (rest (w .args)))
       (CompareRight (lent (w .args)))
       (compares.comparisonOutcome (w .result))
@@ -200,21 +200,21 @@ pub data Step : Mem → Call → Outcome Value → Mem → Type 0 where
   did-compare-both :
       (w : Went compare-kinds.ps compare-kinds.r compare-reads.Asked compare-reads.Learnt) →
       lent (rest (w .args)) ≡ lent (w .args) →
-      Step
+      PublicStep
       (lent (w .args))
       CompareBoth
       (compares.comparisonOutcome (w .result))
       (lent (exits w))
   did-rollback :
       (w : Went rollback-kinds.ps rollback-kinds.r rollback-reads.Asked rollback-reads.Learnt) →
-      Step
+      PublicStep
       (lent (w .args))
       (Rollback (rest (w .args) .0) (rest (w .args) .1 .0))
       (answerOutcome nothing (w .result))
       (lent (exits w))
   did-delete-history :
       (w : Went delete-kinds.ps delete-kinds.r delete-reads.Asked delete-reads.Learnt) →
-      Step
+      PublicStep
       (lent (w .args))
       DeleteHistory
       (answerOutcome nothing (w .result))
@@ -222,14 +222,14 @@ pub data Step : Mem → Call → Outcome Value → Mem → Type 0 where
   -- the frame is an argument, and a part of the answer
   did-load :
       (w : Went load-kinds.ps load-kinds.r load-reads.Asked load-reads.Learnt) →
-      Step
+      PublicStep
       (lent (w .args))
       (Load (rest (w .args) .1 .0) (rest (w .args) .0) (operandOf (rest (w .args) .1 .1 .0)))
       (executions.executionOutcome (w .result))
       (lent (exits w))
   did-store :
       (w : Went store-kinds.ps store-kinds.r store-reads.Asked store-reads.Learnt) →
-      Step
+      PublicStep
       (lent (w .args))
       (Store
       (rest (w .args) .1 .0)
@@ -241,24 +241,28 @@ pub data Step : Mem → Call → Outcome Value → Mem → Type 0 where
       (lent (exits w))
   did-load-pointer :
       (w : Went pointer-kinds.ps pointer-kinds.r pointer-reads.Asked pointer-reads.Learnt) →
-      Step
+      PublicStep
       (lent (w .args))
       (LoadPointer (rest (w .args) .0) (operandOf (rest (w .args) .1 .0)))
       (executions.executionOutcome (w .result))
       (lent (exits w))
   did-load-static :
       (w : Went load-static-kinds.ps load-static-kinds.r load-static-reads.Asked load-static-reads.Learnt) →
-      Step
+      PublicStep
       (lent (w .args))
       (LoadStatic (rest (w .args) .0) (operandOf (rest (w .args) .1 .0)))
       (executions.executionOutcome (w .result))
       (lent (exits w))
   did-store-static :
       (w : Went store-static-kinds.ps store-static-kinds.r store-static-reads.Asked store-static-reads.Learnt) →
-      Step
+      PublicStep
       (lent (w .args))
       (StoreStatic (rest (w .args) .0) (operandOf (rest (w .args) .1 .0)) (value (rest (w .args) .1 .1 .0 .limbs)))
       (executions.executionOutcome (w .result))
       (lent (exits w))
+
+-- THE STEPS: calls of the public functions and of those that hosts link
+pub data Step : Mem → Call → Outcome Value → Mem → Type 0 where
+  public : {m m' : Mem} {c : Call} {o : Outcome Value} → PublicStep m c o m' → Step m c o m'
   linked : {m m' : Mem} {c : Call} {o : Outcome Value} → LinkedStep m c o m' → Step m c o m'
   owned : {m m' : Mem} {c : Call} {o : Outcome Value} → OwnedStep m c o m' → Step m c o m'

@@ -11,12 +11,12 @@ use Rattle.store.specs.Mem.{Mem}
 use Rattle.view.specs.Instructions.{Operand, Hook, InstructionResult, onHook}
 use Rattle.view.specs.Calls.{Call, Load, Store, instructionResult}
 use Rattle.growth.specs.Charges.{Charge, LoadsAndStores}
-use Rattle.lists.specs.Steps.{Step}
+use Rattle.lists.specs.Steps.{PublicStep}
 
 -- a call that is carried out and leaves the frame g
 pub record Leaves (m : Mem) (c : Call) (g : Frame) (m' : Mem) : Type 0 where
   pub result : InstructionResult
-  pub step : Step m c (done (instructionResult result)) m'
+  pub step : PublicStep m c (done (instructionResult result)) m'
   pub frame : result .frame ≡ g
 
 -- an operand without a tag
@@ -59,4 +59,4 @@ pub record Worked : Type 0 where
   -- the store at 10 stops on the hook
   pub stops : store-10 .result .stop ≡ onHook 7
   -- there is a run with these charges, from the first frame to the last
-  pub run : LoadsAndStores Step (workedFrame 1000 4096 0) charges (workedFrame 867 4097 132)
+  pub run : LoadsAndStores PublicStep (workedFrame 1000 4096 0) charges (workedFrame 867 4097 132)

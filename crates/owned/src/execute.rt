@@ -12,10 +12,11 @@ use state::Frame;
 use store::head;
 use word::Word;
 ghost use mathlib.Core.Path.{_≡_};
+ghost use Rattle.outcome.specs.Outcome.{answered};
 ghost use Rattle.word.specs.Value.{value, limbsValue};
 ghost use Rattle.store.specs.Mem.{mem};
 ghost use Rattle.formed.specs.WellFormed.{WellFormed};
-ghost use Rattle.view.specs.Calls.{Call};
+ghost use Rattle.view.specs.Calls.{Call, nothing, CallDoes};
 ghost use Rattle.execution.specs.Executions.{operandOf, hookOf, Runs};
 ghost use Rattle.abi.specs.Executing.{areaOf, operandFrom, hookFrom};
 ghost use Rattle.owned.specs.Answers.{frameOf, withStatus, statusFrom, executionOf};
@@ -155,7 +156,31 @@ pub extern "C" fn own_load(
     report(load(bytes, keys, order, words, frame, area, operand))
 }
 
-// A store: a word in one chunk that a hint knows, on a page without a journal and not at the hook, is written here. All else is behind one call.
+// A word in one chunk that a hint knows, on a page without a journal, is written here. All else is behind one call.
+fn write(
+    bytes: &mut [u8],
+    keys: &mut [u64],
+    order: &mut [u32],
+    words: &mut [u64],
+    page: PageId,
+    address: Address,
+    word: Word,
+) -> u32
+    requires { ⌜ WellFormed (mem (now bytes) (now keys) (now order) (now words)) ⌝ }
+    ensures { λ r. ⌜ CallDoes (mem (now (bytes .entry)) (now (keys .entry)) (now (order .entry)) (now (words .entry))) (Call.WriteWord (page .0) (address .0) (value (word .limbs))) (answered r nothing) (mem (now (bytes .exit)) (now (keys .exit)) (now (order .exit)) (now (words .exit))) ⌝ }
+{
+    let s = hints::one_chunk(keys, order, words, page, address);
+    if s < words[head::CHUNKS] as usize {
+        if hints::has_no_journal(words, page) {
+            let value = word::to_big_endian(word);
+            bodies::copy(&value, 0, bytes, 256 * s + (address.0 % 256) as usize, 32);
+            return 0;
+        }
+    }
+    write_steps::write_word(bytes, keys, order, words, page, address, word)
+}
+
+// A store whose growth is paid and that is not at the hook is a write: refused by its number, or carried out. Where the hook is hit or the growth is not paid, the store is behind one call.
 fn store(
     bytes: &mut [u8],
     keys: &mut [u64],
@@ -172,23 +197,21 @@ fn store(
 {
     let page = execution::page_of(frame, area);
     let address = Address(word::low_u32(operand.word));
-    let s = hints::one_plain_chunk(keys, order, words, page, address);
-    if s < words[head::CHUNKS] as usize {
-        let step = execution::reach(frame, area, operand.word);
-        if step.paid {
-            if !execution::hits(hook, address) {
-                let at = 256 * s + (address.0 % 256) as usize;
-                let value = word::to_big_endian(word);
-                bodies::copy(&value, 0, bytes, at, 32);
-                let none = execution::no_word();
-                return execution::carried_out(
-                    ExecutionStatus::Running,
-                    none,
-                    operand,
-                    false,
-                    step.frame,
-                );
+    let step = execution::reach(frame, area, operand.word);
+    if step.paid {
+        if !execution::hits(hook, address) {
+            let number = write(bytes, keys, order, words, page, address, word);
+            if number != 0 {
+                return execution::refused(number, frame);
             }
+            let none = execution::no_word();
+            return execution::carried_out(
+                ExecutionStatus::Running,
+                none,
+                operand,
+                false,
+                step.frame,
+            );
         }
     }
     instructions::on_formed::store(bytes, keys, order, words, frame, area, operand, word, hook)

@@ -10,14 +10,20 @@ use reads::WordRead;
 use store::head;
 use word::Word;
 ghost use mathlib.Core.List.{[]};
+ghost use mathlib.Core.Bool.{false};
 ghost use mathlib.Core.Path.{_≡_};
 ghost use lib.ListN.{length};
 ghost use Rattle.outcome.specs.Outcome.{refused, done, answered};
 ghost use Rattle.compare.specs.Verdict.{comparisonOutcome};
-ghost use Rattle.word.specs.Value.{value, limbsValue};
+ghost use Prim.Native.Nat.{_-_};
+ghost use Rattle.word.specs.Value.{value, limbsValue, bigEndian};
 ghost use Rattle.store.specs.Mem.{mem};
 ghost use Rattle.formed.specs.Formed.{wellFormed};
 ghost use Rattle.formed.specs.WellFormed.{WellFormed};
+ghost use Rattle.view.specs.View.{viewOf};
+ghost use Rattle.view.specs.Steps.{run, padded};
+ghost use Rattle.view.specs.Checks.{onMemory, partialChecks};
+ghost use Rattle.reads.specs.Calls.{wordOutcome, ReadDoes};
 ghost use Rattle.view.specs.Calls.{Call, Value, nothing, answerOf, comparisonOf, CallDoes, OpenDoes};
 ghost use Rattle.page_ids.specs.Decode.{layoutFrom};
 ghost use Rattle.opening.specs.Opening.{settingFrom};
@@ -26,7 +32,7 @@ ghost use Rattle.owned.specs.Answers.{comparedOutcome};
 
 const CHUNK_BYTES: usize = 256;
 
-// Whether the memory is well formed: the test that every function of the library's C interface makes first.
+// Whether the memory is well formed: the test that every function of the library's C interface makes first if it is lent a memory.
 #[no_mangle]
 pub extern "C" fn own_well_formed(bytes: &[u8], keys: &[u64], order: &[u32], words: &[u64]) -> bool
     ensures { λ r. ⌜ r ≡ wellFormed (mem (now (bytes .entry)) (now (keys .entry)) (now (order .entry)) (now (words .entry))) ⌝ }
@@ -121,7 +127,7 @@ pub extern "C" fn own_read_u256_partially(
     end: u32,
 ) -> WordRead
     requires { ⌜ WellFormed (mem (now bytes) (now keys) (now order) (now words)) ⌝ }
-    ensures { λ r. let m = mem (now (bytes .entry)) (now (keys .entry)) (now (order .entry)) (now (words .entry)) in ⌜ CallDoes m (Call.ReadPartial page start end) (answered (r .refusal) (Value.number (value (r .word .limbs)))) m ⌝ }
+    ensures { λ r. let m = mem (now (bytes .entry)) (now (keys .entry)) (now (order .entry)) (now (words .entry)) in ⌜ ReadDoes (onMemory m (partialChecks start end) (bigEndian (padded (run (viewOf m) page start (end - start))))) (wordOutcome r) (value (r .word .limbs)) 0 ⌝ }
 {
     reads::on_formed::read_u256_partially(
         bytes,
@@ -240,27 +246,8 @@ pub extern "C" fn own_chunk<'a>(
 
 // ---- writes and allocation
 
-// Any word: on a page with a journal too, in two chunks, or in chunks that no hint knows.
-fn write_any(
-    bytes: &mut [u8],
-    keys: &mut [u64],
-    order: &mut [u32],
-    words: &mut [u64],
-    page: PageId,
-    address: Address,
-    word: Word,
-) -> u32
-    requires { ⌜ WellFormed (mem (now bytes) (now keys) (now order) (now words)) ⌝ }
-    ensures { λ r. ⌜ CallDoes (mem (now (bytes .entry)) (now (keys .entry)) (now (order .entry)) (now (words .entry))) (Call.WriteWord (page .0) (address .0) (value (word .limbs))) (answered r nothing) (mem (now (bytes .exit)) (now (keys .exit)) (now (order .exit)) (now (words .exit))) ⌝ }
-{
-    let s = hints::one_chunk(keys, order, words, page, address);
-    if s < words[head::CHUNKS] as usize {
-        return write_steps::write_found(bytes, keys, order, words, page, address, s, s, word);
-    }
-    write_steps::write_word(bytes, keys, order, words, page, address, word)
-}
-
-// A word in one chunk that a hint knows, on a page without a journal, is written here. All else is behind one call.
+// A word in one chunk that a hint knows, on a page without a journal, is written here. For all else there is one call each: a page with a journal, a chunk that no hint knows, a word over two chunks.
+// `write` in execute.rt does the same for stores. Behind one function for both the compiler would inline it in neither.
 #[no_mangle]
 pub extern "C" fn own_write_u256(
     bytes: &mut [u8],
@@ -277,22 +264,24 @@ pub extern "C" fn own_write_u256(
     requires { ⌜ WellFormed (mem (now bytes) (now keys) (now order) (now words)) ⌝ }
     ensures { λ r. ⌜ CallDoes (mem (now (bytes .entry)) (now (keys .entry)) (now (order .entry)) (now (words .entry))) (Call.WriteWord page address (limbsValue limb0 limb1 limb2 limb3)) (answered r nothing) (mem (now (bytes .exit)) (now (keys .exit)) (now (order .exit)) (now (words .exit))) ⌝ }
 {
-    let s = hints::one_plain_chunk(keys, order, words, PageId(page), Address(address));
+    let page = PageId(page);
+    let address = Address(address);
+    let s = hints::one_chunk(keys, order, words, page, address);
     if s < words[head::CHUNKS] as usize {
-        let value = word::to_big_endian(frames::word_of(limb0, limb1, limb2, limb3));
-        bodies::copy(&value, 0, bytes, 256 * s + (address % 256) as usize, 32);
-        return 0;
+        if hints::has_no_journal(words, page) {
+            let value = word::to_big_endian(frames::word_of(limb0, limb1, limb2, limb3));
+            bodies::copy(&value, 0, bytes, 256 * s + (address.0 % 256) as usize, 32);
+            return 0;
+        }
+        let noted = frames::word_of(limb0, limb1, limb2, limb3);
+        return write_steps::write_found(bytes, keys, order, words, page, address, s, s, noted);
     }
     let word = frames::word_of(limb0, limb1, limb2, limb3);
-    write_any(
-        bytes,
-        keys,
-        order,
-        words,
-        PageId(page),
-        Address(address),
-        word,
-    )
+    // no hint knows the one chunk of such a word, so its page is searched for at once
+    if address.0 % 256 <= 224 {
+        return write_steps::write_searched(bytes, keys, order, words, page, address, word);
+    }
+    write_steps::write_word(bytes, keys, order, words, page, address, word)
 }
 
 #[no_mangle]
@@ -451,6 +440,7 @@ pub struct Compared {
 fn verdict(comparison: Comparison) -> Compared
     requires { ⌜ (comparisonOutcome comparison ≡ refused 0 → ⊥) ⌝ }
     ensures { λ r. ⌜ comparedOutcome r ≡ comparisonOutcome comparison ⌝ }
+    ensures { λ r. ⌜ ((r .refusal ≡ 0 → ⊥) → r .equal ≡ false) ⌝ }
 {
     match comparison {
         Comparison::Equal => Compared {
@@ -482,6 +472,7 @@ pub extern "C" fn own_compare(
     requires { ⌜ WellFormed (mem (now bytes) (now keys) (now order) (now words)) ⌝ }
     requires { ⌜ WellFormed (mem (now «other_bytes») (now «other_keys») (now «other_order») (now «other_words»)) ⌝ }
     ensures { λ r. ⌜ comparedOutcome r ≡ comparisonOf (mem (now (bytes .entry)) (now (keys .entry)) (now (order .entry)) (now (words .entry))) (mem (now («other_bytes» .entry)) (now («other_keys» .entry)) (now («other_order» .entry)) (now («other_words» .entry))) ⌝ }
+    ensures { λ r. ⌜ ((r .refusal ≡ 0 → ⊥) → r .equal ≡ false) ⌝ }
 {
     verdict(compare::on_formed::compare(
         bytes,

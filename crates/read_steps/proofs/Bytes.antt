@@ -3,13 +3,17 @@
 use mathlib.Core.Path.{_≡_, refl, sym, ap, _∙_}
 use mathlib.Core.Bool.{true}
 use mathlib.Core.List.{List, [], _∷_}
+use mathlib.Core.Logic.{⊎-elim}
 use Prim.Native.Nat.{ℕ, zero, suc, _+_, _*_, _-_, _/_, _%_, _≤_, _<_}
 use native.Mathlib.Omega.{arith}
 use lib.Dec.{eqb}
 use lib.ListN.{length, getD, take, drop, length-drop, List·getD-eq-default}
 use lib.Seq.{getD-take, getD-drop, length-take-le}
 use borrow.Author.Tests.{le-leb, lt-leb, eqb-true}
-use Rattle.index.proofs.Logic.{and-left, and-right}
+use Rattle.index.proofs.Logic.{and-left, and-right, lt-or-ge}
+use Rattle.index.specs.Index.{seek}
+use Rattle.index.proofs.Places.{seek-le}
+use Rattle.store.specs.Keys.{keyOf}
 use Rattle.store.specs.Mem.{Mem, slotCount, chunkBytes}
 use Rattle.store.specs.Find.{slotFor}
 use Rattle.formed.specs.Parts.{tab, slotOfChunk, byteAt}
@@ -31,6 +35,37 @@ module _ (m : Mem) (p k : ℕ) where
   pub slot-far : 16777216 < k → slotCount (m .words) ≡ slotOfChunk m p k
   unfolding slotOfChunk
   slot-far l = rw (lt-leb k 16777216 l)
+
+  -- there are few slots
+  pub slot-few : WellFormed m → (s : ℕ) → s ≡ slotOfChunk m p k → s ≤ 65536
+  slot-few f s e =
+      let few = f .lengths .chunks-hi in
+      let in-keys = f .lengths .in-keys in
+      ⊎-elim (λ (far : 16777216 < k). let q = slot-far far in omega arith)
+      (λ (near : k ≤ 16777216).
+      let q = slot-near near in
+      let l = seek-le (take (slotCount (m .words)) (m .keys)) (keyOf (seek (drop (slotCount (m .words)) (m .keys)) (p + 1)) k) in
+      let n = length-take-le (slotCount (m .words)) (m .keys) (omega arith) in
+      omega arith)
+      (lt-or-ge 16777216 k)
+
+  -- a slot that has a chunk is the one that a lookup finds
+  pub slot-within : (s : ℕ) → s ≡ slotOfChunk m p k → s < slotCount (m .words) → s ≡ slotFor (m .keys) (m .words) p k
+  slot-within s e l =
+      ⊎-elim (λ (far : 16777216 < k). let q = slot-far far in absurd (omega arith)) (λ (near : k ≤ 16777216). e ∙ sym (slot-near near)) (lt-or-ge 16777216 k)
+
+-- n bytes from offset r of slot s on, if there are c slots
+module _ (c s r n : ℕ) (bytes : List ℕ) (long : 256 * c ≤ length bytes) (one : r + n ≤ 256) (to : ℕ) (o d : List ℕ) where
+  pub slot-held : s < c → Put (λ i. getD bytes (256 * s + r + i) 0) to n o d → Put (λ i. getD (take (256 * c) bytes) (256 * s + r + i) 0) to n o d
+  slot-held l w =
+      put-by (λ i. getD bytes (256 * s + r + i) 0) to o (λ i. getD (take (256 * c) bytes) (256 * s + r + i) 0) n d
+      (λ i h. sym (getD-take (256 * c) bytes (256 * s + r + i) 0 (omega arith))) w
+
+  pub slot-none : c ≤ s → Put (λ i. 0) to n o d → Put (λ i. getD (take (256 * c) bytes) (256 * s + r + i) 0) to n o d
+  slot-none l w =
+      let e = length-take-le (256 * c) bytes long in
+      put-by (λ i. 0) to o (λ i. getD (take (256 * c) bytes) (256 * s + r + i) 0) n d
+      (λ i h. sym (List·getD-eq-default (take (256 * c) bytes) 0 (omega arith))) w
 
 pub zero-at : (z : List ℕ) → zeros z ≡ true → (i : ℕ) → getD z i 0 ≡ 0
 unfolding zeros
@@ -71,12 +106,13 @@ module _ (m : Mem) (f : WellFormed m) (p : ℕ) where
     pub run-held : s < slotCount (m .words) → (i : ℕ) → i < n → getD (m .bytes) (256 * s + a % 256 + i) 0 ≡ byteAt m p (a + i)
     run-held l i h = byte-held (a / 256) s is l (a + i) (256 * s + a % 256 + i) (omega arith) (omega arith)
 
-    module _ (pos : ℕ) (o d : List ℕ) where
-      pub part-held : s < slotCount (m .words) → Put (λ i. getD (m .bytes) (256 * s + a % 256 + i) 0) pos n o d → Put (λ i. byteAt m p (a + i)) pos n o d
-      part-held l w = put-by (λ i. getD (m .bytes) (256 * s + a % 256 + i) 0) pos o (λ i. byteAt m p (a + i)) n d (run-held l) w
-
-      pub part-none : slotCount (m .words) ≤ s → Put (λ i. 0) pos n o d → Put (λ i. byteAt m p (a + i)) pos n o d
-      part-none l w = put-by (λ i. 0) pos o (λ i. byteAt m p (a + i)) n d (λ i h. byte-none (a / 256) s is l (a + i) (omega arith)) w
+    pub part-is : (pos : ℕ) (o d : List ℕ) → Put (λ i. getD (chunkBytes m) (256 * s + a % 256 + i) 0) pos n o d → Put (λ i. byteAt m p (a + i)) pos n o d
+    part-is pos o d w =
+        put-by (λ i. getD (chunkBytes m) (256 * s + a % 256 + i) 0) pos o (λ i. byteAt m p (a + i)) n d
+        (λ i h.
+        let q : 256 * s + a % 256 + i ≡ 256 * s + (a + i) % 256 = omega arith in
+        ap (λ (x : ℕ). getD (chunkBytes m) x 0) q ∙ sym (byte-is (a / 256) s is (a + i) (omega arith)))
+        w
 
   -- a word in the slots that hold its chunks
   pub word-held : (a s t : ℕ) → a ≤ 4294967295 → s ≡ slotFor (m .keys) (m .words) p (a / 256) → t ≡ slotFor (m .keys) (m .words) p ((a + 31) / 256) → s < slotCount (m .words) → t < slotCount (m .words)

@@ -2,26 +2,26 @@
 ghost use mathlib.Core.Path.{_≡_};
 ghost use mathlib.Core.Bool.{true};
 ghost use mathlib.Core.List.{List};
-ghost use Prim.Native.Nat.{ℕ, _+_, _*_, _%_, _<_, _≤_};
-ghost use lib.ListN.{length};
+ghost use Prim.Native.Nat.{ℕ, _+_, _*_, _<_, _≤_, min};
+ghost use lib.ListN.{length, getD, take};
 ghost use Rattle.word.specs.Value.{value, bigEndian};
-ghost use Rattle.store.specs.Mem.{mem};
+ghost use Rattle.store.specs.Mem.{mem, headLength, slotCount};
 ghost use Rattle.store.specs.Find.{Findable};
-ghost use Rattle.formed.specs.Parts.{slotOfChunk, byteAt};
+ghost use Rattle.formed.specs.Parts.{slotOfChunk};
 ghost use Rattle.formed.specs.Formed.{zeros};
 ghost use Rattle.formed.specs.WellFormed.{WellFormed};
 ghost use Rattle.view.specs.View.{viewOf};
 ghost use Rattle.view.specs.Steps.{run, padded};
+ghost use Rattle.bodies.specs.Walk.{SlotBefore};
 ghost use Rattle.read_steps.specs.Reading.{Put};
 use page_ids::Address;
 use page_ids::PageId;
 use store::head;
 use word::Word;
 
-// The lesser of two numbers above 0.
+// The lesser of two numbers.
 fn least(a: usize, b: usize) -> usize
-    requires { ⌜ (0 < a) × (0 < b) ⌝ }
-    ensures { λ r. ⌜ (0 < r) × (r ≤ a) × (r ≤ b) ⌝ }
+    ensures { λ r. ⌜ r ≡ min a b ⌝ }
 {
     if a < b {
         return a;
@@ -52,7 +52,7 @@ fn slot_at(keys: &[u64], order: &[u32], words: &[u64], page: PageId, k: usize) -
     store::place_of(keys, order, words, page, k as u32)
 }
 
-// The same, by its hint first: a read of many chunks then makes no call for a chunk that a hint knows.
+// The same, by its hint first: a read of many chunks then makes no call for a chunk that a hint knows. Its last line is a call of `slot_at`, since the compiler then leaves the slices where they are in the loop of `read_into`.
 fn slot_by_hint(keys: &[u64], order: &[u32], words: &[u64], page: PageId, k: usize) -> usize
     requires { ⌜ Findable (now keys) (now order) (now words) ⌝ }
     ensures { λ r. ⌜ ((b : List ℕ) → r ≡ slotOfChunk (mem b (now (keys .entry)) (now (order .entry)) (now (words .entry))) (page .0) k) ⌝ }
@@ -66,28 +66,40 @@ fn slot_by_hint(keys: &[u64], order: &[u32], words: &[u64], page: PageId, k: usi
     slot_at(keys, order, words, page, k)
 }
 
-// Reads n bytes of a page from address a on, which lie in one chunk, to `out` from `to` on.
-fn read_part(
-    bytes: &[u8],
+// The slot of chunk k of a page; `last` is the slot of the chunk before it, or at least the number of slots. Chunks that follow each other often have slots that do.
+fn slot_after(
     keys: &[u64],
     order: &[u32],
     words: &[u64],
     page: PageId,
-    a: usize,
-    n: usize,
-    out: &mut [u8],
-    to: usize,
-)
-    requires { ⌜ WellFormed (mem (now bytes) (now keys) (now order) (now words)) ⌝ }
-    requires { ⌜ (a % 256 + n ≤ 256) × (to + n ≤ length (now out)) ⌝ }
-    ensures { λ _. ⌜ Put (λ i. byteAt (mem (now (bytes .entry)) (now (keys .entry)) (now (order .entry)) (now (words .entry))) (page .0) (a + i)) to n (now (out .entry)) (now (out .exit)) ⌝ }
+    k: usize,
+    last: usize,
+) -> usize
+    requires { ⌜ Findable (now keys) (now order) (now words) ⌝ }
+    requires { ⌜ (last ≤ 65536) × (last < slotCount (now words) → SlotBefore (now keys) (now words) (page .0) k last) ⌝ }
+    ensures { λ r. ⌜ ((b : List ℕ) → r ≡ slotOfChunk (mem b (now (keys .entry)) (now (order .entry)) (now (words .entry))) (page .0) k) ⌝ }
 {
-    let s = slot_by_hint(keys, order, words, page, a / 256);
+    if k > store::LAST_CHUNK as usize {
+        return words[head::CHUNKS] as usize;
+    }
+    let s = store::next_to(keys, words, last);
+    if s < words[head::CHUNKS] as usize {
+        return s;
+    }
+    slot_by_hint(keys, order, words, page, k)
+}
+
+// Reads n bytes from offset r of slot s on to `out` from `to` on. Where s is at least the number of slots they are zeros.
+fn read_part(bytes: &[u8], words: &[u64], s: usize, r: usize, n: usize, out: &mut [u8], to: usize)
+    requires { ⌜ (headLength ≤ length (now words)) × (slotCount (now words) ≤ 65536) × (256 * slotCount (now words) ≤ length (now bytes)) ⌝ }
+    requires { ⌜ (r + n ≤ 256) × (to + n ≤ length (now out)) ⌝ }
+    ensures { λ _. ⌜ Put (λ i. getD (take (256 * slotCount (now (words .entry))) (now (bytes .entry))) (256 * s + r + i) 0) to n (now (out .entry)) (now (out .exit)) ⌝ }
+{
     if s >= words[head::CHUNKS] as usize {
         fill(out, to, n);
         return;
     }
-    bodies::copy(bytes, 256 * s + a % 256, out, to, n);
+    bodies::copy(bytes, 256 * s + r, out, to, n);
 }
 
 // Reads the bytes from `start` on, as many as `out` has.
@@ -105,16 +117,19 @@ pub fn read_into(
     ensures { λ _. ⌜ now (out .exit) ≡ run (viewOf (mem (now (bytes .entry)) (now (keys .entry)) (now (order .entry)) (now (words .entry)))) (page .0) (start .0) (length (now (out .entry))) ⌝ }
 {
     let mut pos: usize = 0;
+    let mut last = words[head::CHUNKS] as usize;
     while pos < out.len() {
         let a = start.0 as usize + pos;
         let n = least(256 - a % 256, out.len() - pos);
-        read_part(bytes, keys, order, words, page, a, n, out, pos);
+        let s = slot_after(keys, order, words, page, a / 256, last);
+        read_part(bytes, words, s, a % 256, n, out, pos);
+        last = s;
         pos += n;
     }
 }
 
 // A word, if hints know its chunks.
-pub struct Known {
+struct Known {
     pub found: bool,
     pub word: Word,
 }

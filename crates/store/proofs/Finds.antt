@@ -1,30 +1,31 @@
 -- A hint that passes its test names the slot that the indexes find.
 -- Assumes nothing.
-use mathlib.Core.Path.{_≡_, sym, ap, _∙_}
+use mathlib.Core.Path.{_≡_, refl, sym, ap, _∙_}
 use mathlib.Core.Bool.{true}
 use mathlib.Core.List.{List}
-use Prim.Native.Nat.{ℕ, _+_, _*_, _-_, _/_, _%_, _<_, _≤_}
+use Prim.Native.Nat.{ℕ, _+_, _-_, _/_, _%_, _^_, _<_, _≤_}
 use native.Mathlib.Omega.{arith}
 use lib.Dec.{eqb}
 use lib.ListN.{length, getD, set, take, drop, length-drop, length-set}
 use lib.Seq.{getD-take, getD-drop, length-take-le, getD-set-other}
 use borrow.Author.Tests.{eqb-true}
-use Rattle.store.specs.Keys.{keyOf, keyEntry, keyChunk}
+use Rattle.store.specs.Keys.{keyFactor, keyOf}
 use Rattle.index.specs.Index.{seek}
 use Rattle.index.proofs.Orders.{index-rises, index-count}
-use Rattle.index.proofs.Places.{place-at, seek-le}
+use Rattle.index.proofs.Places.{place-at, seek-hit, seek-le}
 use Rattle.store.specs.Mem.{slotCount, pageCount, heldNow, inUse}
-use Rattle.store.specs.Find.{slotFor, Findable, Names, HintLearnt}
+use Rattle.store.specs.Find.{slotFor, Findable, Names, Follows, HintLearnt}
 
 module _ (keys words : List ℕ) (s p k : ℕ) where
-  pub names-by : s < slotCount words → 0 < getD keys s 0 → keyChunk (getD keys s 0) ≡ k → keyEntry (getD keys s 0) < length keys - slotCount words
-      → eqb (getD keys (slotCount words + keyEntry (getD keys s 0)) 0) (p + 1) ≡ true → Names keys words s p k
-  names-by l z e m q = record {
+  -- above is what is left of the key of slot s without its chunk number: a multiple of the factor, and not too large
+  pub names-by : (above : ℕ) → s < slotCount words → (above + (k + 1)) % 2 ^ 64 ≡ getD keys s 0 → k < 2 ^ 32 → above % keyFactor ≡ 0 → above / keyFactor < length keys - slotCount words → length keys ≤ 69636
+      → eqb (getD keys (slotCount words + above / keyFactor) 0) (p + 1) ≡ true → Names keys words s p k
+  names-by above l w small e m few q = record {
     slot-in = l;
-    entry = keyEntry (getD keys s 0);
+    entry = above / keyFactor;
     key = omega arith;
     entry-in = omega arith;
-    page = eqb-true (getD keys (slotCount words + keyEntry (getD keys s 0)) 0) (p + 1) q;
+    page = eqb-true (getD keys (slotCount words + above / keyFactor) 0) (p + 1) q;
   }
 
   module _ (order : List ℕ) (f : Findable keys order words) (n : Names keys words s p k) where
@@ -71,3 +72,16 @@ entry-few keys order words p e f q =
     let l = seek-le (drop (slotCount words) keys) (p + 1) in
     let d = length-drop (slotCount words) keys in
     omega arith
+
+-- a slot whose key follows that of a chunk's slot has the next chunk
+pub next-slot : (keys order words : List ℕ) (p k s r : ℕ) → Findable keys order words → k ≤ 4294967296 → s ≡ slotFor keys words p k → s < slotCount words → r < slotCount words → Follows keys s r → r ≡ slotFor keys words p (k + 1)
+next-slot keys order words p k s r f small e l m t =
+    let c = slotCount words in
+    let entry = seek (drop c keys) (p + 1) in
+    let ix = f .slots .index in
+    let d = length-take-le c keys (f .slots .in-keys) in
+    let at : getD (take c keys) s 0 ≡ keyOf entry k = ap (λ (x : ℕ). getD (take c keys) x 0) e ∙ seek-hit (take c keys) (keyOf entry k) (omega (arith, e, d, l)) in
+    let here : getD keys s 0 ≡ keyOf entry k = sym (getD-take c keys s 0 l) ∙ at in
+    let few = entry-few keys order words p entry f refl in
+    let there : getD keys r 0 ≡ keyOf entry (k + 1) = sym (t .key) ∙ ap (λ (x : ℕ). (x + 1) % 2 ^ 64) here ∙ omega arith in
+    sym (place-at (take c keys) (take c order) (heldNow words) (index-rises (take c keys) (take c order) (heldNow words) ix) (index-count (take c keys) (take c order) (heldNow words) ix) (keyOf entry (k + 1)) (omega arith) r (omega (arith, d, m)) (getD-take c keys r 0 m ∙ there))

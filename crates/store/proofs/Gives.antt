@@ -16,11 +16,11 @@ use Rattle.index.proofs.Orders.{slot-lt, index-rises}
 use Rattle.index.proofs.Removes.{ranks-order, rank-within, rank-outside}
 use Rattle.store.specs.Mem.{slotCount, heldNow}
 use Rattle.store.specs.Hold.{Indexed}
-use Rattle.store.specs.Give.{Zeroed, Wiped, within, Released}
+use Rattle.store.specs.Give.{Zeroed, SlotRun, Wiped, within, Released}
 use Rattle.store.proofs.Parts.{sub-zero, take-front, drop-front, put-long}
 use Rattle.store.proofs.Holds.{cut-keys, cut-order}
 
--- ---- the loop of `clear_chunk`
+-- ---- the loop of `clear`
 pub zero-none : (bs : List ℕ) (at : ℕ) → Zeroed bs at 0 bs
 zero-none bs at = record { long = refl; gone = λ x a b. absurd (omega arith); kept = λ x o. refl }
 
@@ -36,32 +36,82 @@ zero-more bs ds at n l z = record {
       ∙ z .kept x (⊎-elim (λ (a : x < at). inl a) (λ (a : at + (n + 1) ≤ x). inr (omega arith)) o);
 }
 
-pub zero-end : (bs ds : List ℕ) (at i : ℕ) → Zeroed bs at i ds → i ≤ 256 → 256 ≤ i → Zeroed bs at 256 ds
-zero-end bs ds at i z a b = let e : i ≡ 256 = omega arith in subst (λ (x : ℕ). Zeroed bs at x ds) e z
+pub zero-end : (bs ds : List ℕ) (at n i : ℕ) → Zeroed bs at i ds → i ≤ n → n ≤ i → Zeroed bs at n ds
+zero-end bs ds at n i z a b = let e : i ≡ n = omega arith in subst (λ (x : ℕ). Zeroed bs at x ds) e z
+
+-- ---- the loop of `run_end`
+pub run-one : (os : List ℕ) (from to : ℕ) → from < to → SlotRun os from to (from + 1)
+run-one os from to l = record {
+  some = omega arith;
+  end = omega arith;
+  next = λ i a b. let e : i ≡ from = omega arith in ap (λ (x : ℕ). getD os x 0) e ∙ omega arith;
+}
+
+pub run-more : (os : List ℕ) (from to i : ℕ) → i < to → getD os i 0 ≡ getD os from 0 + (i - from) → SlotRun os from to i → SlotRun os from to (i + 1)
+run-more os from to i l q u = record {
+  some = let h = u .some in omega arith;
+  end = omega arith;
+  next = λ j a b.
+      ⊎-elim (λ (e : j ≡ i). ap (λ (x : ℕ). getD os x 0) e ∙ q ∙ ap (λ (x : ℕ). getD os from 0 + (x - from)) (sym e))
+      (λ (ne : j ≡ i → ⊥). u .next j a (omega arith))
+      (same-or-not j i);
+}
+
+pub run-last : (os : List ℕ) (from to i : ℕ) → to ≤ i → SlotRun os from to i → SlotRun os from to to
+run-last os from to i l u = let e : i ≡ to = (let h = u .end in omega arith) in subst (λ (x : ℕ). SlotRun os from to x) e u
 
 -- ---- the loop of `wipe`
 pub wipe-none : (bs os : List ℕ) (from to : ℕ) → to ≤ from → Wiped bs os from to bs
 wipe-none bs os from to l = record { long = refl; gone = λ i r a b h. absurd (omega arith); kept = λ x n. refl }
 
-pub wipe-more : (bs os ds ds' : List ℕ) (from i : ℕ) → from ≤ i → Wiped bs os from i ds → Zeroed ds (256 * getD os i 0) 256 ds' → Wiped bs os from (i + 1) ds'
-wipe-more bs os ds ds' from i l w z = record {
+-- the chunks of a run lie in the bytes, if each of them does
+pub run-in : (bs os ds : List ℕ) (from to i r : ℕ) → ((j : ℕ) → from ≤ j → j < to → 256 * getD os j 0 + 256 ≤ length bs) → from ≤ i → Wiped bs os from i ds → SlotRun os i to r → 256 * getD os i 0 + 256 * (r - i) ≤ length ds
+run-in bs os ds from to i r fit l w u =
+    let a = u .some in
+    let b = u .end in
+    let e = u .next (r - 1) (omega arith) (omega arith) in
+    let h = fit (r - 1) (omega arith) (omega arith) in
+    let q = w .long in
+    omega arith
+
+pub wipe-more : (bs os ds ds' : List ℕ) (from to i r : ℕ) → from ≤ i → Wiped bs os from i ds → SlotRun os i to r → Zeroed ds (256 * getD os i 0) (256 * (r - i)) ds' → Wiped bs os from r ds'
+wipe-more bs os ds ds' from to i r l w u z = record {
   long = z .long ∙ w .long;
-  gone = λ j r a b h.
-      ⊎-elim (λ (e : getD os j 0 ≡ getD os i 0). z .gone (256 * getD os j 0 + r) (omega arith) (omega arith))
-      (λ (ne : getD os j 0 ≡ getD os i 0 → ⊥).
-      z .kept (256 * getD os j 0 + r) (apart (getD os j 0) (getD os i 0) r h ne) ∙ w .gone j r a (earlier j ne b) h)
-      (same-or-not (getD os j 0) (getD os i 0));
-  kept = λ x n. z .kept x (away x (getD os i 0) (n i l (omega arith))) ∙ w .kept x (λ j a b. n j a (omega arith));
+  gone = λ j q a b h.
+      ⊎-elim (λ (o : Out (256 * getD os j 0 + q)). z .kept (256 * getD os j 0 + q) o ∙ w .gone j q a (earlier j q b h o) h)
+      (λ (o : In (256 * getD os j 0 + q)). z .gone (256 * getD os j 0 + q) (o .0) (o .1))
+      (out-or-in (256 * getD os j 0 + q));
+  kept = λ x n.
+      ⊎-elim (λ (o : Out x). z .kept x o ∙ w .kept x (λ j a b. n j a (let h = u .some in omega arith)))
+      (λ (o : In x). absurd (n (i + (x / 256 - getD os i 0)) (omega arith) (inside x o) (rank x o)))
+      (out-or-in x);
 }
   where
-    earlier : (j : ℕ) → (getD os j 0 ≡ getD os i 0 → ⊥) → j < i + 1 → j < i
-    earlier j n b = ⊎-elim (λ (e : j ≡ i). absurd (n (ap (λ (x : ℕ). getD os x 0) e))) (λ (ne : j ≡ i → ⊥). omega arith) (same-or-not j i)
+    Out : ℕ → Type 0
+    Out x = (x < 256 * getD os i 0) ⊎ (256 * getD os i 0 + 256 * (r - i) ≤ x)
 
-    apart : (s t r : ℕ) → r < 256 → (s ≡ t → ⊥) → (256 * s + r < 256 * t) ⊎ (256 * t + 256 ≤ 256 * s + r)
-    apart s t r h ne = ⊎-elim (λ (a : s < t). inl (omega arith)) (λ (a : t ≤ s). inr (⊎-elim (λ (e : s ≡ t). absurd (ne e)) (λ (e : s ≡ t → ⊥). omega arith) (same-or-not s t))) (lt-or-ge s t)
+    In : ℕ → Type 0
+    In x = (256 * getD os i 0 ≤ x) × (x < 256 * getD os i 0 + 256 * (r - i))
 
-    away : (x t : ℕ) → (t ≡ x / 256 → ⊥) → (x < 256 * t) ⊎ (256 * t + 256 ≤ x)
-    away x t ne = ⊎-elim (λ (a : x < 256 * t). inl a) (λ (a : 256 * t ≤ x). inr (⊎-elim (λ (b : x < 256 * t + 256). absurd (ne (omega arith))) (λ (b : 256 * t + 256 ≤ x). b) (lt-or-ge x (256 * t + 256)))) (lt-or-ge x (256 * t))
+    out-or-in : (x : ℕ) → Out x ⊎ In x
+    out-or-in x =
+        ⊎-elim (λ (a : x < 256 * getD os i 0). inl (inl a))
+        (λ (a : 256 * getD os i 0 ≤ x). ⊎-elim (λ (b : x < 256 * getD os i 0 + 256 * (r - i)). inr (a, b)) (λ (b : 256 * getD os i 0 + 256 * (r - i) ≤ x). inl (inr b)) (lt-or-ge x (256 * getD os i 0 + 256 * (r - i))))
+        (lt-or-ge x (256 * getD os i 0))
+
+    -- a chunk with a byte outside the run has an earlier rank
+    earlier : (j q : ℕ) → j < r → q < 256 → Out (256 * getD os j 0 + q) → j < i
+    earlier j q b h o =
+        ⊎-elim (λ (a : j < i). a)
+        (λ (a : i ≤ j). let e = u .next j a b in absurd (⊎-elim (λ (c : 256 * getD os j 0 + q < 256 * getD os i 0). omega arith) (λ (c : 256 * getD os i 0 + 256 * (r - i) ≤ 256 * getD os j 0 + q). omega arith) o))
+        (lt-or-ge j i)
+
+    -- a byte inside is of the slot at this rank, which is in the run
+    inside : (x : ℕ) → In x → i + (x / 256 - getD os i 0) < r
+    inside x o = let a = o .0 in let b = o .1 in omega arith
+
+    rank : (x : ℕ) → In x → getD os (i + (x / 256 - getD os i 0)) 0 ≡ x / 256
+    rank x o = let e = u .next (i + (x / 256 - getD os i 0)) (omega arith) (inside x o) in let a = o .0 in omega arith
 
 pub wipe-end : (bs os ds : List ℕ) (from to i : ℕ) → Wiped bs os from i ds → i ≤ to → to ≤ i → Wiped bs os from to ds
 wipe-end bs os ds from to i w a b = let e : i ≡ to = omega arith in subst (λ (x : ℕ). Wiped bs os from x ds) e w

@@ -3,7 +3,7 @@
 use mathlib.Core.Path.{_≡_}
 use mathlib.Core.Bool.{cond}
 use mathlib.Core.List.{List}
-use Prim.Native.Nat.{ℕ, _+_, _<_, _≤_}
+use Prim.Native.Nat.{ℕ, _+_, _%_, _^_, _<_, _≤_}
 use lib.Dec.{leb}
 use lib.ListN.{length, getD, take, drop}
 use Rattle.index.specs.Index.{seek}
@@ -37,6 +37,11 @@ pub record Names (keys words : List ℕ) (s p k : ℕ) : Type 0 where
   pub key : getD keys s 0 ≡ keyOf entry k
   pub entry-in : slotCount words + entry < length keys
   pub page : getD keys (slotCount words + entry) 0 ≡ p + 1
+
+-- slot r comes after slot s, and its key after that of s, as a 64-bit number: where s holds a chunk, r holds the next one of the same page
+pub record Follows (keys : List ℕ) (s r : ℕ) : Type 0 where
+  pub next : r ≡ s + 1
+  pub key : (getD keys s 0 + 1) % 2 ^ 64 ≡ getD keys r 0
 
 -- order' is order except for its hints
 pub record HintLearnt (order words order' : List ℕ) : Type 0 where

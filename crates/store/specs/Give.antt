@@ -4,11 +4,17 @@ use mathlib.Core.Path.{_≡_}
 use mathlib.Core.Bool.{Bool, cond, _&&_}
 use mathlib.Core.Logic.{_⊎_}
 use mathlib.Core.List.{List}
-use Prim.Native.Nat.{ℕ, _+_, _*_, _/_, _≤_, _<_}
+use Prim.Native.Nat.{ℕ, _+_, _*_, _-_, _/_, _≤_, _<_}
 use lib.Dec.{leb, ltb}
 use lib.ListN.{length, getD, drop}
 use Rattle.store.specs.Mem.{heldPlace, slotCount}
 use Rattle.store.specs.Hold.{Indexed}
+
+-- the slots at the ranks from `from` up to, but without, r follow each other; r is `to` at most
+pub record SlotRun (os : List ℕ) (from to r : ℕ) : Type 0 where
+  pub some : from < r
+  pub end : r ≤ to
+  pub next : (i : ℕ) → from ≤ i → i < r → getD os i 0 ≡ getD os from 0 + (i - from)
 
 -- bs' is bs with n zeros from place `at` on
 pub record Zeroed (bs : List ℕ) (at n : ℕ) (bs' : List ℕ) : Type 0 where

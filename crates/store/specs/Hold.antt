@@ -6,7 +6,7 @@ use mathlib.Core.List.{List}
 use Prim.Native.Nat.{ℕ, _+_, _≤_, _<_}
 use lib.Dec.{ltb}
 use lib.ListN.{length, getD, set, take, drop}
-use Rattle.index.specs.Index.{indexed, seek}
+use Rattle.index.specs.Index.{indexed, seek, LowerBound}
 use Rattle.store.specs.Mem.{headLength, heldPlace, slotCount, heldNow, inUse}
 
 -- 1 where no place of ks has the key k, else 0
@@ -21,7 +21,11 @@ pub record Indexed (keys order words : List ℕ) : Type 0 where
   pub in-order : slotCount words ≤ length order
   pub index : indexed (take (slotCount words) keys) (take (slotCount words) order) (heldNow words) ≡ true
 
--- .. whose page entries are indexed
+-- r is the rank of the key k among those of the held slots: the first whose key is at least k
+abbrev pub Ranked : List ℕ → List ℕ → List ℕ → ℕ → ℕ → Type 0
+Ranked keys order words k r = LowerBound (take (slotCount words) keys) (take (slotCount words) order) (heldNow words) k r
+
+-- the keys, order and words of a memory whose page entries are indexed
 pub record PagesIndexed (keys order words : List ℕ) : Type 0 where
   pub head : headLength ≤ length words
   pub few : slotCount words ≤ 65536

@@ -5,10 +5,10 @@ ghost use Prim.Native.Nat.{ℕ, _+_, _*_, _/_, _^_, _<_, _≤_};
 ghost use lib.ListN.{length, getD, take, drop};
 ghost use Rattle.index.specs.Index.{seek, usedCount, freeCount};
 ghost use Rattle.store.specs.Keys.{lastChunk, keyOf, keyEntry, keyChunk};
-ghost use Rattle.store.specs.Find.{slotAtEntry, slotFor, Findable, Names, HintLearnt};
+ghost use Rattle.store.specs.Find.{slotAtEntry, slotFor, Findable, Names, Follows, HintLearnt};
 ghost use Rattle.store.specs.Mem.{headLength, fixedCount, slotCount, pageCount, heldNow};
-ghost use Rattle.store.specs.Hold.{lacks, Indexed, PagesIndexed, Taken, Held};
-ghost use Rattle.store.specs.Give.{Zeroed, Wiped, Released};
+ghost use Rattle.store.specs.Hold.{lacks, Indexed, Ranked, PagesIndexed, Taken, Held};
+ghost use Rattle.store.specs.Give.{Zeroed, SlotRun, Wiped, Released};
 use page_ids::Address;
 use page_ids::PageId;
 
@@ -42,16 +42,16 @@ pub fn free_place(keys: &[u64], guess: usize) -> usize
     0
 }
 
-// Sets the key of a pooled slot to k, which no slot has, and returns the slot.
-fn take_slot(keys: &mut [u64], order: &mut [u32], words: &mut [u64], k: u64) -> usize
-    requires { ⌜ Indexed (now keys) (now order) (now words) ⌝ }
+// Sets the key of a pooled slot to k, which no slot has and whose rank is `at`, and returns the slot.
+fn take_slot(keys: &mut [u64], order: &mut [u32], words: &mut [u64], at: usize, k: u64) -> usize
+    requires { ⌜ (Indexed (now keys) (now order) (now words)) × (Ranked (now keys) (now order) (now words) k at) ⌝ }
     requires { ⌜ (0 < k) × (slotCount (now words) ≤ seek (take (slotCount (now words)) (now keys)) k) × (heldNow (now words) < slotCount (now words)) ⌝ }
     ensures { λ r. ⌜ Taken k (now (keys .entry)) (now (order .entry)) (now (words .entry)) r (now (keys .exit)) (now (order .exit)) (now (words .exit)) ⌝ }
 {
     let c = words[head::CHUNKS] as usize;
     let n = words[head::HELD] as usize;
     let s = free_place(&keys[0..c], n);
-    index::insert(&mut keys[0..c], &mut order[0..c], n, s as u32, k);
+    index::insert_at(&mut keys[0..c], &mut order[0..c], n, at, s as u32, k);
     words[head::HELD] = (n + 1) as u64;
     s
 }
@@ -95,6 +95,35 @@ pub fn slot_of(keys: &[u64], order: &[u32], words: &[u64], k: u64) -> usize
 {
     let c = words[head::CHUNKS] as usize;
     index::find(&keys[0..c], &order[0..c], words[head::HELD] as usize, k)
+}
+
+// Whether slot s has the key k.
+pub fn has_key(keys: &[u64], words: &[u64], s: usize, k: u64) -> bool
+    requires { ⌜ (headLength ≤ length (now words)) × (slotCount (now words) ≤ length (now keys)) × (slotCount (now words) ≤ 65536) ⌝ }
+    ensures { λ r. ⌜ (r ≡ true → (s < slotCount (now (words .entry))) × (getD (now (keys .entry)) s 0 ≡ k)) ⌝ }
+{
+    if s >= words[head::CHUNKS] as usize {
+        return false;
+    }
+    keys[s] == k
+}
+
+// The rank of the key k among those of the held slots, whether or not a slot has it.
+pub fn rank_of(keys: &[u64], order: &[u32], words: &[u64], k: u64) -> usize
+    requires { ⌜ Indexed (now keys) (now order) (now words) ⌝ }
+    ensures { λ r. ⌜ Ranked (now (keys .entry)) (now (order .entry)) (now (words .entry)) k r ⌝ }
+{
+    let c = words[head::CHUNKS] as usize;
+    index::rank(&keys[0..c], &order[0..c], words[head::HELD] as usize, k)
+}
+
+// The slot of the key k, whose rank is `at`, or the number of slots where none has it.
+pub fn slot_at_rank(keys: &[u64], order: &[u32], words: &[u64], at: usize, k: u64) -> usize
+    requires { ⌜ (Indexed (now keys) (now order) (now words)) × (Ranked (now keys) (now order) (now words) k at) × (0 < k) ⌝ }
+    ensures { λ r. ⌜ r ≡ seek (take (slotCount (now (words .entry))) (now (keys .entry))) k ⌝ }
+{
+    let c = words[head::CHUNKS] as usize;
+    index::place_at(&keys[0..c], &order[0..c], words[head::HELD] as usize, at, k)
 }
 
 // The slot of a chunk of the page at an entry, or the number of slots where none holds it.
@@ -145,21 +174,19 @@ fn hint_place(order: &[u32], page: PageId, chunk: u32) -> usize
 
 // Whether slot s holds this chunk of this page.
 fn is_place(keys: &[u64], words: &[u64], s: usize, page: PageId, chunk: u32) -> bool
-    requires { ⌜ (headLength ≤ length (now words)) × (slotCount (now words) ≤ length (now keys)) × (slotCount (now words) ≤ 65536) ⌝ }
+    requires { ⌜ (headLength ≤ length (now words)) × (slotCount (now words) ≤ length (now keys)) × (slotCount (now words) ≤ 65536) × (length (now keys) ≤ 69636) ⌝ }
     ensures { λ r. ⌜ (r ≡ true → Names (now (keys .entry)) (now (words .entry)) s (page .0) chunk) ⌝ }
 {
     let c = words[head::CHUNKS] as usize;
     if s >= c {
         return false;
     }
-    let key = keys[s];
-    if key == 0 {
+    // the entry times the factor, if it is the key of this chunk; else no multiple of the factor, or too large for an entry
+    let above = std::num::wrapping_sub_u64(keys[s], chunk as u64 + 1);
+    if above % KEY_FACTOR != 0 {
         return false;
     }
-    if key_chunk(key) != chunk as u64 {
-        return false;
-    }
-    let e = key_entry(key);
+    let e = (above / KEY_FACTOR) as usize;
     if e >= keys.len() - c {
         return false;
     }
@@ -193,6 +220,23 @@ pub fn place_of(keys: &[u64], order: &[u32], words: &[u64], page: PageId, chunk:
     }
     let e = entry_of(keys, order, words, page);
     slot_at_entry(keys, order, words, e, chunk as u64)
+}
+
+// The slot after s, if it holds the next chunk of the same page. Any other answer is at least the number of slots, and says nothing.
+// A page that grew without others between has its chunks in slots that follow each other.
+pub fn next_to(keys: &[u64], words: &[u64], s: usize) -> usize
+    requires { ⌜ (headLength ≤ length (now words)) × (slotCount (now words) ≤ length (now keys)) × (slotCount (now words) ≤ 65536) × (s ≤ 65536) ⌝ }
+    ensures { λ r. ⌜ (r < slotCount (now (words .entry)) → Follows (now (keys .entry)) s r) ⌝ }
+{
+    let c = words[head::CHUNKS] as usize;
+    let next = s + 1;
+    if next >= c {
+        return c;
+    }
+    if keys[next] == std::num::wrapping_add_u64(keys[s], 1) {
+        return next;
+    }
+    c
 }
 
 // The slot of the last chunk of the word at an address, whose first chunk's slot is s, if a hint names it. Any other answer is at least the number of slots, and says nothing.
@@ -249,41 +293,57 @@ pub fn learn(order: &mut [u32], words: &[u64], page: PageId, chunk: u32, s: usiz
     order[h] = s as u32;
 }
 
-// The slot of the key k, taken from the pool where none has it yet.
-pub fn hold(keys: &mut [u64], order: &mut [u32], words: &mut [u64], k: u64) -> usize
-    requires { ⌜ Indexed (now keys) (now order) (now words) ⌝ }
+// The slot of the key k, whose rank is `at`, taken from the pool where none has it yet.
+pub fn hold(keys: &mut [u64], order: &mut [u32], words: &mut [u64], at: usize, k: u64) -> usize
+    requires { ⌜ (Indexed (now keys) (now order) (now words)) × (Ranked (now keys) (now order) (now words) k at) ⌝ }
     requires { ⌜ (0 < k) × (lacks (take (slotCount (now words)) (now keys)) k + heldNow (now words) ≤ slotCount (now words)) ⌝ }
     ensures { λ r. ⌜ Held k (now (keys .entry)) (now (order .entry)) (now (words .entry)) r (now (keys .exit)) (now (order .exit)) (now (words .exit)) ⌝ }
 {
     let c = words[head::CHUNKS] as usize;
-    let s = slot_of(keys, order, words, k);
+    let s = slot_at_rank(keys, order, words, at, k);
     if s < c {
         return s;
     }
-    take_slot(keys, order, words, k)
+    take_slot(keys, order, words, at, k)
 }
 
-// Zeroes the 256 bytes from a place on.
-fn clear_chunk(bytes: &mut [u8], at: usize)
-    requires { ⌜ at + 256 ≤ length (now bytes) ⌝ }
-    ensures { λ _. ⌜ Zeroed (now (bytes .entry)) at 256 (now (bytes .exit)) ⌝ }
+// Zeroes n bytes from a place on.
+fn clear(bytes: &mut [u8], at: usize, n: usize)
+    requires { ⌜ at + n ≤ length (now bytes) ⌝ }
+    ensures { λ _. ⌜ Zeroed (now (bytes .entry)) at n (now (bytes .exit)) ⌝ }
 {
     let mut i = 0;
-    while i < 256 {
+    while i < n {
         bytes[at + i] = 0;
         i += 1;
     }
 }
 
-// Zeroes the chunks of the slots at the ranks from `from` up to, but without, `to`.
+// Where the run of slots that begins at rank `from` ends, at `to` at the latest: each slot of it follows the one before. The contract does not say that the run is the longest.
+fn run_end(order: &[u32], from: usize, to: usize) -> usize
+    requires { ⌜ (from < to) × (to ≤ length (now order)) ⌝ }
+    ensures { λ r. ⌜ SlotRun (now (order .entry)) from to r ⌝ }
+{
+    let mut i = from + 1;
+    while i < to {
+        if order[i] as usize != order[from] as usize + (i - from) {
+            return i;
+        }
+        i += 1;
+    }
+    to
+}
+
+// Zeroes the chunks of the slots at the ranks from `from` up to, but without, `to`. Slots that follow each other are zeroed at once: a page that grew without others between has such slots.
 fn wipe(bytes: &mut [u8], order: &[u32], from: usize, to: usize)
     requires { ⌜ (from ≤ to) × (to ≤ length (now order)) × ((i : ℕ) → from ≤ i → i < to → 256 * getD (now order) i 0 + 256 ≤ length (now bytes)) ⌝ }
     ensures { λ _. ⌜ Wiped (now (bytes .entry)) (now (order .entry)) from to (now (bytes .exit)) ⌝ }
 {
     let mut i = from;
     while i < to {
-        clear_chunk(bytes, 256 * order[i] as usize);
-        i += 1;
+        let end = run_end(order, i, to);
+        clear(bytes, 256 * order[i] as usize, 256 * (end - i));
+        i = end;
     }
 }
 

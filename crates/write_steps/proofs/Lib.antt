@@ -3,3 +3,4 @@ pub mod Chains
 pub mod Words
 pub mod Found
 pub mod Plain
+pub mod One

@@ -1,12 +1,13 @@
 // Word writes to a well-formed memory.
 // What any other write or an allocation does once it is not refused: the page is allocated, its chunks are held, the words journalled, the bytes put.
 ghost use mathlib.Core.Path.{_≡_};
-ghost use Prim.Native.Nat.{_+_, _≤_, _^_};
+ghost use Prim.Native.Nat.{_+_, _%_, _<_, _≤_, _^_};
 ghost use lib.ListN.{length};
 ghost use Rattle.outcome.specs.Outcome.{answered};
 ghost use Rattle.word.specs.Value.{value, wordBytes};
 ghost use Rattle.view.specs.Calls.{Call, CallDoes, nothing, firstRefusal};
-ghost use Rattle.store.specs.Mem.{mem, layoutOf};
+ghost use Rattle.store.specs.Mem.{mem, layoutOf, pageCount, fixedCount};
+ghost use Rattle.formed.specs.Parts.{entryOf};
 ghost use Rattle.formed.specs.WellFormed.{WellFormed};
 ghost use Rattle.view.specs.View.{settingOf, viewOf};
 ghost use Rattle.view.specs.Steps.{alignedCount, wordNotes, alignedNotes, wordWritten, bytesWritten, contentsAllocated};
@@ -124,7 +125,7 @@ pub fn write_found(
 }
 
 // What `write_known` answers where it does nothing. No refusal of a word write has this number.
-pub const LEFT: u32 = 1;
+const LEFT: u32 = 1;
 
 // Writes a word whose chunks hints know. LEFT says that they do not, and that nothing was done.
 fn write_known(
@@ -187,8 +188,8 @@ fn write_new(
     write_held(bytes, keys, order, words, page, address, word);
 }
 
-// Writes a word by searches: whether it is refused, and where its chunks are.
-fn write_searched(
+// Writes any word: the refusals first, and then the steps, each with a lookup of its own.
+fn write_any(
     bytes: &mut [u8],
     keys: &mut [u64],
     order: &mut [u32],
@@ -206,6 +207,57 @@ fn write_searched(
     }
     write_new(bytes, keys, order, words, page, address, word);
     0
+}
+
+// Writes a word in one chunk of the allocated page at entry e. The rank of the chunk is found once: it tells whether the chunk is held, and where it comes in the order if it has to be taken.
+fn write_one(
+    bytes: &mut [u8],
+    keys: &mut [u64],
+    order: &mut [u32],
+    words: &mut [u64],
+    page: PageId,
+    address: Address,
+    e: usize,
+    word: Word,
+) -> u32
+    requires { ⌜ (WellFormed (mem (now bytes) (now keys) (now order) (now words))) × ((address .0) % 256 ≤ 224) ⌝ }
+    requires { ⌜ (e ≡ entryOf (mem (now bytes) (now keys) (now order) (now words)) (page .0)) × (e < pageCount (now words) + fixedCount) ⌝ }
+    ensures { λ r. ⌜ CallDoes (mem (now (bytes .entry)) (now (keys .entry)) (now (order .entry)) (now (words .entry))) (Call.WriteWord (page .0) (address .0) (value (word .limbs))) (answered r nothing) (mem (now (bytes .exit)) (now (keys .exit)) (now (order .exit)) (now (words .exit))) ⌝ }
+{
+    let chunk = address.0 / 256;
+    let k = store::key_of(e, chunk as u64);
+    let at = store::rank_of(keys, order, words, k);
+    let s = store::slot_at_rank(keys, order, words, at, k);
+    let number = checks::one_chunk_refusal(bytes, keys, order, words, page, address, s);
+    if number != 0 {
+        return number;
+    }
+    let held = chunks::hold_at(bytes, keys, order, words, page, chunk, at, k);
+    write_at(bytes, keys, order, words, page, address, held, held, word);
+    0
+}
+
+// Writes a word by searches. The page's entry is found once where the page is allocated and the word lies in one chunk, as when a page grows.
+pub fn write_searched(
+    bytes: &mut [u8],
+    keys: &mut [u64],
+    order: &mut [u32],
+    words: &mut [u64],
+    page: PageId,
+    address: Address,
+    word: Word,
+) -> u32
+    requires { ⌜ WellFormed (mem (now bytes) (now keys) (now order) (now words)) ⌝ }
+    ensures { λ r. ⌜ CallDoes (mem (now (bytes .entry)) (now (keys .entry)) (now (order .entry)) (now (words .entry))) (Call.WriteWord (page .0) (address .0) (value (word .limbs))) (answered r nothing) (mem (now (bytes .exit)) (now (keys .exit)) (now (order .exit)) (now (words .exit))) ⌝ }
+{
+    if address.0 % 256 > 224 {
+        return write_any(bytes, keys, order, words, page, address, word);
+    }
+    let e = store::entry_of(keys, order, words, page);
+    if (e as u64) >= words[head::PAGES] + head::FIXED_PAGES {
+        return write_any(bytes, keys, order, words, page, address, word);
+    }
+    write_one(bytes, keys, order, words, page, address, e, word)
 }
 
 // Writes a word to a well-formed memory: by hints, or else by searches.

@@ -11,22 +11,22 @@ use Rattle.store.proofs.hold.Tie as tie
 returns : tie.Need-returns
 returns c =
     let start = c .before .before .before .before .before .before .before .before .before in
-    held-was _ _ _ (start .pre .0) _ (start .pre .1 .0) _ (c .before .slot-of .ensures) (c .if1 .taken)
+    held-was _ _ _ (start .pre .0 .0) _ (start .pre .1 .0) _ (c .before .slot-at-rank .ensures) (c .if1 .taken)
 
 take-slot-requires : tie.Need-take-slot-requires
 take-slot-requires c κs =
-    let at-slot-of = c .before .before .before .before in
-    let start = at-slot-of .before .before .before .before .before .before .before .before in
-    let none : slotCount (start .args .words .now) ≤ seek (take (slotCount (start .args .words .now)) (start .args .keys .now)) (start .args .k) = omega (arith, at-slot-of .slot-of .ensures, c .before .before .before .if1 .left) in
-    (start .pre .0, (start .pre .1 .0, none, lacking _ _ _ (start .pre .0) _ (start .pre .1 .0) none (start .pre .1 .1)))
+    let at-slot-at-rank = c .before .before .before .before in
+    let start = at-slot-at-rank .before .before .before .before .before .before .before .before in
+    let none : slotCount (start .args .words .now) ≤ seek (take (slotCount (start .args .words .now)) (start .args .keys .now)) (start .args .k) = omega (arith, at-slot-at-rank .slot-at-rank .ensures, c .before .before .before .if1 .left) in
+    ((start .pre .0 .0, start .pre .0 .1), (start .pre .1 .0, none, lacking _ _ _ (start .pre .0 .0) _ (start .pre .1 .0) none (start .pre .1 .1)))
 
 returns-2 : tie.Need-returns-2
 returns-2 c =
     let at-take-slot = c .before .before .before .before .before .before in
-    let at-slot-of = at-take-slot .before .before .before .before .before in
-    let start = at-slot-of .before .before .before .before .before .before .before .before in
-    let none : slotCount (start .args .words .now) ≤ seek (take (slotCount (start .args .words .now)) (start .args .keys .now)) (start .args .k) = omega (arith, at-slot-of .slot-of .ensures, at-take-slot .before .before .before .before .if1 .left) in
-    held-new _ _ _ (start .pre .0) _ (start .pre .1 .0) none _ _ _ _ (at-take-slot .take-slot .ensures)
+    let at-slot-at-rank = at-take-slot .before .before .before .before .before in
+    let start = at-slot-at-rank .before .before .before .before .before .before .before .before in
+    let none : slotCount (start .args .words .now) ≤ seek (take (slotCount (start .args .words .now)) (start .args .keys .now)) (start .args .k) = omega (arith, at-slot-at-rank .slot-at-rank .ensures, at-take-slot .before .before .before .before .if1 .left) in
+    held-new _ _ _ (start .pre .0 .0) _ (start .pre .1 .0) none _ _ _ _ (at-take-slot .take-slot .ensures)
 
 pub hold-spec : {M : Type 1} → statement M
 hold-spec =

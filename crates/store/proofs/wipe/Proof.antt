@@ -1,4 +1,4 @@
-use Rattle.store.proofs.Gives.{wipe-none, wipe-more, wipe-end}
+use Rattle.store.proofs.Gives.{wipe-none, run-in, wipe-more, wipe-end}
 use Rattle.store.specs.Give.{Wiped}
 use borrow.Author.Needs.{needs}
 use Prim.Native.Nat.{_-_, _≤_}
@@ -12,28 +12,36 @@ Inv-loop bytes₀ order from to i₀ bytes i = (from ≤ i) × (i ≤ to) × Wip
 abbrev μ-loop : tie.MeasureT-loop
 μ-loop bytes₀ order from to i₀ bytes i = to - i
 
-cast-clear-chunk : tie.Need-cast-clear-chunk Inv-loop μ-loop
-cast-clear-chunk c =
-    let at-loop = c .before .before .before in
+cast-clear : tie.Need-cast-clear Inv-loop μ-loop
+cast-clear c =
+    let at-loop = c .before .before .before .before in
     omega (arith, at-loop .before .shared-slice-known .given (at-loop .loop .i))
 
-mul-clear-chunk-2 : tie.Need-mul-clear-chunk-2 Inv-loop μ-loop
-mul-clear-chunk-2 c =
-    let at-loop-test = c .before .before in
-    let at-loop = at-loop-test .before in
-    let l = at-loop .before .before .before .pre .2 (at-loop .loop .i) (at-loop .loop .inv .0) (at-loop-test .loop-test .taken) in let e = at-loop .loop .inv .2 .long in search needs
+mul-clear-2 : tie.Need-mul-clear-2 Inv-loop μ-loop
+mul-clear-2 c =
+    let at-run-end = c .before .before in
+    let at-loop = at-run-end .before .before in
+    let l = run-in _ _ _ _ _ _ _ (at-loop .before .before .before .pre .2) (at-loop .loop .inv .0) (at-loop .loop .inv .2) (at-run-end .run-end .ensures) in omega arith
 
-clear-chunk-requires : tie.Need-clear-chunk-requires Inv-loop μ-loop
-clear-chunk-requires c κs =
-    let at-loop-test = c .before .before in
-    let at-loop = at-loop-test .before in
-    let l = at-loop .before .before .before .pre .2 (at-loop .loop .i) (at-loop .loop .inv .0) (at-loop-test .loop-test .taken) in let e = at-loop .loop .inv .2 .long in omega arith
+mul-clear-3 : tie.Need-mul-clear-3 Inv-loop μ-loop
+mul-clear-3 c =
+    let at-run-end = c .before .before in
+    let at-loop = at-run-end .before .before in
+    let l = run-in _ _ _ _ _ _ _ (at-loop .before .before .before .pre .2) (at-loop .loop .inv .0) (at-loop .loop .inv .2) (at-run-end .run-end .ensures) in omega arith
+
+clear-requires : tie.Need-clear-requires Inv-loop μ-loop
+clear-requires c κs =
+    let at-run-end = c .before .before in
+    let at-loop = at-run-end .before .before in
+    let l = run-in _ _ _ _ _ _ _ (at-loop .before .before .before .pre .2) (at-loop .loop .inv .0) (at-loop .loop .inv .2) (at-run-end .run-end .ensures) in omega arith
 
 loop-again : tie.Need-loop-again Inv-loop μ-loop
 loop-again c =
-    let at-clear-chunk = c .before .before in
-    let at-loop = at-clear-chunk .before .before .before .before in
-    (omega arith, omega arith, wipe-more _ _ _ _ _ _ (at-loop .loop .inv .0) (at-loop .loop .inv .2) (at-clear-chunk .clear-chunk .ensures))
+    let at-clear = c .before .before in
+    let at-run-end = at-clear .before .before .before in
+    let at-loop = at-run-end .before .before in
+    let u = at-run-end .run-end .ensures in
+    (omega (arith, u .some, at-loop .loop .inv .0), u .end, wipe-more _ _ _ _ _ _ _ _ (at-loop .loop .inv .0) (at-loop .loop .inv .2) u (at-clear .clear .ensures))
 
 returns : tie.Need-returns Inv-loop μ-loop
 returns c =
@@ -48,11 +56,13 @@ wipe-spec =
     Inv-loop
     μ-loop
     (λ c. (search needs, search needs, wipe-none _ _ _ _ (omega arith)))
-    (λ c. search needs) (λ c. search needs)
-    cast-clear-chunk
-    mul-clear-chunk-2
-    clear-chunk-requires
-    (λ c. search needs) (λ c. search needs)
+    (λ c. search needs) (λ c. search needs) (λ c. search needs)
+    cast-clear
+    mul-clear-2
+    (λ c. search needs)
+    mul-clear-3
+    clear-requires
+    (λ c. search needs)
     loop-again
     (λ c. search needs)
     returns)

@@ -12,7 +12,7 @@ verdict-requires c κs =
     comparison-nonzero (mem (start .args .bytes .now) (start .args .keys .now) (start .args .order .now) (start .args .words .now)) (mem (start .args .other-bytes .now) (start .args .other-keys .now) (start .args .other-order .now) (start .args .other-words .now)) (at-compare .compare .ensures)
 
 returns : tie.Need-returns
-returns c = c .verdict .ensures ∙ c .before .compare .ensures
+returns c = (c .verdict .ensures .0 ∙ c .before .compare .ensures, c .verdict .ensures .1)
 
 pub own-compare-spec : {M : Type 1} → statement M
 own-compare-spec = tie.close (tie.spec (λ c κs. search needs) verdict-requires returns)

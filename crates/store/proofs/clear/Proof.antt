@@ -3,14 +3,14 @@ use Rattle.store.specs.Give.{Zeroed}
 use borrow.Author.Needs.{needs}
 use Prim.Native.Nat.{_-_, _≤_}
 use native.Mathlib.Omega.{arith}
-use Rattle.store.proofs.clear_chunk.Statement.{statement}
-use Rattle.store.proofs.clear_chunk.Tie as tie
+use Rattle.store.proofs.clear.Statement.{statement}
+use Rattle.store.proofs.clear.Tie as tie
 
 abbrev Inv-loop : tie.InvT-loop
-Inv-loop bytes₀ at i₀ bytes i = (i ≤ 256) × Zeroed bytes₀ at i bytes
+Inv-loop bytes₀ at n i₀ bytes i = (i ≤ n) × Zeroed bytes₀ at i bytes
 
 abbrev μ-loop : tie.MeasureT-loop
-μ-loop bytes₀ at i₀ bytes i = 256 - i
+μ-loop bytes₀ at n i₀ bytes i = n - i
 
 loop-again : tie.Need-loop-again Inv-loop μ-loop
 loop-again c =
@@ -22,10 +22,10 @@ returns : tie.Need-returns Inv-loop μ-loop
 returns c =
     let at-loop-test = c in
     let at-loop = at-loop-test .before in
-    zero-end _ _ _ _ (at-loop .loop .inv .1) (at-loop .loop .inv .0) (at-loop-test .loop-test .left)
+    zero-end _ _ _ _ _ (at-loop .loop .inv .1) (at-loop .loop .inv .0) (at-loop-test .loop-test .left)
 
-pub clear-chunk-spec : {M : Type 1} → statement M
-clear-chunk-spec =
+pub clear-spec : {M : Type 1} → statement M
+clear-spec =
     tie.close
     (tie.spec
     Inv-loop

@@ -1,2 +1,0 @@
--- The definitions that the contracts of this crate and of those above it cite.
-pub mod Missing

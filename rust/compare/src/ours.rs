@@ -1,6 +1,6 @@
 //! The library's answers, in the terms in which vm2's are given.
 
-use std::collections::BTreeSet;
+use std::{collections::BTreeSet, ops::Range};
 
 use oracle::{Answer, Area, Call, HeapInstruction, Kind, Operand, PageIds, Place, Pointer, Ran};
 use zincpapaya::{
@@ -81,6 +81,19 @@ pub fn answer(memories: &mut [Both; 2], at: usize, call: &Call, marked: bool) ->
 /// What stands in an output before a call.
 pub const UNWRITTEN: u8 = 0xa5;
 
+/// The bytes of a range, put into outputs of ours and into outputs that the memories make.
+fn range(both: &mut Both, page: PageId, range: Range<u32>) -> Result<Vec<u8>, Reply> {
+    let [mut owned, mut lent] = [0, 1].map(|_| vec![UNWRITTEN; range.len()]);
+    let read = both.owned.read_range_into(page, range.clone(), &mut owned);
+    let on_lent = both.lend().read_range_into(page, range.clone(), &mut lent);
+    let put = same(read.map(|()| owned), on_lent.map(|()| lent))?;
+    let made = on_both!(both => read_range_big_endian(page, range.clone()))?;
+    if put != made {
+        return Err(Reply::Wrong(format!("a range read puts out {put:?}, and makes {made:?}")));
+    }
+    Ok(made)
+}
+
 /// Calls that only look at a memory.
 fn read(both: &mut Both, call: &Call) -> Option<Replied> {
     Some(match *call {
@@ -91,11 +104,7 @@ fn read(both: &mut Both, call: &Call) -> Option<Replied> {
             on_both!(both => read_u256_partially(PageId(page), start..end)).map(theirs)
         }
         Call::ReadRangeBigEndian { page, start, end } => {
-            let (page, range) = (PageId(page), start..end);
-            let [mut owned, mut lent] = [0, 1].map(|_| vec![UNWRITTEN; range.len()]);
-            let read = both.owned.read_range_into(page, range.clone(), &mut owned);
-            let on_lent = both.lend().read_range_into(page, range, &mut lent);
-            same(read.map(|()| owned), on_lent.map(|()| lent)).map(Answer::Bytes)
+            range(both, PageId(page), start..end).map(Answer::Bytes)
         }
         Call::ReadByte { page, address } => {
             on_both!(both => read_byte(PageId(page), address)).map(Answer::Byte)

@@ -6,7 +6,8 @@
 //!
 //! - A slice is a pointer and a number of elements. Both are always taken from one Rust slice, so
 //!   that the elements are there, aligned and initialised, and the pointer of an empty slice is
-//!   not null.
+//!   not null. There is one exception: `read_range` of `memory/calls.rs` lends the room of a new
+//!   vector, whose bytes are there and not initialised. The library writes them and reads none.
 //! - Slices of one call do not overlap, unless the call only reads both. Whatever the library may
 //!   write to is borrowed by `&mut`, so nothing else overlaps it.
 //! - The library keeps no pointer after a call, and has no state of its own.

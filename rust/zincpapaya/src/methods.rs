@@ -11,6 +11,11 @@ pub(crate) trait Calls {
 
     fn read_u256(&self, page: PageId, address: u32) -> Result<Word, Error>;
     fn read_u256_partially(&self, page: PageId, range: Range<u32>) -> Result<Word, Error>;
+    fn read_range(&self, page: PageId, range: Range<u32>) -> Result<Vec<u8>, Error> {
+        let mut output = vec![0; range.len()];
+        self.read_range_into(page, range, &mut output)?;
+        Ok(output)
+    }
     fn read_range_into(
         &self,
         page: PageId,
@@ -80,9 +85,7 @@ macro_rules! methods {
                 page: PageId,
                 range: Range<u32>,
             ) -> Result<Vec<u8>, Error> {
-                let mut output = vec![0; range.len()];
-                self.read_range_into(page, range, &mut output)?;
-                Ok(output)
+                self.memory.read_range(page, range)
             }
 
             /// Like [`read_range_big_endian`](Self::read_range_big_endian), into an output of the

@@ -1,6 +1,8 @@
 //! What the public interface does not show: outputs and frames of refused calls as the library
 //! leaves them. And memories that are not well formed, and edges of openings and quotes.
 
+use std::ops::Range;
+
 use crate::{
     buffers::BuffersMut, checked::Checked, ffi, quote, Area, Buffers, Capacity, Error, Frame,
     Heaps, Layout, Lengths, Lent, Outcome, PageId, Quote, Snapshot, Word,
@@ -211,6 +213,25 @@ fn buffers_of_other_lengths_are_refused() {
     let mut empty = Lent::of(bytes, keys, order, words);
     assert_eq!(refusals!(empty), [Some(Error::NotFormed); 24]);
     assert_eq!(empty.usage(), Err(Error::NotFormed));
+}
+
+/// A read that makes its output gives what one into an output of the caller's gives: over held and
+/// unheld chunks, of an unknown page, at the top, reversed and empty.
+#[test]
+fn a_range_read_makes_the_output_that_it_fills() {
+    let mut memory = opened();
+    memory.write_bytes(HEAP, 250, &[9; 20]).unwrap();
+    let mut host = Host::of(memory.buffers());
+    let top = u32::MAX - 3..u32::MAX;
+    let reversed = Range { start: 9, end: 3 };
+    for range in [0..1000, 255..257, 260..4000, 7..7, reversed, top] {
+        for page in [HEAP, PageId(3)] {
+            let mut output = vec![0xa5; range.len()];
+            memory.read_range_into(page, range.clone(), &mut output).unwrap();
+            assert_eq!(memory.read_range_big_endian(page, range.clone()).as_ref(), Ok(&output));
+            assert_eq!(host.lend().read_range_big_endian(page, range.clone()), Ok(output));
+        }
+    }
 }
 
 #[test]

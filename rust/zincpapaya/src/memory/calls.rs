@@ -208,6 +208,27 @@ impl Calls for Memory {
         Ok(read.word)
     }
 
+    /// No zeros are put into the output before the bytes are: that would cost a third of the read.
+    fn read_range(
+        &self,
+        page: PageId,
+        range @ Range { start, end }: Range<u32>,
+    ) -> Result<Vec<u8>, Error> {
+        test!(self);
+        let length = range.len();
+        let mut output = Vec::with_capacity(length);
+        // SAFETY: the memory is owned. The vector has room for `length` bytes; the library writes to
+        // them and reads none of them.
+        carried_out(unsafe {
+            lend!(& self => own_read_range_big_endian(
+                page.0, start, end, output.as_mut_ptr(), length,
+            ))
+        })?;
+        // SAFETY: a read that is carried out has written each of the `length` bytes.
+        unsafe { output.set_len(length) };
+        Ok(output)
+    }
+
     fn read_range_into(
         &self,
         page: PageId,

@@ -9,10 +9,11 @@ ghost use lib.ListN.{length, getD};
 ghost use Rattle.store.specs.Mem.{headLength, slotCount, layoutOf};
 ghost use Rattle.store.specs.Find.{Findable};
 ghost use Rattle.formed.specs.Parts.{tab};
-ghost use Rattle.hints.specs.Hints.{InOneChunk, WithoutJournal};
+ghost use Rattle.hints.specs.Hints.{InOnePiece, WithoutJournal};
 
-// The slot of the chunk in which the whole word at an address lies, if a hint names it. Any other answer is at least the number of slots, and says nothing.
-pub fn one_chunk(
+// The slot in which the word at an address begins, if a hint names it and the word lies in one piece: in one chunk, or in two whose slots follow each other. Any other answer is at least the number of slots, and says nothing.
+// A page that grew without others between has its chunks in slots that follow each other.
+pub fn in_one_piece(
     keys: &[u64],
     order: &[u32],
     words: &[u64],
@@ -20,12 +21,20 @@ pub fn one_chunk(
     address: Address,
 ) -> usize
     requires { ⌜ Findable (now keys) (now order) (now words) ⌝ }
-    ensures { λ r. ⌜ (r < slotCount (now (words .entry)) → InOneChunk (now (keys .entry)) (now (words .entry)) (page .0) (address .0) r) ⌝ }
+    ensures { λ r. ⌜ (r < slotCount (now (words .entry)) → InOnePiece (now (keys .entry)) (now (words .entry)) (page .0) (address .0) r) ⌝ }
 {
-    if address.0 % 256 > 224 {
-        return words[head::CHUNKS] as usize;
+    let c = words[head::CHUNKS] as usize;
+    let s = store::hinted(keys, order, words, page, address.0 / 256);
+    if address.0 % 256 <= 224 {
+        return s;
     }
-    store::hinted(keys, order, words, page, address.0 / 256)
+    if s >= c {
+        return c;
+    }
+    if store::next_to(keys, words, s) >= c {
+        return c;
+    }
+    s
 }
 
 // Whether a page has no journal.

@@ -94,7 +94,7 @@ fn report(run: Execution) -> Ran
     }
 }
 
-// A load: a word in one chunk that a hint knows is read here. All else is behind one call.
+// A load: a word in one piece that a hint knows is read here. All else is behind one call.
 fn load(
     bytes: &[u8],
     keys: &[u64],
@@ -109,7 +109,7 @@ fn load(
 {
     let page = execution::page_of(frame, area);
     let address = Address(word::low_u32(operand.word));
-    let s = hints::one_chunk(keys, order, words, page, address);
+    let s = hints::in_one_piece(keys, order, words, page, address);
     if s < words[head::CHUNKS] as usize {
         let step = execution::reach(frame, area, operand.word);
         if step.paid {
@@ -156,7 +156,7 @@ pub extern "C" fn own_load(
     report(load(bytes, keys, order, words, frame, area, operand))
 }
 
-// A word in one chunk that a hint knows, on a page without a journal, is written here. All else is behind one call.
+// A word in one piece that a hint knows, on a page without a journal, is written here. All else is behind one call.
 fn write(
     bytes: &mut [u8],
     keys: &mut [u64],
@@ -169,7 +169,7 @@ fn write(
     requires { ⌜ WellFormed (mem (now bytes) (now keys) (now order) (now words)) ⌝ }
     ensures { λ r. ⌜ CallDoes (mem (now (bytes .entry)) (now (keys .entry)) (now (order .entry)) (now (words .entry))) (Call.WriteWord (page .0) (address .0) (value (word .limbs))) (answered r nothing) (mem (now (bytes .exit)) (now (keys .exit)) (now (order .exit)) (now (words .exit))) ⌝ }
 {
-    let s = hints::one_chunk(keys, order, words, page, address);
+    let s = hints::in_one_piece(keys, order, words, page, address);
     if s < words[head::CHUNKS] as usize {
         if hints::has_no_journal(words, page) {
             let value = word::to_big_endian(word);

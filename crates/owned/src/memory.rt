@@ -85,7 +85,7 @@ pub extern "C" fn own_open(
 
 // ---- reads
 
-// A word in one chunk that a hint knows is read here. All else is behind one call.
+// A word in one piece that a hint knows is read here. All else is behind one call.
 #[no_mangle]
 pub extern "C" fn own_read_u256(
     bytes: &[u8],
@@ -98,7 +98,7 @@ pub extern "C" fn own_read_u256(
     requires { ⌜ WellFormed (mem (now bytes) (now keys) (now order) (now words)) ⌝ }
     ensures { λ r. let m = mem (now (bytes .entry)) (now (keys .entry)) (now (order .entry)) (now (words .entry)) in ⌜ CallDoes m (Call.ReadWord page address) (done (Value.number (value (r .limbs)))) m ⌝ }
 {
-    let s = hints::one_chunk(keys, order, words, PageId(page), Address(address));
+    let s = hints::in_one_piece(keys, order, words, PageId(page), Address(address));
     if s >= words[head::CHUNKS] as usize {
         let read = reads::on_formed::read_u256(
             bytes,
@@ -246,7 +246,7 @@ pub extern "C" fn own_chunk<'a>(
 
 // ---- writes and allocation
 
-// A word in one chunk that a hint knows, on a page without a journal, is written here. For all else there is one call each: a page with a journal, a chunk that no hint knows, a word over two chunks.
+// A word in one piece that a hint knows, on a page without a journal, is written here. All else is behind a call: one for a page with a journal, one for a word in one chunk that no hint knows, one for a word over two chunks.
 // `write` in execute.rt does the same for stores. Behind one function for both the compiler would inline it in neither.
 #[no_mangle]
 pub extern "C" fn own_write_u256(
@@ -266,15 +266,16 @@ pub extern "C" fn own_write_u256(
 {
     let page = PageId(page);
     let address = Address(address);
-    let s = hints::one_chunk(keys, order, words, page, address);
+    let s = hints::in_one_piece(keys, order, words, page, address);
     if s < words[head::CHUNKS] as usize {
         if hints::has_no_journal(words, page) {
             let value = word::to_big_endian(frames::word_of(limb0, limb1, limb2, limb3));
             bodies::copy(&value, 0, bytes, 256 * s + (address.0 % 256) as usize, 32);
             return 0;
         }
-        let noted = frames::word_of(limb0, limb1, limb2, limb3);
-        return write_steps::write_found(bytes, keys, order, words, page, address, s, s, noted);
+        let word = frames::word_of(limb0, limb1, limb2, limb3);
+        let t = s + ((address.0 % 256 + 31) / 256) as usize;
+        return write_steps::write_found(bytes, keys, order, words, page, address, s, t, word);
     }
     let word = frames::word_of(limb0, limb1, limb2, limb3);
     // no hint knows the one chunk of such a word, so its page is searched for at once

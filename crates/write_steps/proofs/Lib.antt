@@ -2,5 +2,4 @@
 pub mod Chains
 pub mod Words
 pub mod Found
-pub mod Plain
 pub mod One

@@ -12,8 +12,8 @@ use borrow.Author.Needs.{needs}
 use Rattle.owned.proofs.execute.load.Statement.{statement}
 use Rattle.owned.proofs.execute.load.Tie as tie
 
-one-chunk-requires : tie.Need-one-chunk-requires
-one-chunk-requires c κs =
+in-one-piece-requires : tie.Need-in-one-piece-requires
+in-one-piece-requires c κs =
     let start = c .before .before .before .before .before .before in
     find-asked (mem (start .args .bytes .now) (start .args .keys .now) (start .args .order .now) (start .args .words .now)) (start .pre)
 
@@ -34,10 +34,10 @@ add-at c =
 word-at-requires : tie.Need-word-at-requires
 word-at-requires c κs =
     let at-if1 = c .before .before .before in
-    let at-one-chunk = at-if1 .before .before in
-    let at-low-u32 = at-one-chunk .before in
+    let at-in-one-piece = at-if1 .before .before in
+    let at-low-u32 = at-in-one-piece .before in
     let start = at-low-u32 .before .before .before .before .before .before in
-    slot-inside (mem (start .args .bytes .now) (start .args .keys .now) (start .args .order .now) (start .args .words .now)) (start .pre) 0 (at-low-u32 .low-u32 .result) (at-one-chunk .one-chunk .result) (at-if1 .if1 .taken) (at-one-chunk .one-chunk .ensures (at-if1 .if1 .taken) .inside)
+    slot-inside (mem (start .args .bytes .now) (start .args .keys .now) (start .args .order .now) (start .args .words .now)) (start .pre) _ (at-low-u32 .low-u32 .result) (at-in-one-piece .in-one-piece .result) (at-in-one-piece .in-one-piece .ensures (at-if1 .if1 .taken))
 
 returns : tie.Need-returns
 returns c =
@@ -46,8 +46,8 @@ returns c =
     let at-if2 = at-word-at .before .before in
     let at-reach = at-if2 .before in
     let at-if1 = at-reach .before in
-    let at-one-chunk = at-if1 .before .before in
-    let at-low-u32 = at-one-chunk .before in
+    let at-in-one-piece = at-if1 .before .before in
+    let at-low-u32 = at-in-one-piece .before in
     let at-page-of = at-low-u32 .before in
     let start = at-page-of .before .before .before .before .before in
     let m = mem (start .args .bytes .now) (start .args .keys .now) (start .args .order .now) (start .args .words .now) in
@@ -56,7 +56,7 @@ returns c =
     let near = within m (start .args .frame) x s (start .args .area) (at-reach .reach .ensures) in
     load-runs m (start .args .frame) x s (start .args .area) (at-reach .reach .ensures) (well-formed-passes m (start .pre)) (at-page-of .page-of .result .0) (at-page-of .page-of .ensures)
     (load-done m (at-page-of .page-of .result .0) x s near (ap not (at-if2 .if2 .taken)) (at-low-u32 .low-u32 .result) (at-low-u32 .low-u32 .ensures) (start .pre) _
-    (at-from-big-endian .from-big-endian .ensures ∙ ap bigEndian (at-word-at .word-at .ensures ∙ word-found m (start .pre) (at-page-of .page-of .result .0) (at-low-u32 .low-u32 .result) (at-one-chunk .one-chunk .result) (omega (arith, at-low-u32 .low-u32 .ensures)) (at-if1 .if1 .taken) (at-one-chunk .one-chunk .ensures (at-if1 .if1 .taken))))
+    (at-from-big-endian .from-big-endian .ensures ∙ ap bigEndian (at-word-at .word-at .ensures ∙ word-found m (start .pre) (at-page-of .page-of .result .0) (at-low-u32 .low-u32 .result) (at-in-one-piece .in-one-piece .result) (omega (arith, at-low-u32 .low-u32 .ensures)) (at-if1 .if1 .taken) (at-in-one-piece .in-one-piece .ensures (at-if1 .if1 .taken))))
     _ (c .carried-out .ensures .0) (c .carried-out .ensures .1))
 
 load-requires : tie.Need-load-requires
@@ -66,4 +66,4 @@ returns-2 : tie.Need-returns-2
 returns-2 c = c .load .ensures
 
 pub load-spec : {M : Type 1} → statement M
-load-spec = tie.close (tie.spec (λ c κs. search needs) (λ c κs. search needs) one-chunk-requires (λ c. search needs) (λ c κs. search needs) mul-at (λ c. search needs) add-at word-at-requires (λ c κs. search needs) (λ c κs. search needs) returns load-requires returns-2)
+load-spec = tie.close (tie.spec (λ c κs. search needs) (λ c κs. search needs) in-one-piece-requires (λ c. search needs) (λ c κs. search needs) mul-at (λ c. search needs) add-at word-at-requires (λ c κs. search needs) (λ c κs. search needs) returns load-requires returns-2)

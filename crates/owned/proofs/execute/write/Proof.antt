@@ -2,14 +2,14 @@ use native.Mathlib.Omega.{arith}
 use Rattle.word.specs.Value.{value}
 use Rattle.store.specs.Mem.{mem}
 use Rattle.formed.proofs.Hints.{find-asked}
-use Rattle.write_steps.proofs.Plain.{plain-does}
 use Rattle.owned.proofs.Words.{slot-inside, word-wide}
+use Rattle.owned.proofs.Plain.{plain-does}
 use borrow.Author.Needs.{needs}
 use Rattle.owned.proofs.execute.write.Statement.{statement}
 use Rattle.owned.proofs.execute.write.Tie as tie
 
-one-chunk-requires : tie.Need-one-chunk-requires
-one-chunk-requires c κs =
+in-one-piece-requires : tie.Need-in-one-piece-requires
+in-one-piece-requires c κs =
     let start = c .before .before .before .before .before .before .before in
     find-asked (mem (start .args .bytes .now) (start .args .keys .now) (start .args .order .now) (start .args .words .now)) (start .pre)
 
@@ -17,10 +17,10 @@ copy-requires : tie.Need-copy-requires
 copy-requires c κs =
     let at-to-big-endian = c .before .before .before in
     let at-if1 = at-to-big-endian .before .before .before .before in
-    let at-one-chunk = at-if1 .before .before in
-    let start = at-one-chunk .before .before .before .before .before .before .before .before in
+    let at-in-one-piece = at-if1 .before .before in
+    let start = at-in-one-piece .before .before .before .before .before .before .before .before in
     let w = word-wide _ _ (at-to-big-endian .to-big-endian .ensures .1) in
-    (omega (arith, w), slot-inside (mem (start .args .bytes .now) (start .args .keys .now) (start .args .order .now) (start .args .words .now)) (start .pre) 0 (start .args .address .0) (at-one-chunk .one-chunk .result) (at-if1 .if1 .taken) (at-one-chunk .one-chunk .ensures (at-if1 .if1 .taken) .inside))
+    (omega (arith, w), slot-inside (mem (start .args .bytes .now) (start .args .keys .now) (start .args .order .now) (start .args .words .now)) (start .pre) (start .args .page .0) (start .args .address .0) (at-in-one-piece .in-one-piece .result) (at-in-one-piece .in-one-piece .ensures (at-if1 .if1 .taken)))
 
 returns : tie.Need-returns
 returns c =
@@ -29,12 +29,12 @@ returns c =
     let at-if2 = at-to-big-endian .before in
     let at-has-no-journal = at-if2 .before in
     let at-if1 = at-has-no-journal .before .before in
-    let at-one-chunk = at-if1 .before .before in
-    let start = at-one-chunk .before .before .before .before .before .before .before .before in
+    let at-in-one-piece = at-if1 .before .before in
+    let start = at-in-one-piece .before .before .before .before .before .before .before .before in
     let m = mem (start .args .bytes .now) (start .args .keys .now) (start .args .order .now) (start .args .words .now) in
-    let found = at-one-chunk .one-chunk .ensures (at-if1 .if1 .taken) in
-    plain-does m (start .pre) (start .args .page .0) (start .args .address .0) (at-one-chunk .one-chunk .result) (omega (arith, start .good .1 .1 .1 .1 .0)) (omega (arith, start .good .1 .1 .1 .1 .1 .0)) (found .inside) (at-if1 .if1 .taken) (found .slot) (at-has-no-journal .has-no-journal .ensures (at-if2 .if2 .taken))
+    let found = at-in-one-piece .in-one-piece .ensures (at-if1 .if1 .taken) in
+    plain-does m (start .pre) (start .args .page .0) (start .args .address .0) (at-in-one-piece .in-one-piece .result) (omega (arith, start .good .1 .1 .1 .1 .0)) (omega (arith, start .good .1 .1 .1 .1 .1 .0)) (at-if1 .if1 .taken) found (at-has-no-journal .has-no-journal .ensures (at-if2 .if2 .taken))
     (value (start .args .word .limbs)) (at-copy .copy .last .1 .1 .0) (at-copy .copy .kept .1 .1 .0) (rw (at-to-big-endian .to-big-endian .ensures .1) at (at-copy .copy .ensures))
 
 pub write-spec : {M : Type 1} → statement M
-write-spec = tie.close (tie.spec one-chunk-requires (λ c. search needs) (λ c κs. search needs) (λ c κs. search needs) (λ c. search needs) (λ c. search needs) (λ c. search needs) (λ c. search needs) copy-requires (λ c. search needs) (λ c. search needs) (λ c. search needs) (λ c. search needs) returns (λ c κs. search needs) (λ c. search needs) (λ c. search needs) (λ c. search needs) (λ c. search needs) (λ c. search needs))
+write-spec = tie.close (tie.spec in-one-piece-requires (λ c. search needs) (λ c κs. search needs) (λ c κs. search needs) (λ c. search needs) (λ c. search needs) (λ c. search needs) (λ c. search needs) copy-requires (λ c. search needs) (λ c. search needs) (λ c. search needs) (λ c. search needs) returns (λ c κs. search needs) (λ c. search needs) (λ c. search needs) (λ c. search needs) (λ c. search needs) (λ c. search needs))

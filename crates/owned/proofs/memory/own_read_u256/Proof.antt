@@ -11,8 +11,8 @@ use borrow.Author.Needs.{needs}
 use Rattle.owned.proofs.memory.own_read_u256.Statement.{statement}
 use Rattle.owned.proofs.memory.own_read_u256.Tie as tie
 
-one-chunk-requires : tie.Need-one-chunk-requires
-one-chunk-requires c κs =
+in-one-piece-requires : tie.Need-in-one-piece-requires
+in-one-piece-requires c κs =
     let start = c .before .before .before .before in
     find-asked (mem (start .args .bytes .now) (start .args .keys .now) (start .args .order .now) (start .args .words .now)) (start .pre)
 
@@ -31,19 +31,19 @@ returns c =
 word-at-requires : tie.Need-word-at-requires
 word-at-requires c κs =
     let at-if1 = c in
-    let at-one-chunk = at-if1 .before .before in
-    let start = at-one-chunk .before .before .before .before .before in
-    slot-inside (mem (start .args .bytes .now) (start .args .keys .now) (start .args .order .now) (start .args .words .now)) (start .pre) (start .args .page) (start .args .address) (at-one-chunk .one-chunk .result) (at-if1 .if1 .left) (at-one-chunk .one-chunk .ensures (at-if1 .if1 .left) .inside)
+    let at-in-one-piece = at-if1 .before .before in
+    let start = at-in-one-piece .before .before .before .before .before in
+    slot-inside (mem (start .args .bytes .now) (start .args .keys .now) (start .args .order .now) (start .args .words .now)) (start .pre) (start .args .page) (start .args .address) (at-in-one-piece .in-one-piece .result) (at-in-one-piece .in-one-piece .ensures (at-if1 .if1 .left))
 
 returns-2 : tie.Need-returns-2
 returns-2 c =
     let at-word-at = c .before in
     let at-if1 = at-word-at .before in
-    let at-one-chunk = at-if1 .before .before in
-    let start = at-one-chunk .before .before .before .before .before in
+    let at-in-one-piece = at-if1 .before .before in
+    let start = at-in-one-piece .before .before .before .before .before in
     let m = mem (start .args .bytes .now) (start .args .keys .now) (start .args .order .now) (start .args .words .now) in
     word-does m (start .pre) (start .args .page) (start .args .address) _
-    (c .from-big-endian .ensures ∙ ap bigEndian (at-word-at .word-at .ensures ∙ word-found m (start .pre) (start .args .page) (start .args .address) (at-one-chunk .one-chunk .result) (omega (arith, start .fits .address)) (at-if1 .if1 .left) (at-one-chunk .one-chunk .ensures (at-if1 .if1 .left))))
+    (c .from-big-endian .ensures ∙ ap bigEndian (at-word-at .word-at .ensures ∙ word-found m (start .pre) (start .args .page) (start .args .address) (at-in-one-piece .in-one-piece .result) (omega (arith, start .fits .address)) (at-if1 .if1 .left) (at-in-one-piece .in-one-piece .ensures (at-if1 .if1 .left))))
 
 pub own-read-u256-spec : {M : Type 1} → statement M
-own-read-u256-spec = tie.close (tie.spec one-chunk-requires (λ c. search needs) read-u256-requires returns (λ c. search needs) (λ c. search needs) (λ c. search needs) word-at-requires (λ c κs. search needs) returns-2)
+own-read-u256-spec = tie.close (tie.spec in-one-piece-requires (λ c. search needs) read-u256-requires returns (λ c. search needs) (λ c. search needs) (λ c. search needs) word-at-requires (λ c κs. search needs) returns-2)

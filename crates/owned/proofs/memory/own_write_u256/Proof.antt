@@ -1,20 +1,16 @@
-use mathlib.Core.Path.{_≡_, ap, _∙_}
-use Prim.Native.Nat.{_+_, _/_}
 use native.Mathlib.Omega.{arith}
 use Rattle.word.specs.Value.{value}
 use Rattle.store.specs.Mem.{mem}
-use Rattle.store.specs.Find.{slotFor}
 use Rattle.formed.proofs.Hints.{find-asked}
-use Rattle.write_steps.proofs.Found.{slots-found}
-use Rattle.write_steps.proofs.Plain.{plain-does}
 use Rattle.owned.proofs.Answers.{written-as}
 use Rattle.owned.proofs.Words.{slot-inside, word-wide}
+use Rattle.owned.proofs.Plain.{found, plain-does}
 use borrow.Author.Needs.{needs}
 use Rattle.owned.proofs.memory.own_write_u256.Statement.{statement}
 use Rattle.owned.proofs.memory.own_write_u256.Tie as tie
 
-one-chunk-requires : tie.Need-one-chunk-requires
-one-chunk-requires c κs =
+in-one-piece-requires : tie.Need-in-one-piece-requires
+in-one-piece-requires c κs =
     let start = c .before .before .before .before .before .before .before in
     find-asked (mem (start .args .bytes .now) (start .args .keys .now) (start .args .order .now) (start .args .words .now)) (start .pre)
 
@@ -22,10 +18,10 @@ copy-requires : tie.Need-copy-requires
 copy-requires c κs =
     let at-to-big-endian = c .before .before .before in
     let at-if1 = at-to-big-endian .before .before .before .before .before in
-    let at-one-chunk = at-if1 .before .before in
-    let start = at-one-chunk .before .before .before .before .before .before .before .before in
+    let at-in-one-piece = at-if1 .before .before in
+    let start = at-in-one-piece .before .before .before .before .before .before .before .before in
     let w = word-wide _ _ (at-to-big-endian .to-big-endian .ensures .1) in
-    (omega (arith, w), slot-inside (mem (start .args .bytes .now) (start .args .keys .now) (start .args .order .now) (start .args .words .now)) (start .pre) 0 (start .args .address) (at-one-chunk .one-chunk .result) (at-if1 .if1 .taken) (at-one-chunk .one-chunk .ensures (at-if1 .if1 .taken) .inside))
+    (omega (arith, w), slot-inside (mem (start .args .bytes .now) (start .args .keys .now) (start .args .order .now) (start .args .words .now)) (start .pre) (start .args .page) (start .args .address) (at-in-one-piece .in-one-piece .result) (at-in-one-piece .in-one-piece .ensures (at-if1 .if1 .taken)))
 
 returns : tie.Need-returns
 returns c =
@@ -35,23 +31,19 @@ returns c =
     let at-if2 = at-word-of .before in
     let at-has-no-journal = at-if2 .before in
     let at-if1 = at-has-no-journal .before .before in
-    let at-one-chunk = at-if1 .before .before in
-    let start = at-one-chunk .before .before .before .before .before .before .before .before in
+    let at-in-one-piece = at-if1 .before .before in
+    let start = at-in-one-piece .before .before .before .before .before .before .before .before in
     let m = mem (start .args .bytes .now) (start .args .keys .now) (start .args .order .now) (start .args .words .now) in
-    let found = at-one-chunk .one-chunk .ensures (at-if1 .if1 .taken) in
     written-as (start .args .page) (start .args .address) (at-word-of .word-of .ensures)
-    (plain-does m (start .pre) (start .args .page) (start .args .address) (at-one-chunk .one-chunk .result) (omega (arith, start .fits .page)) (omega (arith, start .fits .address)) (found .inside) (at-if1 .if1 .taken) (found .slot) (at-has-no-journal .has-no-journal .ensures (at-if2 .if2 .taken))
+    (plain-does m (start .pre) (start .args .page) (start .args .address) (at-in-one-piece .in-one-piece .result) (omega (arith, start .fits .page)) (omega (arith, start .fits .address)) (at-if1 .if1 .taken) (at-in-one-piece .in-one-piece .ensures (at-if1 .if1 .taken)) (at-has-no-journal .has-no-journal .ensures (at-if2 .if2 .taken))
     (value (at-word-of .word-of .result .limbs)) (at-copy .copy .last .1 .1 .0) (at-copy .copy .kept .1 .1 .0) (rw (at-to-big-endian .to-big-endian .ensures .1) at (at-copy .copy .ensures)))
 
 write-found-requires : tie.Need-write-found-requires
 write-found-requires c κs =
     let at-if1 = c .before .before .before .before .before .before .before .before in
-    let at-one-chunk = at-if1 .before .before in
-    let start = at-one-chunk .before .before .before .before .before .before .before .before in
-    let found = at-one-chunk .one-chunk .ensures (at-if1 .if1 .taken) in
-    let one = found .inside in
-    let e : (start .args .address) / 256 ≡ ((start .args .address) + 31) / 256 = omega (arith, one) in
-    slots-found (mem (start .args .bytes .now) (start .args .keys .now) (start .args .order .now) (start .args .words .now)) (start .pre) (start .args .page) (start .args .address) (omega (arith, start .fits .address)) _ _ (at-if1 .if1 .taken) (at-if1 .if1 .taken) (found .slot) (found .slot ∙ ap (slotFor (start .args .keys .now) (start .args .words .now) (start .args .page)) e)
+    let at-in-one-piece = at-if1 .before .before in
+    let start = at-in-one-piece .before .before .before .before .before .before .before .before in
+    found (mem (start .args .bytes .now) (start .args .keys .now) (start .args .order .now) (start .args .words .now)) (start .pre) (start .args .page) (start .args .address) (at-in-one-piece .in-one-piece .result) (omega (arith, start .fits .page)) (omega (arith, start .fits .address)) (at-if1 .if1 .taken) (at-in-one-piece .in-one-piece .ensures (at-if1 .if1 .taken))
 
 returns-2 : tie.Need-returns-2
 returns-2 c =
@@ -75,4 +67,4 @@ returns-4 c =
     written-as (start .args .page) (start .args .address) (at-word-of3 .word-of3 .ensures) (at-write-word .write-word .ensures)
 
 pub own-write-u256-spec : {M : Type 1} → statement M
-own-write-u256-spec = tie.close (tie.spec one-chunk-requires (λ c. search needs) (λ c κs. search needs) (λ c κs. search needs) (λ c κs. search needs) (λ c. search needs) (λ c. search needs) (λ c. search needs) (λ c. search needs) copy-requires (λ c. search needs) (λ c. search needs) (λ c. search needs) (λ c. search needs) returns (λ c κs. search needs) write-found-requires (λ c. search needs) (λ c. search needs) (λ c. search needs) (λ c. search needs) returns-2 (λ c κs. search needs) (λ c κs. search needs) (λ c. search needs) (λ c. search needs) (λ c. search needs) (λ c. search needs) returns-3 (λ c κs. search needs) (λ c. search needs) (λ c. search needs) (λ c. search needs) (λ c. search needs) returns-4)
+own-write-u256-spec = tie.close (tie.spec in-one-piece-requires (λ c. search needs) (λ c κs. search needs) (λ c κs. search needs) (λ c κs. search needs) (λ c. search needs) (λ c. search needs) (λ c. search needs) (λ c. search needs) copy-requires (λ c. search needs) (λ c. search needs) (λ c. search needs) (λ c. search needs) returns (λ c κs. search needs) write-found-requires (λ c. search needs) (λ c. search needs) (λ c. search needs) (λ c. search needs) returns-2 (λ c κs. search needs) (λ c κs. search needs) (λ c. search needs) (λ c. search needs) (λ c. search needs) (λ c. search needs) returns-3 (λ c κs. search needs) (λ c. search needs) (λ c. search needs) (λ c. search needs) (λ c. search needs) returns-4)

@@ -28,7 +28,7 @@ use Rattle.view.specs.Checks.{Check, wordWriteChecks}
 use Rattle.view.specs.Does.{Shows}
 use Rattle.view.specs.Instructions.{Operand, Hook, InstructionResult, running, onHook, heapOf, staticOf, frameAlone, panic, incremented, hooked, staticChecks, staticLoaded, staticStored, readFrom, readCount, pointed}
 use Rattle.view.specs.Calls.{Call, Value, WriteWord, nothing, CallDoes, Load, Store, LoadPointer, LoadStatic, StoreStatic, instructionResult, outcomeOf, nextOf, answerOf, firstRefusal}
-use Rattle.write_steps.proofs.Found.{number-refused, number-done}
+use Rattle.write_steps.proofs.Searched.{number-refused, number-done}
 use Rattle.execution.specs.Executions.{stopOf, resultOf, statusOutcome, executionOutcome, Ends, Runs, carried, unpaid, staticStep, loadOutcome, Loads, storeOutcome, Stores}
 use Rattle.execution.specs.declared.Execution.{Execution}
 use Rattle.execution.specs.declared.ExecutionStatus.{ExecutionStatus}

@@ -19,9 +19,10 @@ use Rattle.view.specs.Steps.{touchedCount, alignedCount, wordNotes, alignedNote
 use Rattle.view.specs.Checks.{wordWriteChecks, byteWriteChecks, allocateChecks}
 use Rattle.view.specs.Inner.{listing, holding, noting, journalling, putting}
 use Rattle.checks.proofs.Passed.{bytes-passed}
-use Rattle.write_steps.specs.Asks.{JournalAsks}
+use Rattle.word_steps.specs.Asks.{JournalAsks}
 use Rattle.bodies.proofs.Puts.{shows-then}
-use Rattle.write_steps.proofs.Chains.{list-asks, hold-asks, prepared, Cleared, word-cleared, bytes-cleared, contents-cleared, contents-unjournalled, prepare-asks, journal-asks, journal-own, journal-none, note-asks, aligned-asks, word-notes-same, aligned-notes-same, plain-asks, plain-done, put-asks, write-done}
+use Rattle.word_steps.proofs.Chains.{Cleared, word-cleared, journal-own, journal-none, note-asks, word-notes-same, write-done}
+use Rattle.write_steps.proofs.Chains.{list-asks, hold-asks, prepared, bytes-cleared, contents-cleared, contents-unjournalled, prepare-asks, journal-asks, aligned-asks, aligned-notes-same, plain-asks, plain-done, put-asks}
 use Rattle.lists.proofs.Reach.{Reached, held-there, listed-there, put-there, noted-there, aligned-there}
 
 -- the page is allocated, and its chunks held

@@ -1,6 +1,5 @@
--- Answers: what the structs and statuses tell. Words: a word in one piece. Plain: such a word, written to a page without a journal. Runs: executions as structs.
+-- Answers: what the structs and statuses tell. Words: a word in one piece, and what its read and its write do. Runs: executions as structs.
 
 pub mod Answers
 pub mod Words
-pub mod Plain
 pub mod Runs

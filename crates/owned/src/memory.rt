@@ -275,7 +275,7 @@ pub extern "C" fn own_write_u256(
         }
         let word = frames::word_of(limb0, limb1, limb2, limb3);
         let t = s + ((address.0 % 256 + 31) / 256) as usize;
-        return write_steps::write_found(bytes, keys, order, words, page, address, s, t, word);
+        return word_steps::write_found(bytes, keys, order, words, page, address, s, t, word);
     }
     let word = frames::word_of(limb0, limb1, limb2, limb3);
     // no hint knows the one chunk of such a word, so its page is searched for at once

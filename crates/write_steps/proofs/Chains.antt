@@ -2,7 +2,7 @@
 -- Assumes nothing.
 use mathlib.Core.Path.{_≡_, refl, sym, ap, _∙_, subst}
 use mathlib.Core.Bool.{Bool, true, false, _&&_, _||_, false≢true}
-use mathlib.Core.List.{List, [], _∷_}
+use mathlib.Core.List.{List}
 use Prim.Native.Nat.{ℕ, zero, suc, _+_, _*_, _-_, _/_, _^_, _<_, _≤_}
 use native.Mathlib.Omega.{arith}
 use lib.Dec.{ltb, leb}
@@ -20,18 +20,19 @@ use Rattle.formed.specs.Parts.{Note}
 use Rattle.formed.specs.WellFormed.{WellFormed}
 use Rattle.formed.proofs.Pages.{is-fixed, place-lt}
 use Rattle.view.specs.View.{View, Setting, settingOf, viewOf}
-use Rattle.view.specs.Steps.{run, needs, missing, touchedCount, alignedCount, wordNotes, alignedNotes, written}
-use Rattle.view.specs.Checks.{undecodable}
+use Rattle.view.specs.Steps.{needs, missing, touchedCount, alignedCount, alignedNotes, written}
 use Rattle.view.specs.Does.{Shows}
-use Rattle.view.specs.Inner.{listing, holding, noting, journalling, putting, ListAsks, HoldAsks, NoteAsks, PutAsks}
-use Rattle.view.proofs.Compose.{over-none, listed-held, listed-pool, listed-journal, written-is, plain-write, own-journal, unjournalled}
+use Rattle.view.specs.Inner.{listing, holding, noting, journalling, putting, ListAsks, HoldAsks, PutAsks}
+use Rattle.view.proofs.Compose.{listed-held, listed-pool, listed-journal, plain-write}
 use Rattle.journal.specs.Steps.{AlignedAsks, alignedFrom}
 use Rattle.bodies.proofs.Puts.{shows-then, shows-view}
-use Rattle.write_steps.specs.Asks.{PrepareAsks, JournalAsks}
+use Rattle.word_steps.specs.Asks.{JournalAsks}
+use Rattle.word_steps.proofs.Chains.{Cleared, ready, run-same}
+use Rattle.write_steps.specs.Asks.{PrepareAsks}
 use Rattle.index.proofs.Counts.{used-free}
 use Rattle.formed.proofs.Sizes.{holders-long}
-use Rattle.view.specs.Checks.{wordWriteChecks, byteWriteChecks, allocateChecks}
-use Rattle.checks.proofs.Passed.{Room, decodable, word-passed, bytes-passed, allocate-passed}
+use Rattle.view.specs.Checks.{byteWriteChecks, allocateChecks}
+use Rattle.checks.proofs.Passed.{decodable, bytes-passed, allocate-passed}
 
 -- ---- ranges
 -- each byte's chunk is one of those touched
@@ -67,21 +68,8 @@ module _ (m : Mem) (p k n : ℕ) (asks : PrepareAsks m p k n) where
     pub prepared : (m₂ : Mem) → Shows (settingOf m₁) (holding p k n (viewOf m₁)) m₂ → Shows (settingOf m) (holding p k n (listing m p)) m₂
     prepared m₂ held = shows-then (holding p k n) listed held
 
--- ---- a call that passed its tests: k is the count of chunks that its n bytes at address a touch, as computed
-pub record Cleared (m : Mem) (p a n w k : ℕ) : Type 0 where
-  pub formed : WellFormed m
-  pub page : p ≤ 4294967295
-  pub known : undecodable (settingOf m) p ≡ false
-  pub room : Room (settingOf m) (viewOf m) p a n w
-  pub end : a + n ≤ 4294967327
-  pub count : k ≡ touchedCount a n
-
+-- ---- a call that passed its tests
 module _ (m : Mem) (p a k : ℕ) (page : p ≤ 4294967295) where
-  pub word-cleared : a ≤ 4294967295 → (WellFormed m) × (firstRefusal (wordWriteChecks (settingOf m) (viewOf m) p a) ≡ 0) → k ≡ touchedCount a 32 → (n : ℕ) → n ≡ 32 → Cleared m p a n 1 k
-  word-cleared small asks e n is =
-      let h = word-passed (settingOf m) (viewOf m) p a (asks .1) in
-      subst (λ (x : ℕ). Cleared m p a x 1 k) (sym is) record { formed = asks .0; page = page; known = h .0; room = h .1; end = omega arith; count = e }
-
   pub bytes-cleared : (n : ℕ) → (WellFormed m) × (firstRefusal (byteWriteChecks (settingOf m) (viewOf m) p a n) ≡ 0) → k ≡ touchedCount a n → Cleared m p a n (alignedCount a n) k
   bytes-cleared n asks e =
       let h = bytes-passed (settingOf m) (viewOf m) p a n (asks .1) in
@@ -138,51 +126,31 @@ module _ (m : Mem) (p a n w k : ℕ) (c : Cleared m p a n w k) where
   }
 
   module _ (m₂ : Mem) (done : Shows (settingOf m) (holding p (a / 256) k (listing m p)) m₂) where
-    pub ready : Shows (settingOf m) (holding p (a / 256) (touchedCount a n) (listing m p)) m₂
-    ready = subst (λ (i : ℕ). Shows (settingOf m) (holding p (a / 256) i (listing m p)) m₂) (c .count) done
+    ready-now : Shows (settingOf m) (holding p (a / 256) (touchedCount a n) (listing m p)) m₂
+    ready-now = ready m p a n w k c m₂ done
 
     pub held-now : (x : ℕ) → x < n → viewOf m₂ .held p ((a + x) / 256) ≡ true
     held-now x l =
-        ap (λ (v : View). v .held p ((a + x) / 256)) (ready .view)
+        ap (λ (v : View). v .held p ((a + x) / 256)) (ready-now .view)
         ∙ ap (λ (b : Bool). (b && (leb (a / 256) ((a + x) / 256) && ltb ((a + x) / 256) (a / 256 + touchedCount a n))) || listing m p .held p ((a + x) / 256)) (eq-eqb p p refl)
         ∙ ap (λ (b : Bool). b || listing m p .held p ((a + x) / 256)) (touched-in a n x l)
 
     layout-now : layoutOf (m₂ .words) ≡ layoutOf (m .words)
-    layout-now = ap (λ (s : Setting). s .layout) (ready .setting)
+    layout-now = ap (λ (s : Setting). s .layout) (ready-now .setting)
 
     pub journal-asks : JournalAsks m₂ p a n w
     journal-asks = record {
-      formed = ready .formed;
+      formed = ready-now .formed;
       held = held-now;
       room = λ j l q.
-          let e : viewOf m₂ .journal j ≡ viewOf m .journal j = ap (λ (v : View). v .journal j) (ready .view) ∙ listed-journal (layoutOf (m .words)) p (viewOf m) j in
-          let s : journalWords (m₂ .words) ≡ journalWords (m .words) = ap (λ (s : Setting). s .journalWords) (ready .setting) in
+          let e : viewOf m₂ .journal j ≡ viewOf m .journal j = ap (λ (v : View). v .journal j) (ready-now .view) ∙ listed-journal (layoutOf (m .words)) p (viewOf m) j in
+          let s : journalWords (m₂ .words) ≡ journalWords (m .words) = ap (λ (s : Setting). s .journalWords) (ready-now .setting) in
           let h = c .room .words j l (q ∙ ap (λ (t : Layout). journalPage t j) layout-now) in
           let g : length (viewOf m₂ .journal j) ≡ length (viewOf m .journal j) = ap length e in
           omega arith;
     }
 
 -- ---- the words are journalled
-module _ (m : Mem) (p a n w : ℕ) (asks : JournalAsks m p a n w) (f : ℕ → List Note) where
-  abbrev l : Layout
-  l = layoutOf (m .words)
-
-  pub journal-own : (j : ℕ) → j < journalCount → p ≡ journalPage l j → (m' : Mem) → Shows (settingOf m) (noting j (f (journalPage l j)) (viewOf m)) m' → Shows (settingOf m) (journalling l p (f p) (viewOf m)) m'
-  journal-own j k own m' shown =
-      shows-view shown (ap (λ (q : ℕ). noting j (f q) (viewOf m)) (sym own) ∙ own-journal l p (f p) (viewOf m) (asks .formed .layout) j k own)
-
-  pub journal-none : ((j : ℕ) → j < journalCount → p ≡ journalPage l j → ⊥) → Shows (settingOf m) (journalling l p (f p) (viewOf m)) m
-  journal-none none = record { formed = asks .formed; setting = refl; view = sym (unjournalled l p (f p) (viewOf m) none) }
-
-pub note-asks : (m : Mem) (p a : ℕ) → a ≤ 4294967295 → JournalAsks m p a 32 1 → (j : ℕ) → j < journalCount → p ≡ journalPage (layoutOf (m .words)) j → NoteAsks m j a
-note-asks m p a small asks j k own = record {
-  formed = asks .formed;
-  which = k;
-  address = small;
-  held = λ x l. subst (λ (q : ℕ). viewOf m .held q ((a + x) / 256) ≡ true) own (asks .held x l);
-  room = let h = asks .room j k own in omega arith;
-}
-
 -- the chunk of each aligned word is that of one of the bytes
 pub aligned-top : (a n : ℕ) → a + n ≤ 2 ^ 32 → 32 * (a / 32 + alignedCount a n) ≤ 4294967296
 aligned-top a zero l = omega arith
@@ -216,12 +184,6 @@ pub counted-by : (m : Mem) (a n j i : ℕ) → i ≡ alignedCount a n → (m' : 
 counted-by m a n j i is m' shown = subst (λ (x : ℕ). Shows (settingOf m) (noting j (alignedFrom (viewOf m) (journalPage (layoutOf (m .words)) j) (a / 32) x) (viewOf m)) m') is shown
 
 -- ---- the notes are those of the memory before
-run-same : (v w : View) (p x n : ℕ) → ((b : ℕ) → v .bytes p b ≡ w .bytes p b) → run v p x n ≡ run w p x n
-run-same v w p x n h = tab-same n _ _ (λ i. h (x + i))
-
-pub word-notes-same : (v w : View) (p a : ℕ) → ((b : ℕ) → v .bytes p b ≡ w .bytes p b) → wordNotes v p a ≡ wordNotes w p a
-word-notes-same v w p a h = ap (λ (o : List ℕ). record { address = a; old = o } ∷ []) (run-same v w p a 32 h)
-
 pub aligned-notes-same : (v w : View) (p a n : ℕ) → ((b : ℕ) → v .bytes p b ≡ w .bytes p b) → alignedNotes v p a n ≡ alignedNotes w p a n
 aligned-notes-same v w p a n h = tab-same (alignedCount a n) _ _ (λ i. ap (λ (o : List ℕ). record { address = 32 * (a / 32 + i); old = o }) (run-same v w p (32 * (a / 32 + i)) 32 h))
 
@@ -244,17 +206,3 @@ module _ (m : Mem) (p a : ℕ) (bs : List ℕ) (w k : ℕ) (c : Cleared m p a (l
   module _ (notes : View → List Note) (same : (v w : View) → ((b : ℕ) → v .bytes p b ≡ w .bytes p b) → notes v ≡ notes w) where
     pub put-asks : (m₃ : Mem) → Shows (settingOf m₂) (journalling (layoutOf (m₂ .words)) p (notes (viewOf m₂)) (viewOf m₂)) m₃ → PutAsks m₃ p a (length bs)
     put-asks m₃ noted = record { formed = noted .formed; held = λ x l. ap (λ (v : View). v .held p ((a + x) / 256)) (noted .view) ∙ held x l; top = c .end }
-
-    pub write-done : (m₄ : Mem) → Shows (settingOf m₂) (putting p a bs (journalling (layoutOf (m₂ .words)) p (notes (viewOf m₂)) (viewOf m₂))) m₄ → Shows (settingOf m) (written (layoutOf (m .words)) p a bs (notes (viewOf m)) (viewOf m)) m₄
-    write-done m₄ put =
-        let L = layoutOf (m .words) in
-        let H : View = holding p (a / 256) (touchedCount a (length bs)) (listing m p) in
-        let e : layoutOf (m₂ .words) ≡ L = ap (λ (s : Setting). s .layout) (now .setting) in
-        let q : notes (viewOf m₂) ≡ notes (viewOf m) = ap notes (now .view) ∙ same H (viewOf m) (λ b. over-none p 0 (viewOf m .bytes) p b) in
-        let v : journalling (layoutOf (m₂ .words)) p (notes (viewOf m₂)) (viewOf m₂) ≡ journalling L p (notes (viewOf m)) H =
-        ap (λ (t : Layout). journalling t p (notes (viewOf m₂)) (viewOf m₂)) e ∙ ap (λ (ns : List Note). journalling L p ns (viewOf m₂)) q ∙ ap (journalling L p (notes (viewOf m))) (now .view) in
-        record {
-          formed = put .formed;
-          setting = put .setting ∙ now .setting;
-          view = put .view ∙ ap (putting p a bs) v ∙ written-is L p (viewOf m) a bs (notes (viewOf m));
-        }

@@ -23,9 +23,10 @@ use Rattle.view.specs.Calls.{WriteWord, nothing, firstRefusal, CallDoes}
 use Rattle.view.specs.Does.{Shows}
 use Rattle.view.specs.Inner.{listing, holding, HoldAsks}
 use Rattle.pages.proofs.Listing.{listed-already}
-use Rattle.write_steps.specs.Asks.{WordAsks, wordPut}
-use Rattle.write_steps.proofs.Chains.{Cleared, word-cleared, prepare-asks, list-asks, hold-asks, prepared, journal-asks, word-notes-same, write-done}
-use Rattle.write_steps.proofs.Found.{searched-done}
+use Rattle.word_steps.specs.Asks.{WordAsks, wordPut}
+use Rattle.word_steps.proofs.Chains.{Cleared, word-cleared, word-notes-same, write-done}
+use Rattle.write_steps.proofs.Chains.{prepare-asks, list-asks, hold-asks, prepared, journal-asks}
+use Rattle.write_steps.proofs.Searched.{searched-done}
 
 -- the page has an entry, so it is allocated
 pub one-listed : (m : Mem) → WellFormed m → (p e : ℕ) → e ≡ entryOf m p → e < pageCount (m .words) + 4 → viewOf m .allocated p ≡ true

@@ -10,11 +10,12 @@ ghost use Rattle.store.specs.Mem.{mem, layoutOf, pageCount, fixedCount};
 ghost use Rattle.formed.specs.Parts.{entryOf};
 ghost use Rattle.formed.specs.WellFormed.{WellFormed};
 ghost use Rattle.view.specs.View.{settingOf, viewOf};
-ghost use Rattle.view.specs.Steps.{alignedCount, wordNotes, alignedNotes, wordWritten, bytesWritten, contentsAllocated};
+ghost use Rattle.view.specs.Steps.{alignedCount, alignedNotes, wordWritten, bytesWritten, contentsAllocated};
 ghost use Rattle.view.specs.Checks.{wordWriteChecks, byteWriteChecks, allocateChecks};
 ghost use Rattle.view.specs.Does.{Shows};
 ghost use Rattle.view.specs.Inner.{listing, holding, journalling};
-ghost use Rattle.write_steps.specs.Asks.{PrepareAsks, JournalAsks, WordFound, WordAsks, wordPut, WrittenOrLeft};
+ghost use Rattle.word_steps.specs.Asks.{JournalAsks, wordPut};
+ghost use Rattle.write_steps.specs.Asks.{PrepareAsks};
 use page_ids::Address;
 use page_ids::PageId;
 use store::head;
@@ -37,26 +38,6 @@ fn prepare(
     chunks::hold_chunks(bytes, keys, order, words, page, first, count);
 }
 
-// The word at an address, whose chunks are held at the slots s and t, is journalled, if its page has a journal.
-fn journal_found(
-    bytes: &mut [u8],
-    keys: &[u64],
-    order: &[u32],
-    words: &mut [u64],
-    page: PageId,
-    address: Address,
-    s: usize,
-    t: usize,
-)
-    requires { ⌜ WordAsks (mem (now bytes) (now keys) (now order) (now words)) (page .0) (address .0) s t ⌝ }
-    ensures { λ _. ⌜ Shows (settingOf (mem (now (bytes .entry)) (now (keys .entry)) (now (order .entry)) (now (words .entry)))) (journalling (layoutOf (now (words .entry))) (page .0) (wordNotes (viewOf (mem (now (bytes .entry)) (now (keys .entry)) (now (order .entry)) (now (words .entry)))) (page .0) (address .0)) (viewOf (mem (now (bytes .entry)) (now (keys .entry)) (now (order .entry)) (now (words .entry))))) (mem (now (bytes .exit)) (now (keys .entry)) (now (order .entry)) (now (words .exit))) ⌝ }
-{
-    let j = formed::journals::journal_of(words, page);
-    if j < head::JOURNAL_COUNT {
-        journal::note_found(bytes, keys, order, words, j, address, s, t);
-    }
-}
-
 // Each aligned word that n bytes touch is journalled, if their page has a journal.
 fn journal_range(
     bytes: &mut [u8],
@@ -77,81 +58,6 @@ fn journal_range(
     }
 }
 
-// The word at an address, whose chunks are held at the slots s and t, is journalled, if its page has a journal, and another put in its place.
-fn write_at(
-    bytes: &mut [u8],
-    keys: &[u64],
-    order: &[u32],
-    words: &mut [u64],
-    page: PageId,
-    address: Address,
-    s: usize,
-    t: usize,
-    word: Word,
-)
-    requires { ⌜ WordAsks (mem (now bytes) (now keys) (now order) (now words)) (page .0) (address .0) s t ⌝ }
-    ensures { λ _. ⌜ Shows (settingOf (mem (now (bytes .entry)) (now (keys .entry)) (now (order .entry)) (now (words .entry)))) (wordPut (layoutOf (now (words .entry))) (page .0) (address .0) (wordBytes (value (word .limbs))) (viewOf (mem (now (bytes .entry)) (now (keys .entry)) (now (order .entry)) (now (words .entry))))) (mem (now (bytes .exit)) (now (keys .entry)) (now (order .entry)) (now (words .exit))) ⌝ }
-{
-    journal_found(bytes, keys, order, words, page, address, s, t);
-    bodies::put_word(
-        bytes,
-        s,
-        t,
-        (address.0 % 256) as usize,
-        word::to_big_endian(word),
-    );
-}
-
-// Writes a word whose chunks are held at the slots s and t. Of the refusals of a word write only 11 is left.
-pub fn write_found(
-    bytes: &mut [u8],
-    keys: &[u64],
-    order: &[u32],
-    words: &mut [u64],
-    page: PageId,
-    address: Address,
-    s: usize,
-    t: usize,
-    word: Word,
-) -> u32
-    requires { ⌜ WordFound (mem (now bytes) (now keys) (now order) (now words)) (page .0) (address .0) s t ⌝ }
-    ensures { λ r. ⌜ CallDoes (mem (now (bytes .entry)) (now (keys .entry)) (now (order .entry)) (now (words .entry))) (Call.WriteWord (page .0) (address .0) (value (word .limbs))) (answered r nothing) (mem (now (bytes .exit)) (now (keys .entry)) (now (order .entry)) (now (words .exit))) ⌝ }
-{
-    if checks::short_of_words(bytes, keys, order, words, page, 1) {
-        return 11;
-    }
-    write_at(bytes, keys, order, words, page, address, s, t, word);
-    0
-}
-
-// What `write_known` answers where it does nothing. No refusal of a word write has this number.
-const LEFT: u32 = 1;
-
-// Writes a word whose chunks hints know. LEFT says that they do not, and that nothing was done.
-fn write_known(
-    bytes: &mut [u8],
-    keys: &[u64],
-    order: &[u32],
-    words: &mut [u64],
-    page: PageId,
-    address: Address,
-    word: Word,
-) -> u32
-    requires { ⌜ WellFormed (mem (now bytes) (now keys) (now order) (now words)) ⌝ }
-    ensures { λ r. ⌜ WrittenOrLeft (mem (now (bytes .entry)) (now (keys .entry)) (now (order .entry)) (now (words .entry))) (page .0) (address .0) (value (word .limbs)) r (mem (now (bytes .exit)) (now (keys .entry)) (now (order .entry)) (now (words .exit))) ⌝ }
-{
-    let c = words[head::CHUNKS] as usize;
-    let s = store::hinted(keys, order, words, page, address.0 / 256);
-    if s >= c {
-        return LEFT;
-    }
-    let t = store::hinted_last(keys, order, words, page, address, s);
-    if t >= c {
-        return LEFT;
-    }
-    write_found(bytes, keys, order, words, page, address, s, t, word)
-}
-
 // A word is written to a page that holds its chunks.
 fn write_held(
     bytes: &mut [u8],
@@ -167,7 +73,7 @@ fn write_held(
 {
     let s = store::place_of(keys, order, words, page, address.0 / 256);
     let t = store::place_of_last(keys, order, words, page, address, s);
-    write_at(bytes, keys, order, words, page, address, s, t, word);
+    word_steps::write_at(bytes, keys, order, words, page, address, s, t, word);
 }
 
 // A word is written whether or not its page is allocated, its chunks are held and its page has a journal.
@@ -233,7 +139,7 @@ fn write_one(
         return number;
     }
     let held = chunks::hold_at(bytes, keys, order, words, page, chunk, at, k);
-    write_at(bytes, keys, order, words, page, address, held, held, word);
+    word_steps::write_at(bytes, keys, order, words, page, address, held, held, word);
     0
 }
 
@@ -273,8 +179,8 @@ pub fn write_word(
     requires { ⌜ WellFormed (mem (now bytes) (now keys) (now order) (now words)) ⌝ }
     ensures { λ r. ⌜ CallDoes (mem (now (bytes .entry)) (now (keys .entry)) (now (order .entry)) (now (words .entry))) (Call.WriteWord (page .0) (address .0) (value (word .limbs))) (answered r nothing) (mem (now (bytes .exit)) (now (keys .exit)) (now (order .exit)) (now (words .exit))) ⌝ }
 {
-    let known = write_known(bytes, keys, order, words, page, address, word);
-    if known != LEFT {
+    let known = word_steps::write_known(bytes, keys, order, words, page, address, word);
+    if known != word_steps::LEFT {
         return known;
     }
     write_searched(bytes, keys, order, words, page, address, word)

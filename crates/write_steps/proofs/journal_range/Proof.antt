@@ -4,7 +4,8 @@ use Rattle.store.specs.Mem.{mem}
 use Rattle.view.specs.View.{viewOf}
 use Rattle.view.specs.Steps.{alignedCount, alignedNotes}
 use Rattle.checks.proofs.Chosen.{layout-asks}
-use Rattle.write_steps.proofs.Chains.{aligned-top, aligned-asks, counted-by, journal-own, journal-none}
+use Rattle.word_steps.proofs.Chains.{journal-own, journal-none}
+use Rattle.write_steps.proofs.Chains.{aligned-top, aligned-asks, counted-by}
 use Rattle.write_steps.proofs.journal_range.Statement.{statement}
 use Rattle.write_steps.proofs.journal_range.Tie as tie
 

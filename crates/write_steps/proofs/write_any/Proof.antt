@@ -2,7 +2,7 @@ use mathlib.Core.Path.{sym, _∙_}
 use borrow.Author.Needs.{needs}
 use Rattle.word.specs.Value.{value}
 use Rattle.store.specs.Mem.{mem}
-use Rattle.write_steps.proofs.Found.{searched-refused, searched-done}
+use Rattle.write_steps.proofs.Searched.{searched-refused, searched-done}
 use Rattle.write_steps.proofs.write_any.Statement.{statement}
 use Rattle.write_steps.proofs.write_any.Tie as tie
 

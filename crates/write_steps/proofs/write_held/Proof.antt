@@ -2,7 +2,7 @@ use native.Mathlib.Omega.{arith}
 use borrow.Author.Needs.{needs}
 use Rattle.store.specs.Mem.{mem}
 use Rattle.formed.proofs.Hints.{find-asked}
-use Rattle.write_steps.proofs.Words.{held-word}
+use Rattle.write_steps.proofs.Searched.{held-word}
 use Rattle.write_steps.proofs.write_held.Statement.{statement}
 use Rattle.write_steps.proofs.write_held.Tie as tie
 

@@ -7,7 +7,8 @@ use Rattle.word.proofs.Digits.{digits-long}
 use Rattle.store.specs.Mem.{mem}
 use Rattle.view.specs.View.{View}
 use Rattle.view.specs.Steps.{wordNotes}
-use Rattle.write_steps.proofs.Chains.{word-cleared, count-small, prepare-asks, journal-asks, word-notes-same, write-done}
+use Rattle.word_steps.proofs.Chains.{word-cleared, word-notes-same, write-done}
+use Rattle.write_steps.proofs.Chains.{count-small, prepare-asks, journal-asks}
 use Rattle.write_steps.proofs.write_new.Statement.{statement}
 use Rattle.write_steps.proofs.write_new.Tie as tie
 

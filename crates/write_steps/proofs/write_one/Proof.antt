@@ -7,7 +7,7 @@ use Rattle.store.specs.Keys.{keyOf}
 use Rattle.store.specs.Mem.{mem, pageCount}
 use Rattle.formed.specs.Parts.{entryOf}
 use Rattle.formed.proofs.Asks.{slots-asked}
-use Rattle.write_steps.proofs.Found.{searched-refused}
+use Rattle.write_steps.proofs.Searched.{searched-refused}
 use Rattle.write_steps.proofs.One.{one-listed, one-place, one-hold, one-asks, one-does}
 use Rattle.write_steps.proofs.write_one.Statement.{statement}
 use Rattle.write_steps.proofs.write_one.Tie as tie

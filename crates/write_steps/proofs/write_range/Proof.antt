@@ -7,7 +7,8 @@ use Rattle.view.specs.Steps.{alignedCount, alignedNotes}
 use Rattle.view.specs.Inner.{putting}
 use Rattle.bodies.proofs.Puts.{shows-then}
 use Rattle.checks.proofs.Passed.{bytes-passed}
-use Rattle.write_steps.proofs.Chains.{bytes-cleared, count-small, prepare-asks, journal-asks, aligned-notes-same, put-asks, write-done}
+use Rattle.word_steps.proofs.Chains.{write-done}
+use Rattle.write_steps.proofs.Chains.{bytes-cleared, count-small, prepare-asks, journal-asks, aligned-notes-same, put-asks}
 use Rattle.write_steps.proofs.write_range.Statement.{statement}
 use Rattle.write_steps.proofs.write_range.Tie as tie
 

@@ -3,7 +3,7 @@ use borrow.Author.Needs.{needs}
 use Rattle.word.specs.Value.{value}
 use Rattle.store.specs.Mem.{mem}
 use Rattle.formed.specs.WellFormed.{WellFormed}
-use Rattle.write_steps.proofs.Found.{left-does}
+use Rattle.write_steps.proofs.Searched.{left-does}
 use Rattle.write_steps.proofs.write_word.Statement.{statement}
 use Rattle.write_steps.proofs.write_word.Tie as tie
 

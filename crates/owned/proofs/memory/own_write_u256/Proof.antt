@@ -3,8 +3,7 @@ use Rattle.word.specs.Value.{value}
 use Rattle.store.specs.Mem.{mem}
 use Rattle.formed.proofs.Hints.{find-asked}
 use Rattle.owned.proofs.Answers.{written-as}
-use Rattle.owned.proofs.Words.{slot-inside, word-wide}
-use Rattle.owned.proofs.Plain.{found, plain-does}
+use Rattle.owned.proofs.Words.{slot-inside, piece-found, piece-does, word-wide}
 use borrow.Author.Needs.{needs}
 use Rattle.owned.proofs.memory.own_write_u256.Statement.{statement}
 use Rattle.owned.proofs.memory.own_write_u256.Tie as tie
@@ -35,7 +34,7 @@ returns c =
     let start = at-in-one-piece .before .before .before .before .before .before .before .before in
     let m = mem (start .args .bytes .now) (start .args .keys .now) (start .args .order .now) (start .args .words .now) in
     written-as (start .args .page) (start .args .address) (at-word-of .word-of .ensures)
-    (plain-does m (start .pre) (start .args .page) (start .args .address) (at-in-one-piece .in-one-piece .result) (omega (arith, start .fits .page)) (omega (arith, start .fits .address)) (at-if1 .if1 .taken) (at-in-one-piece .in-one-piece .ensures (at-if1 .if1 .taken)) (at-has-no-journal .has-no-journal .ensures (at-if2 .if2 .taken))
+    (piece-does m (start .pre) (start .args .page) (start .args .address) (at-in-one-piece .in-one-piece .result) (omega (arith, start .fits .page)) (omega (arith, start .fits .address)) (at-if1 .if1 .taken) (at-in-one-piece .in-one-piece .ensures (at-if1 .if1 .taken)) (at-has-no-journal .has-no-journal .ensures (at-if2 .if2 .taken))
     (value (at-word-of .word-of .result .limbs)) (at-copy .copy .last .1 .1 .0) (at-copy .copy .kept .1 .1 .0) (rw (at-to-big-endian .to-big-endian .ensures .1) at (at-copy .copy .ensures)))
 
 write-found-requires : tie.Need-write-found-requires
@@ -43,7 +42,7 @@ write-found-requires c κs =
     let at-if1 = c .before .before .before .before .before .before .before .before in
     let at-in-one-piece = at-if1 .before .before in
     let start = at-in-one-piece .before .before .before .before .before .before .before .before in
-    found (mem (start .args .bytes .now) (start .args .keys .now) (start .args .order .now) (start .args .words .now)) (start .pre) (start .args .page) (start .args .address) (at-in-one-piece .in-one-piece .result) (omega (arith, start .fits .page)) (omega (arith, start .fits .address)) (at-if1 .if1 .taken) (at-in-one-piece .in-one-piece .ensures (at-if1 .if1 .taken))
+    piece-found (mem (start .args .bytes .now) (start .args .keys .now) (start .args .order .now) (start .args .words .now)) (start .pre) (start .args .page) (start .args .address) (at-in-one-piece .in-one-piece .result) (omega (arith, start .fits .page)) (omega (arith, start .fits .address)) (at-if1 .if1 .taken) (at-in-one-piece .in-one-piece .ensures (at-if1 .if1 .taken))
 
 returns-2 : tie.Need-returns-2
 returns-2 c =

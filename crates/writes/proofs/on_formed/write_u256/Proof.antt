@@ -2,7 +2,7 @@ use borrow.Author.Needs.{needs}
 use Rattle.word.specs.Value.{value}
 use Rattle.store.specs.Mem.{mem}
 use Rattle.view.specs.Calls.{Call}
-use Rattle.write_steps.proofs.Found.{number-refused, number-done}
+use Rattle.write_steps.proofs.Searched.{number-refused, number-done}
 use Rattle.writes.proofs.on_formed.write_u256.Statement.{statement}
 use Rattle.writes.proofs.on_formed.write_u256.Tie as tie
 

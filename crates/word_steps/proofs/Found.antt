@@ -1,6 +1,6 @@
 -- A word whose chunks are held already: nothing is left to do before it is journalled and put, and of its refusals only 11 is left.
 -- Assumes nothing.
-use mathlib.Core.Path.{_≡_, refl, sym, ap, _∙_, subst}
+use mathlib.Core.Path.{_≡_, refl, sym, ap, _∙_}
 use mathlib.Core.Bool.{Bool, true, false, not, _&&_, _||_, false≢true}
 use mathlib.Core.List.{List, [], _∷_}
 use mathlib.Core.Logic.{⊎-elim}
@@ -9,7 +9,7 @@ use native.Mathlib.Omega.{arith}
 use lib.Dec.{leb, ltb, eqb}
 use lib.ListN.{length}
 use borrow.Author.Tests.{le-leb, lt-leb, lt-ltb, le-ltb, eq-eqb, ne-eqb}
-use Rattle.outcome.specs.Outcome.{Outcome, refused, done, answered, carriedOut}
+use Rattle.outcome.specs.Outcome.{Outcome, refused, answered, carriedOut}
 use Rattle.word.specs.Value.{wordBytes}
 use Rattle.word.proofs.Digits.{digits-long}
 use Rattle.page_ids.specs.Decode.{Page, none, page, decoded, isNone, isFixed, isDynamic}
@@ -26,21 +26,21 @@ use Rattle.formed.proofs.Keys.{in-table}
 use Rattle.formed.proofs.Hints.{slot-found}
 use Rattle.formed.proofs.Sense.{held-holds, in-table-allocated}
 use Rattle.view.specs.View.{View, settingOf, viewOf}
-use Rattle.view.specs.Steps.{touchedCount, missing, wordNotes, wordWritten}
+use Rattle.view.specs.Steps.{touchedCount, missing, wordNotes}
 use Rattle.view.specs.Checks.{undecodable, overfull, capacityChecksAt, wordWriteChecks}
-use Rattle.view.specs.Calls.{Call, Value, WriteWord, nothing, nextOf, firstRefusal, CallDoes}
+use Rattle.view.specs.Calls.{Value, WriteWord, nothing, nextOf, firstRefusal, CallDoes}
 use Rattle.view.specs.Does.{Shows}
 use Rattle.view.specs.Inner.{listing, holding}
 use Rattle.view.proofs.Compose.{listed-held}
 use Rattle.view.proofs.Equal.{view-by}
 use Rattle.view.proofs.Refused.{next, first-holds, first-fails, refused-does, done-does}
 use Rattle.checks.proofs.Numbers.{room-rest}
-use Rattle.checks.proofs.Passed.{room-refusals}
+use Rattle.checks.proofs.Passed.{decodable, room-refusals}
 use Rattle.pages.proofs.Listing.{listed-already}
 use Rattle.bodies.proofs.Pieces.{held-here}
 use Rattle.bodies.proofs.Puts.{shows-view}
-use Rattle.write_steps.specs.Asks.{WordFound, WordAsks, wordPut, WrittenOrLeft, leftNumber}
-use Rattle.write_steps.proofs.Chains.{Cleared, word-cleared, prepare-asks, list-asks, word-notes-same, write-done}
+use Rattle.word_steps.specs.Asks.{WordFound, WordAsks, wordPut, WrittenOrLeft, leftNumber}
+use Rattle.word_steps.proofs.Chains.{Cleared, word-cleared, word-notes-same, write-done}
 
 -- chunks that are held already
 module _ (p k n : ℕ) (v : View) (all : (i : ℕ) → k ≤ i → i < k + n → v .held p i ≡ true) where
@@ -159,7 +159,7 @@ module _ (m : Mem) (p a s t : ℕ) (w : WordFound m p a s t) (page : p ≤ 42949
     ready : Shows (settingOf m) (holding p (a / 256) (touchedCount a 32) (listing m p)) m
     ready =
         shows-view
-        (listed-already m p (list-asks m p (a / 256) (touchedCount a 32) (prepare-asks m p a 32 1 (touchedCount a 32) (cleared 32 refl))) (entry-there m f s p (a / 256) at-first))
+        (listed-already m p record { formed = f; page = page; decodable = decodable (settingOf m) p known; entry = cleared 32 refl .room .entry } (entry-there m f s p (a / 256) at-first))
         (holding-same p (a / 256) (touchedCount a 32) (listing m p) (λ i lo hi. listed-held (layoutOf (m .words)) p (viewOf m) p i ∙ each i lo hi))
 
     pub found-asks : WordAsks m p a s t
@@ -178,24 +178,3 @@ module _ (m : Mem) (p a n : ℕ) where
   -- the number that says so is that of no write that was carried out
   pub known-done : (r : ℕ) (m' : Mem) → CallDoes m (WriteWord p a n) (answered r nothing) m' → WrittenOrLeft m p a n r m'
   known-done r m' d = record { left = λ e. d .kept (sym (ap carriedOut (sym (ap (λ (x : ℕ). answered x nothing) e) ∙ d .answer))); written = λ _. d }
-
-  pub left-does : (m₁ : Mem) → m₁ ≡ m → (r : ℕ) (m' : Mem) → CallDoes m₁ (WriteWord p a n) (answered r nothing) m' → CallDoes m (WriteWord p a n) (answered r nothing) m'
-  left-does m₁ e r m' d = subst (λ (x : Mem). CallDoes x (WriteWord p a n) (answered r nothing) m') e d
-
-  -- ---- and one by searches
-  module _ (f : WellFormed m) where
-    pub searched-refused : (r : ℕ) → r ≡ firstRefusal (wordWriteChecks (settingOf m) (viewOf m) p a) → (r ≡ 0 → ⊥) → CallDoes m (WriteWord p a n) (answered r nothing) m
-    searched-refused zero e z = absurd (z refl)
-    searched-refused (suc r) e z = refused-does m f (wordWriteChecks (settingOf m) (viewOf m) p a) (settingOf m) (nextOf (settingOf m) (WriteWord p a n) (viewOf m)) (suc r) e z
-
-    pub searched-done : firstRefusal (wordWriteChecks (settingOf m) (viewOf m) p a) ≡ 0 → (m' : Mem) → Shows (settingOf m) (wordWritten (layoutOf (m .words)) p a (wordBytes n) (viewOf m)) m' → CallDoes m (WriteWord p a n) (answered 0 nothing) m'
-    searched-done e m' shown = done-does m f (wordWriteChecks (settingOf m) (viewOf m) p a) (settingOf m) (nextOf (settingOf m) (WriteWord p a n) (viewOf m)) (next (room-refusals (settingOf m) (viewOf m) p a 32 1)) e shown
-
--- ---- the outcome, from its number
-pub number-refused : (m : Mem) (c : Call) (r : ℕ) (m' : Mem) → (r ≡ 0 → ⊥) → CallDoes m c (answered r nothing) m' → CallDoes m c (refused r) m'
-number-refused m c zero m' z d = absurd (z refl)
-number-refused m c (suc r) m' z d = d
-
-pub number-done : (m : Mem) (c : Call) (r : ℕ) (m' : Mem) → r ≡ 0 → CallDoes m c (answered r nothing) m' → CallDoes m c (done nothing) m'
-number-done m c zero m' z d = d
-number-done m c (suc r) m' z d = absurd (omega arith)

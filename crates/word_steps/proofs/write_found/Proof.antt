@@ -3,9 +3,9 @@ use native.Mathlib.Omega.{arith}
 use borrow.Author.Needs.{needs}
 use Rattle.word.specs.Value.{value}
 use Rattle.store.specs.Mem.{mem}
-use Rattle.write_steps.proofs.Found.{found-refused, found-asks, found-does}
-use Rattle.write_steps.proofs.write_found.Statement.{statement}
-use Rattle.write_steps.proofs.write_found.Tie as tie
+use Rattle.word_steps.proofs.Found.{found-refused, found-asks, found-does}
+use Rattle.word_steps.proofs.write_found.Statement.{statement}
+use Rattle.word_steps.proofs.write_found.Tie as tie
 
 returns : tie.Need-returns
 returns c =

@@ -3,9 +3,9 @@ use borrow.Author.Needs.{needs}
 use Rattle.word.specs.Value.{value}
 use Rattle.store.specs.Mem.{mem}
 use Rattle.formed.proofs.Hints.{find-asked}
-use Rattle.write_steps.proofs.Found.{slots-found, known-left, known-done}
-use Rattle.write_steps.proofs.write_known.Statement.{statement}
-use Rattle.write_steps.proofs.write_known.Tie as tie
+use Rattle.word_steps.proofs.Found.{slots-found, known-left, known-done}
+use Rattle.word_steps.proofs.write_known.Statement.{statement}
+use Rattle.word_steps.proofs.write_known.Tie as tie
 
 hinted-requires : tie.Need-hinted-requires
 hinted-requires c κs =

@@ -8,16 +8,14 @@ use Prim.Native.Nat.{ℕ, _+_, _/_, _%_, _≤_, _<_}
 use native.Mathlib.Omega.{arith}
 use lib.Dec.{leb}
 use lib.ListN.{length, getD, take, drop}
-use borrow.Author.Tests.{lt-ltb, ltb-true}
+use borrow.Author.Tests.{lt-ltb}
 use Rattle.store.specs.Keys.{lastChunk, keyOf}
 use Rattle.index.specs.Index.{seek}
 use Rattle.index.proofs.Logic.{same-or-not}
 use Rattle.store.specs.Mem.{Mem, mem, layoutOf, slotCount}
-use Rattle.store.specs.Find.{slotFor}
 use Rattle.formed.specs.Pages.{journalPage}
 use Rattle.formed.specs.Parts.{slotOfChunk, holds}
 use Rattle.formed.proofs.Same.{tab-is}
-use Rattle.formed.proofs.Hints.{slot-found}
 use Rattle.view.specs.View.{Setting, settingOf, viewOf}
 use Rattle.view.specs.Steps.{wordNotes}
 use Rattle.view.specs.Does.{Shows}
@@ -28,7 +26,7 @@ use Rattle.bodies.proofs.Puts.{shows-then, shows-view}
 use Rattle.bodies.proofs.Words.{put-shows}
 use Rattle.bodies.proofs.WordBytes.{word-in-slots}
 use Rattle.journal.specs.Steps.{NoteSlots}
-use Rattle.write_steps.specs.Asks.{JournalAsks, WordAsks, wordPut}
+use Rattle.word_steps.specs.Asks.{JournalAsks, WordAsks, wordPut}
 
 -- the keys say where a chunk is held
 slots-stay : (b b' keys order w w' : List ℕ) → slotCount w' ≡ slotCount w → (p k : ℕ) → slotOfChunk (mem b' keys order w') p k ≡ slotOfChunk (mem b keys order w) p k
@@ -86,25 +84,3 @@ module _ (m : Mem) (p a s t : ℕ) (asks : WordAsks m p a s t) (small : a ≤ 42
         (held-here m₁ (noted .formed) t p ((a + 31) / 256) (slot-same ((a + 31) / 256) ∙ asks .found .last) last-in)
         (λ i. getD ws i 0) bytes″ long d)
         (ap (λ (x : List ℕ). putting p a x (viewOf m₁)) (sym (tab-is 32 (λ i. getD ws i 0) ws wide (λ i l. refl)))))
-
--- a page that holds the word's chunks, whose slots were found
-inside : (m : Mem) (p x k : ℕ) → slotOfChunk m p k ≡ x → holds m p k ≡ true → x < slotCount (m .words)
-unfolding holds
-inside m p x k e h = let b = ltb-true (slotOfChunk m p k) (slotCount (m .words)) h in omega arith
-
-pub held-word : (m : Mem) (p a s t : ℕ) → a ≤ 4294967295 → JournalAsks m p a 32 1 → s ≡ slotFor (m .keys) (m .words) p (a / 256) → t ≡ slotFor (m .keys) (m .words) p ((a + 31) / 256) → WordAsks m p a s t
-held-word m p a s t small asks es et =
-    let f = asks .formed in
-    let first : slotOfChunk m p (a / 256) ≡ s = sym (es ∙ slot-found m f p (a / 256) (omega arith)) in
-    let last : slotOfChunk m p ((a + 31) / 256) ≡ t = sym (et ∙ slot-found m f p ((a + 31) / 256) (omega arith)) in
-    let q : (a + 0) / 256 ≡ a / 256 = omega arith in
-    record {
-      found = record {
-        formed = f;
-        first = first;
-        last = last;
-        first-in = inside m p s (a / 256) first (ap (holds m p) (sym q) ∙ asks .held 0 (omega arith));
-        last-in = inside m p t ((a + 31) / 256) last (asks .held 31 (omega arith));
-      };
-      room = asks .room;
-    }

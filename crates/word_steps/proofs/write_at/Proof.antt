@@ -3,9 +3,9 @@ use borrow.Author.Needs.{needs}
 use Rattle.word.specs.Value.{value, wordBytes}
 use Rattle.word.proofs.Digits.{digits-long}
 use Rattle.store.specs.Mem.{mem}
-use Rattle.write_steps.proofs.Words.{word-places, word-done}
-use Rattle.write_steps.proofs.write_at.Statement.{statement}
-use Rattle.write_steps.proofs.write_at.Tie as tie
+use Rattle.word_steps.proofs.Words.{word-places, word-done}
+use Rattle.word_steps.proofs.write_at.Statement.{statement}
+use Rattle.word_steps.proofs.write_at.Tie as tie
 
 put-word-requires : tie.Need-put-word-requires
 put-word-requires c κs =

@@ -4,10 +4,10 @@ use Rattle.store.specs.Mem.{mem}
 use Rattle.view.specs.View.{viewOf}
 use Rattle.view.specs.Steps.{wordNotes}
 use Rattle.checks.proofs.Chosen.{layout-asks}
-use Rattle.write_steps.proofs.Chains.{note-asks, journal-own, journal-none}
-use Rattle.write_steps.proofs.Words.{word-journal, word-slots}
-use Rattle.write_steps.proofs.journal_found.Statement.{statement}
-use Rattle.write_steps.proofs.journal_found.Tie as tie
+use Rattle.word_steps.proofs.Chains.{note-asks, journal-own, journal-none}
+use Rattle.word_steps.proofs.Words.{word-journal, word-slots}
+use Rattle.word_steps.proofs.journal_found.Statement.{statement}
+use Rattle.word_steps.proofs.journal_found.Tie as tie
 
 journal-of-requires : tie.Need-journal-of-requires
 journal-of-requires c κs =

@@ -1,0 +1,5 @@
+-- The laws that the proofs of this crate and of those above it share.
+pub mod Chains
+pub mod Words
+pub mod Found
+pub mod Plain

@@ -1,7 +1,8 @@
 //! Heap loads and stores, each with an increment and without growth, against vm2's own handlers.
 //!
 //! vm2's handler takes its operand from a register and puts its results to registers. It also looks at predicate and mode,
-//! pays the fixed cost and moves the program counter: that is part of what is timed.
+//! pays the fixed cost and moves the program counter: that is part of what is timed. The rows of the
+//! harness time how much that is, by a no-op with the same registers.
 
 use std::hint::black_box;
 
@@ -87,5 +88,31 @@ pub fn stores(chunks: u32, order: Walk) -> Times {
         assert_eq!(machine.store(a, WORD), results(&stored)[1], "address {a}");
     }
     compare(&mut machine, &ours, &at);
+    times
+}
+
+/// A no-op with the registers of a load, and a load. The caches have its chunks.
+pub fn harness_of_loads() -> Times {
+    let (mut machine, _, at) = sides(1000, Walk::Sequential);
+    let mut idle = Machine::new(PAGE);
+    let times = Times::of(
+        at.len(),
+        || each(&at, |a| _ = idle.no_load(a).map(used)),
+        || each(&at, |a| _ = machine.load(a).map(used)),
+    );
+    assert_eq!((idle.gas(), machine.gas()), (FRAME.gas, FRAME.gas));
+    times
+}
+
+/// A no-op with the registers of a store, and a store.
+pub fn harness_of_stores() -> Times {
+    let (mut machine, _, at) = sides(1000, Walk::Sequential);
+    let mut idle = Machine::new(PAGE);
+    let times = Times::of(
+        at.len(),
+        || each(&at, |a| used(idle.no_store(a, black_box(WORD)))),
+        || each(&at, |a| used(machine.store(a, black_box(WORD)))),
+    );
+    assert_eq!((idle.gas(), machine.gas()), (FRAME.gas, FRAME.gas));
     times
 }

@@ -1,14 +1,16 @@
 //! Times the library beside vm2, on the same inputs.
 //!
-//! `bench [--runs N] [NAME ..]` runs rows N times and prints their tables. A NAME is a table's name or a part of
-//! the names of rows; without any, all are run. Each run of a row is a process of its own, `bench --row NAME`,
-//! which makes its memories afresh and prints one line: so no row depends on those before it.
+//! `bench [--runs N] [NAME ..]` runs rows N times and prints their tables. A NAME is one of words, instructions, chunks,
+//! formed, checked, limits and trace, or a part of the names of rows; without any, all are run. `limits` has three tables, which
+//! tell what limits slow rows. Each run of a row is a process of its own, `bench --row NAME`, which makes its memories afresh and
+//! prints one line: so no row depends on those before it.
 
 mod both;
 mod chunks;
 mod formed;
 mod instructions;
 mod lent;
+mod limits;
 mod places;
 mod rows;
 mod table;
@@ -72,7 +74,9 @@ fn parent(runs: usize, names: &[String]) {
     if names.is_empty() || names.iter().any(|name| name == trace::NAME) {
         trace::run(runs);
     }
-    println!("\n{met} of {aims} aims are met");
+    if aims > 0 {
+        println!("\n{met} of {aims} aims are met");
+    }
 }
 
 fn usage(wrong: &str) -> ! {
@@ -81,7 +85,8 @@ fn usage(wrong: &str) -> ! {
         "bench: [--runs N] [NAME ..], where a NAME is a part of the names of rows, or a table:"
     );
     let tables = rows::tables();
-    let names: Vec<&str> = tables.iter().map(|table| table.name).chain([trace::NAME]).collect();
+    let mut names: Vec<&str> = tables.iter().map(|table| table.name).chain([trace::NAME]).collect();
+    names.dedup();
     eprintln!("bench: {}", names.join(", "));
     process::exit(2)
 }

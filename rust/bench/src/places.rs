@@ -66,27 +66,35 @@ pub const fn heap(group: u32) -> u32 {
     66 + 8 * group
 }
 
-/// Pages and addresses of at least 20,000 words.
+/// Words of a walk, at least.
+pub const WORDS: u32 = 20_000;
+
+/// Pages and addresses of the words of a walk.
 pub fn walk(held: Held, walk: Walk) -> Vec<(u32, u32)> {
     match walk {
         Walk::Sequential => {
             let words = (0..held.pages)
                 .flat_map(|group| (0..8 * held.chunks).map(move |word| (heap(group), 32 * word)));
-            words.clone().cycle().take(words.count().max(20_000)).collect()
+            words.clone().cycle().take(words.count().max(WORDS as usize)).collect()
         }
-        _ => random(20_000, held, walk),
+        _ => random(WORDS, held, walk),
+    }
+}
+
+/// Random numbers, each below the bound that is handed in: the same ones in every run.
+pub fn draws() -> impl FnMut(u32) -> u32 {
+    let mut state = 0x9e37_79b9_7f4a_7c15u64;
+    move |below| {
+        state ^= state << 13;
+        state ^= state >> 7;
+        state ^= state << 17;
+        (state >> 32) as u32 % below
     }
 }
 
 /// Pages and addresses of `n` words, at random or over the edge of two chunks.
 pub fn random(n: u32, held: Held, walk: Walk) -> Vec<(u32, u32)> {
-    let mut state = 0x9e37_79b9_7f4a_7c15u64;
-    let mut next = |below: u32| {
-        state ^= state << 13;
-        state ^= state >> 7;
-        state ^= state << 17;
-        (state >> 32) as u32 % below
-    };
+    let mut next = draws();
     let mut place = |_| {
         let page = heap(next(held.pages));
         let address = match walk {

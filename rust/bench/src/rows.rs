@@ -1,7 +1,7 @@
 //! Which rows there are, and the ratios that they are to keep to.
 
 use crate::{
-    chunks, formed, instructions, lent,
+    chunks, formed, instructions, lent, limits,
     places::{thousands, Held, Walk},
     table::Table,
     words,
@@ -9,23 +9,39 @@ use crate::{
 
 const WALKS: [Walk; 3] = [Walk::Sequential, Walk::Random, Walk::TwoChunks];
 
-const HELD: [Held; 5] = [
+const HELD: [Held; 6] = [
     Held::by_one_page(1000),
     Held::by_one_page(65_536),
-    Held { pages: 100, chunks: 10, room: 1000 },
+    SMALL_PAGES,
     Held { pages: 100, chunks: 10, room: 1024 },
+    Held { pages: 100, chunks: 10, room: 2048 },
     Held { pages: 100, chunks: 655, room: 65_536 },
 ];
+
+/// Many small pages in a full memory: some of their chunks have lost their hint.
+const SMALL_PAGES: Held = Held { pages: 100, chunks: 10, room: 1000 };
 
 /// Chunks of memories whose calls test them.
 const TESTED: [u32; 4] = [128, 1024, 8192, 65_536];
 
+/// The name of all tables that tell what limits slow rows.
+const LIMITS: &str = "limits";
+
 pub fn tables() -> Vec<Table> {
-    vec![of_words(), of_instructions(), of_chunks(), of_the_test(), of_checked_calls()]
+    vec![
+        of_words(),
+        of_instructions(),
+        of_chunks(),
+        of_the_test(),
+        of_checked_calls(),
+        of_bare_reads(),
+        of_lost_hints(),
+        of_the_harness(),
+    ]
 }
 
 fn of_words() -> Table {
-    let mut table = Table::new("words", ["vm2", "ours"]);
+    let mut table = Table::new("words", "word calls", ["vm2", "ours"]);
     for walk in WALKS {
         let two = walk == Walk::TwoChunks;
         for held in HELD {
@@ -42,7 +58,7 @@ fn of_words() -> Table {
 }
 
 fn of_instructions() -> Table {
-    let mut table = Table::new("instructions", ["vm2's handler", "ours"]);
+    let mut table = Table::new("instructions", "instructions", ["vm2's handler", "ours"]);
     for walk in WALKS {
         for chunks in [1000, 65_536] {
             let label = format!("{walk}, {} chunks", thousands(chunks));
@@ -56,7 +72,7 @@ fn of_instructions() -> Table {
 }
 
 fn of_chunks() -> Table {
-    let mut table = Table::new("chunks", ["vm2", "ours"]);
+    let mut table = Table::new("chunks", "other calls", ["vm2", "ours"]);
     for chunks in [1000, 65_536] {
         let label = format!("{} chunks", thousands(chunks));
         let name = format!("journalled word write, {label}");
@@ -83,7 +99,8 @@ fn of_chunks() -> Table {
 }
 
 fn of_the_test() -> Table {
-    let mut table = Table::new("formed", ["one scan of the bytes", "well-formedness test"]);
+    let mut table =
+        Table::new("formed", "the test", ["one scan of the bytes", "well-formedness test"]);
     for chunks in TESTED {
         for held in [0, chunks / 2, chunks] {
             let name = format!("test, {} chunks, {} held", thousands(chunks), thousands(held));
@@ -94,7 +111,7 @@ fn of_the_test() -> Table {
 }
 
 fn of_checked_calls() -> Table {
-    let mut table = Table::new("checked", ["vm2", "checked call"]);
+    let mut table = Table::new("checked", "checked calls", ["vm2", "checked call"]);
     for chunks in TESTED {
         let label = format!("{} chunks", thousands(chunks));
         let name = format!("checked word read, {label}");
@@ -106,5 +123,35 @@ fn of_checked_calls() -> Table {
         let name = format!("checked rollback of 100 words, {label}");
         table.add(name, None, move || lent::rollbacks(chunks));
     }
+    table
+}
+
+/// How much of a word read is the wait for memory.
+fn of_bare_reads() -> Table {
+    let mut table = Table::new(LIMITS, "bare reads", ["bare reads of memory", "our word read"]);
+    for walk in WALKS {
+        for chunks in [1000, 65_536] {
+            let name = format!("bare reads, {walk}, {} chunks", thousands(chunks));
+            table.add(name, None, move || limits::bare_reads(chunks, walk));
+        }
+    }
+    table
+}
+
+/// What a lost hint costs.
+fn of_lost_hints() -> Table {
+    let mut table = Table::new(LIMITS, "lost hints", ["with a hint", "without a hint"]);
+    let name = format!("lost hints, word read, {SMALL_PAGES}");
+    table.add(name, None, || limits::reads_without_hint(SMALL_PAGES));
+    let name = format!("lost hints, word write, {SMALL_PAGES}");
+    table.add(name, None, || limits::writes_without_hint(SMALL_PAGES));
+    table
+}
+
+/// How much of vm2's side of the instructions is not the access. It is the same for all addresses.
+fn of_the_harness() -> Table {
+    let mut table = Table::new(LIMITS, "the harness", ["no-op handler", "vm2's handler"]);
+    table.add("harness of a load".into(), None, instructions::harness_of_loads);
+    table.add("harness of a store".into(), None, instructions::harness_of_stores);
     table
 }

@@ -16,14 +16,17 @@ pub struct Row {
 
 /// Rows with the same two sides.
 pub struct Table {
+    /// By this it is chosen. Several tables may have the same name.
     pub name: &'static str,
+    /// As docs/PERFORMANCE.md has it.
+    pub title: &'static str,
     pub sides: [&'static str; 2],
     pub rows: Vec<Row>,
 }
 
 impl Table {
-    pub fn new(name: &'static str, sides: [&'static str; 2]) -> Self {
-        Self { name, sides, rows: Vec::new() }
+    pub fn new(name: &'static str, title: &'static str, sides: [&'static str; 2]) -> Self {
+        Self { name, title, sides, rows: Vec::new() }
     }
 
     pub fn add(&mut self, name: String, aim: Option<f64>, time: impl Fn() -> Times + 'static) {
@@ -45,32 +48,35 @@ impl Table {
     pub fn run(&self, runs: usize) -> Vec<f64> {
         let mut all = vec![Vec::new(); self.rows.len()];
         for run in 1..=runs {
-            eprintln!("{}: run {run} of {runs}", self.name);
+            eprintln!("{}: run {run} of {runs}", self.title);
             for (row, times) in self.rows.iter().zip(&mut all) {
                 times.push(alone(&row.name));
             }
         }
+        // Where no row has an aim, the two columns of aims are left out.
+        let aims = self.rows.iter().any(|row| row.aim.is_some());
         let [first, second] = self.sides;
-        println!("\n| {} | {first} | {second} | ratio | range | aim | |", self.name);
-        println!("|---|---|---|---|---|---|---|");
-        self.rows.iter().zip(&all).map(|(row, times)| row.print(times)).collect()
+        let (head, line) = if aims { (" aim | |", "---|---|") } else { ("", "") };
+        println!("\n| {} | {first} | {second} | ratio | range |{head}", self.title);
+        println!("|---|---|---|---|---|{line}");
+        self.rows.iter().zip(&all).map(|(row, times)| row.print(times, aims)).collect()
     }
 }
 
 impl Row {
-    /// Prints what the runs gave, and gives the median of the ratios.
-    fn print(&self, runs: &[Times]) -> f64 {
+    /// Prints what the runs measured, and returns the median of the ratios. `aims`: the table has columns for aims.
+    fn print(&self, runs: &[Times], aims: bool) -> f64 {
         let Times { first, second, ratio } = Times::medians(runs);
         let ratios = runs.iter().map(|times| times.ratio);
         let (low, high) = (ratios.clone().fold(f64::MAX, f64::min), ratios.fold(0.0, f64::max));
-        let (aim, met) = match self.aim {
-            Some(aim) => (format!("{aim:.2}"), if ratio <= aim { "met" } else { "missed" }),
-            None => Default::default(),
+        let aim = match self.aim {
+            Some(aim) if ratio <= aim => format!(" {aim:.2} | met |"),
+            Some(aim) => format!(" {aim:.2} | missed |"),
+            None if aims => "  |  |".into(),
+            None => String::new(),
         };
         let (name, first, second) = (&self.name, nanoseconds(first), nanoseconds(second));
-        println!(
-            "| {name} | {first} | {second} | {ratio:.2} | {low:.2} to {high:.2} | {aim} | {met} |"
-        );
+        println!("| {name} | {first} | {second} | {ratio:.2} | {low:.2} to {high:.2} |{aim}");
         ratio
     }
 }

@@ -4,11 +4,14 @@
 use std::ops::Range;
 
 use primitive_types::U256;
+use zksync_vm2_interface::opcodes;
 
 use super::{id, NoWorld, Quiet, Vm};
 use crate::{
     addressing_modes::{Arguments, Register, Register1, Register2, RegisterOrImmediate},
     heap::Heaps,
+    instruction::ExecutionStatus,
+    instruction_handlers::common::boilerplate,
     Instruction, ModeRequirements, Predicate,
 };
 
@@ -61,11 +64,18 @@ fn code(instruction: Instruction<Quiet, NoWorld>) -> Code {
     Box::new([instruction, Instruction::from_invalid()])
 }
 
-/// A machine of vm2 that runs the heap load and the heap store, both with an increment, by vm2's own handlers.
+/// What every handler of vm2 does, around nothing. vm2's own handler of the no-op is not at hand.
+fn no_op(vm: &mut Vm, world: &mut NoWorld, tracer: &mut Quiet) -> ExecutionStatus {
+    boilerplate::<opcodes::Nop, _, _>(vm, world, tracer, |_, _| {})
+}
+
+/// A machine of vm2 that runs the heap load and the heap store, both with an increment, by vm2's own handlers. It also runs an
+/// instruction that does nothing.
 pub struct Machine {
     vm: Vm,
     load: Code,
     store: Code,
+    no_op: Code,
 }
 
 impl Machine {
@@ -82,7 +92,8 @@ impl Machine {
         let next = Register2(Register::new(NEXT));
         let load = Instruction::from_heap_read(operand(), out(), Some(next), arguments());
         let store = Instruction::from_heap_write(operand(), value, Some(out()), arguments(), false);
-        Self { vm, load: code(load), store: code(store) }
+        let no_op = Instruction { handler: no_op, arguments: arguments() };
+        Self { vm, load: code(load), store: code(store), no_op: code(no_op) }
     }
 
     pub fn gas(&self) -> u32 {
@@ -111,6 +122,26 @@ impl Machine {
         self.set(VALUE, limbs);
         self.vm.state.current_frame.pc = &self.store[0];
         _ = (self.store[0].handler)(&mut self.vm, &mut NoWorld, &mut Quiet);
+        self.register(OUT)
+    }
+
+    fn do_nothing(&mut self) {
+        self.vm.state.current_frame.pc = &self.no_op[0];
+        _ = (self.no_op[0].handler)(&mut self.vm, &mut NoWorld, &mut Quiet);
+    }
+
+    /// Sets and shows the registers as [`load`](Self::load) does, and does nothing between.
+    pub fn no_load(&mut self, address: u32) -> [&[u64; 4]; 2] {
+        self.set(OPERAND, [address.into(), 0, 0, 0]);
+        self.do_nothing();
+        [self.register(OUT), self.register(NEXT)]
+    }
+
+    /// Sets and shows the registers as [`store`](Self::store) does, and does nothing between.
+    pub fn no_store(&mut self, address: u32, limbs: [u64; 4]) -> &[u64; 4] {
+        self.set(OPERAND, [address.into(), 0, 0, 0]);
+        self.set(VALUE, limbs);
+        self.do_nothing();
         self.register(OUT)
     }
 }

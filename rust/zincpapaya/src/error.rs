@@ -31,7 +31,8 @@ pub enum Error {
     /// Two fixed page ids are equal, the stride is below 4, or two memories that are to be
     /// compared have different layouts.
     Layout = 1,
-    /// A count of the capacity is out of its bounds.
+    /// A count of the capacity is out of its bounds. Or, where a [`Lent`](crate::Lent) is opened, a
+    /// buffer has another length than [`Capacity::lengths`](crate::Capacity::lengths) returns.
     Sizes = 2,
     /// The memory is not well formed. Of a memory that is [`Lent`](crate::Lent): somebody else has
     /// written to its buffers, or it was never opened. [`Heaps`](crate::Heaps) owns its buffers, so
@@ -94,8 +95,9 @@ impl Error {
 const TEXTS: [&str; 15] = [
     "the layout does not fit; make the four fixed page ids distinct and the stride at least 4, and \
      compare only memories of one layout",
-    "the capacity is out of bounds; open the memory with `chunks` from 1 to 65536, `pages` from 1 \
-     to 4096 and `journal_words` from 0 to 65536",
+    "the capacity is out of bounds, or a lent buffer has another length than the capacity needs; \
+     open the memory with `chunks` from 1 to 65536, `pages` from 1 to 4096 and `journal_words` from \
+     0 to 65536, and lend buffers of the lengths that `Capacity::lengths` returns",
     "the memory is not well formed, so something else has written to its buffers, or it was never \
      opened; trust none of its answers, open it again and run from the start",
     "the page id is none of the layout's pages, or lies past 32 bits; check the page id and the \
@@ -115,8 +117,8 @@ const TEXTS: [&str; 15] = [
     "the snapshot lies past a journal's end: a rollback or `delete_history` has cut the journal \
      since, or it is of another memory; roll back to an earlier one, or take a new one",
     "the length is above the dynamic length; truncate to what `dynamic_len` gave, or to less",
-    "start plus length of the fat pointer is above 4294967295; no valid pointer's is, so check \
-     where this one was made",
+    "start plus length of the fat pointer is above 4294967295; a valid pointer has a smaller sum, \
+     so check where this one was made",
     "the hook's value has more than 32 bits, and the store was not carried out; the bootloader \
      must store a smaller value at its hook address",
 ];

@@ -66,7 +66,7 @@ macro_rules! declare {
 declare! {
     writing fn zp_open(
         static_memory: u32, calldata_page: u32, bootloader_heap: u32, bootloader_aux: u32,
-        base: u32, stride: u32, chunks: u32, pages: u32, room: u32,
+        base: u32, stride: u32, chunks: u32, pages: u32, journal_words: u32,
         calldata: *const u8, calldata_len: usize,
     ) -> u32;
     reading fn zp_read_u256(page: u32, address: u32, out: *mut u64, out_len: usize) -> u32;

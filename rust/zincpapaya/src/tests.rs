@@ -194,14 +194,19 @@ fn every_call_refuses_a_memory_that_is_not_well_formed() {
 
 #[test]
 fn buffers_of_other_lengths_are_refused() {
-    for shorter in 0..4 {
+    let changes: [fn(&mut Host); 8] = [
+        |host| _ = host.bytes.pop(),
+        |host| _ = host.keys.pop(),
+        |host| _ = host.order.pop(),
+        |host| host.words.truncate(15),
+        |host| host.bytes.push(0),
+        |host| host.keys.push(0),
+        |host| host.order.push(0),
+        |host| host.words.push(0),
+    ];
+    for change in changes {
         let mut host = Host::of(opened().buffers());
-        match shorter {
-            0 => drop(host.bytes.pop()),
-            1 => drop(host.keys.pop()),
-            2 => drop(host.order.pop()),
-            _ => host.words.truncate(15),
-        }
+        change(&mut host);
         let before = host.clone();
         let mut lent = host.lend();
         assert_eq!(refusals!(lent), [Some(Error::NotFormed); 24]);
@@ -213,6 +218,8 @@ fn buffers_of_other_lengths_are_refused() {
     let mut empty = Lent::of(bytes, keys, order, words);
     assert_eq!(refusals!(empty), [Some(Error::NotFormed); 24]);
     assert_eq!(empty.usage(), Err(Error::NotFormed));
+    let text = Error::Sizes.to_string();
+    assert!(text.contains("lent buffer") && text.contains("`Capacity::lengths`"), "{text}");
 }
 
 /// A read that makes its output gives what one into an output of the caller's gives: over held and

@@ -1,8 +1,12 @@
-//! That `ffi.rs` declares every checked function as `include/zincpapaya.h` does, and
-//! `memory/calls.rs` every function of an owned memory as its source in Rattle does: arguments,
-//! results, and the structs among them.
+//! That a function of the library is the same wherever it is declared: its name, the names and types of
+//! its arguments, its result, and the structs among them.
+//!
+//! - Checked functions: the source in Rattle, `crates/zincpapaya/src`, is compared with
+//!   `include/zincpapaya.h`, and the header with `ffi.rs`.
+//! - Functions of an owned memory: the source in Rattle, `crates/owned/src`, is compared with
+//!   `memory/calls.rs`. No header has them.
 
-use std::collections::BTreeMap;
+use std::{collections::BTreeMap, fs};
 
 use zincpapaya::Word;
 
@@ -14,6 +18,8 @@ const OWNED: [&str; 2] = [
     include_str!("../../../crates/owned/src/execute.rt"),
 ];
 const CALLS: &str = include_str!("../src/memory/calls.rs");
+
+const CRATES: &str = concat!(env!("CARGO_MANIFEST_DIR"), "/../../crates");
 
 /// Functions by name, each with the names and Rust types of its arguments, and its result.
 type Functions = BTreeMap<String, (Vec<Argument>, String)>;
@@ -69,17 +75,21 @@ fn from_c(argument: &str) -> Argument {
     }
 }
 
-/// The header's functions, with the arguments of a memory written out.
-fn header() -> Functions {
-    let memory = |pointer: &str| {
-        let buffer = |(name, kind)| format!("{pointer}uint{kind}_t *{name}, size_t {name}_len");
-        BUFFERS.map(|(name, kind)| buffer((name, &kind[1..]))).join(", ")
-    };
-    let functions = declarations(HEADER, "uint32_t ", "zp_").into_iter();
+/// What a name is defined as, in a text in C.
+fn definition(text: &str, name: &str) -> String {
+    let begin = format!("#define {name} ");
+    let rest = text.split_once(&begin).expect("the name is defined").1.replace("\\\n", " ");
+    rest.lines().next().expect("a definition is not empty").to_owned()
+}
+
+/// The functions of a header, with the arguments of a memory written out.
+fn header(text: &str) -> Functions {
+    let memories = ["ZP_CONST_MEMORY", "ZP_MEMORY"].map(|name| (name, definition(text, name)));
+    let functions = declarations(text, "uint32_t ", "zp_").into_iter();
     let functions = functions.map(|[name, arguments, _]| {
-        let arguments = arguments
-            .replace("ZP_CONST_MEMORY", &memory("const "))
-            .replace("ZP_MEMORY", &memory(""));
+        let written_out =
+            |all: String, (memory, arguments): &(&str, String)| all.replace(memory, arguments);
+        let arguments = memories.iter().fold(arguments.to_owned(), written_out);
         (name.into(), (listed(&arguments).map(from_c).collect(), "u32".into()))
     });
     functions.collect()
@@ -97,16 +107,21 @@ fn from_rattle(argument: &str) -> Vec<Argument> {
     }
 }
 
-/// The exported functions of the crate `owned`.
-fn owned() -> Functions {
-    let functions = OWNED.into_iter().flat_map(|text| declarations(text, "extern \"C\" fn ", ""));
-    let functions = functions.map(|[name, arguments, rest]| {
-        let name = name.trim_end_matches("<'a>");
-        let result = rest.trim_start().strip_prefix("->").expect("each returns something");
-        let result = words(result)[0].to_owned();
-        (name.into(), (listed(arguments).flat_map(from_rattle).collect(), result))
-    });
-    functions.collect()
+/// The exported functions of a crate in Rattle, from all files of its source.
+fn exported(name: &str) -> Functions {
+    let files = fs::read_dir(format!("{CRATES}/{name}/src")).expect("the crate has a source");
+    let texts = files.map(|file| fs::read_to_string(file.expect("a file").path()).expect("a text"));
+    let mut functions = Functions::new();
+    for text in texts {
+        let exports = declarations(&text, "#[no_mangle]\npub extern \"C\" fn ", "");
+        functions.extend(exports.into_iter().map(|[name, arguments, rest]| {
+            let name = name.trim_end_matches("<'a>");
+            let result = rest.trim_start().strip_prefix("->").expect("each returns something");
+            let result = words(result)[0].to_owned();
+            (name.into(), (listed(arguments).flat_map(from_rattle).collect(), result))
+        }));
+    }
+    functions
 }
 
 /// The functions of a `declare!`, with the arguments of a memory written out.
@@ -146,13 +161,48 @@ fn same(theirs: &Functions, ours: &Functions, least: usize) {
 }
 
 #[test]
+fn the_header_declares_what_the_crate_zincpapaya_exports() {
+    same(&exported("zincpapaya"), &header(HEADER), 34);
+}
+
+#[test]
 fn ffi_declares_what_the_header_does() {
-    same(&header(), &declared(FFI, "zp_"), 34);
+    same(&header(HEADER), &declared(FFI, "zp_"), 34);
 }
 
 #[test]
 fn calls_declares_what_the_crate_owned_exports() {
-    same(&owned(), &declared(CALLS, "own_"), 24);
+    same(&exported("owned"), &declared(CALLS, "own_"), 24);
+}
+
+/// Places of the header, each with something else that a compiler of C would take.
+const FAULTS: [(&str, &str); 9] = [
+    // Two types or two names are exchanged.
+    ("bool aux, uint32_t new_bound", "uint32_t aux, bool new_bound"),
+    ("uint64_t heap, uint64_t aux", "uint64_t aux, uint64_t heap"),
+    ("(uint32_t gas, uint32_t amount", "(uint32_t amount, uint32_t gas"),
+    // A `const` is left out.
+    ("const uint32_t *list", "uint32_t *list"),
+    ("zp_snapshot(ZP_CONST_MEMORY", "zp_snapshot(ZP_MEMORY"),
+    // An argument is left out, or a function.
+    ("uint32_t base, uint32_t stride, uint64_t *out", "uint32_t base, uint64_t *out"),
+    ("uint32_t zp_deallocate(ZP_MEMORY, uint32_t page);", ""),
+    // Another result.
+    ("uint32_t zp_quote(", "uint64_t zp_quote("),
+    // Another buffer comes first in a memory.
+    (
+        "    uint8_t *bytes, size_t bytes_len, uint64_t *keys, size_t keys_len, uint32_t *order, ",
+        "    uint64_t *keys, size_t keys_len, uint8_t *bytes, size_t bytes_len, uint32_t *order, ",
+    ),
+];
+
+#[test]
+fn a_fault_of_the_header_is_found() {
+    let exported = exported("zincpapaya");
+    for (right, wrong) in FAULTS {
+        assert_eq!(HEADER.matches(right).count(), 1, "{right}");
+        assert_ne!(exported, header(&HEADER.replace(right, wrong)), "{wrong}");
+    }
 }
 
 /// The fields of a struct that is laid out as C does it.

@@ -1,10 +1,16 @@
-//! The functions of `libowned.a`, and the opening and the calls of a [`Memory`] over them. All but the
-//! opening and the test demand a memory that is well formed, and do not test it.
+//! The functions of `libowned.a`, and the opening and the calls of a [`Memory`] over them. All
+//! functions except the opening and the test require a memory that is well formed, and do not test it.
 //!
-//! The demand is met by every [`Memory`]; the head of the parent module says why. What else is asked
-//! of a caller is what `ffi` tells, and it is met in the same way. Below, a memory that is *owned* is
-//! one that meets both: `&self` where the library only reads it, `&mut self` where it may change it.
-//! In debug builds every call of [`Calls`] makes the test all the same.
+//! Each call of them is safe, for two reasons:
+//!
+//! - The memory is well formed. Every [`Memory`] is; the head of the parent module says why.
+//! - Pointers and lengths are what the head of `ffi` requires. A pointer and its length come from one
+//!   slice, and what the library may write to is borrowed by `&mut`. `read_range` is the one
+//!   exception; the head of `ffi` names it and says why it is safe.
+//!
+//! Below, 'the memory is owned' means both, for the buffers of a [`Memory`]: they are borrowed by
+//! `&self` where the library only reads them, and by `&mut self` where it may change them. In debug
+//! builds every call of [`Calls`] makes the test all the same.
 
 use std::ops::Range;
 

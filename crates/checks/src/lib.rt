@@ -171,7 +171,7 @@ pub fn short_of_words(
 }
 
 // 9, 10, 11.
-pub fn capacity_refusal(
+fn capacity_refusal(
     bytes: &[u8],
     keys: &[u64],
     order: &[u32],

@@ -61,7 +61,7 @@ fn hold_chunk(
     hold_at(bytes, keys, order, words, page, chunk, at, k)
 }
 
-// The page, which is allocated, holds them all.
+// The page, which is allocated, holds the chunks first, .., first + count - 1.
 pub fn hold_chunks(
     bytes: &[u8],
     keys: &mut [u64],

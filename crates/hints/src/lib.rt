@@ -3,7 +3,7 @@ use page_ids::Address;
 use page_ids::PageId;
 use store::head;
 ghost use mathlib.Core.Path.{_≡_};
-ghost use mathlib.Core.Bool.{true};
+ghost use mathlib.Core.Bool.{true, false};
 ghost use Prim.Native.Nat.{_+_, _<_, _≤_};
 ghost use lib.ListN.{length, getD};
 ghost use Rattle.store.specs.Mem.{headLength, slotCount, layoutOf};
@@ -40,7 +40,7 @@ pub fn in_one_piece(
 // Whether a page has no journal.
 pub fn has_no_journal(words: &[u64], page: PageId) -> bool
     requires { ⌜ headLength ≤ length (now words) ⌝ }
-    ensures { λ r. ⌜ (r ≡ true → WithoutJournal (layoutOf (now (words .entry))) (page .0)) ⌝ }
+    ensures { λ r. ⌜ (r ≡ true → WithoutJournal (layoutOf (now (words .entry))) (page .0)) × (r ≡ false → WithoutJournal (layoutOf (now (words .entry))) (page .0) → ⊥) ⌝ }
 {
     formed::journals::journal_of(words, page) >= head::JOURNAL_COUNT
 }

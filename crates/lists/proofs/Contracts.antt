@@ -1,17 +1,14 @@
 -- What a step does is what the contract of its function says.
 -- Assumes nothing.
 use mathlib.Core.Path.{_≡_, refl, ap, subst}
-use mathlib.Core.Bool.{Bool, true, cond, not}
-use mathlib.Core.List.{List}
-use Prim.Native.Nat.{ℕ}
+use mathlib.Core.Bool.{Bool, cond, not}
 use denote.Ref.{now}
 use Rattle.outcome.specs.Outcome.{Outcome, refused}
 use Rattle.store.specs.Mem.{Mem}
-use Rattle.formed.specs.Formed.{wellFormed}
 use Rattle.formed.proofs.Meaning.{well-formed-passes}
 use Rattle.view.specs.View.{View, Setting, settingOf, viewOf}
 use Rattle.view.specs.Does.{Shows, Does}
-use Rattle.view.specs.Calls.{Call, Value, Open, Lookup, outcomeOf, nextOf, answerOf, CallDoes, OpenDoes}
+use Rattle.view.specs.Calls.{Call, Value, outcomeOf, nextOf, answerOf, CallDoes}
 use Rattle.reads.proofs.Calls.{word-call, partial-call, range-call, byte-call, length-call, lookup-call, check-call, marks-call}
 use Rattle.lists.proofs.Compares.{left-call, right-call, both-call}
 use Rattle.plain.specs.Claim.{Contracts}
@@ -19,7 +16,7 @@ use Rattle.plain.proofs.Good.{never}
 use Rattle.lists.specs.Went.{lent, rest}
 use Rattle.lists.proofs.Linked.{linked-does}
 use Rattle.lists.proofs.Owned.{owned-does}
-use Rattle.lists.proofs.Meets.{Shown, Meets, by-open, by-call}
+use Rattle.lists.proofs.Meets.{Meets, by-open, by-call}
 use Rattle.lists.specs.Steps.{PublicStep, Step, public, linked, owned, did-open, did-read-word, did-read-partial, did-read-range, did-read-byte, did-dynamic-length, did-lookup, did-lookup-check, did-snapshot, did-write-word, did-write-bytes, did-allocate, did-allocate-with, did-free, did-window, did-truncate, did-compare-left, did-compare-right, did-compare-both, did-rollback, did-delete-history, did-load, did-store, did-load-pointer, did-load-static, did-store-static}
 
 -- each line is the contract itself, that of a read by its law
@@ -51,7 +48,7 @@ public-does (did-load-pointer w) = by-call _ (λ s d e. never (cc)) (λ _. w .en
 public-does (did-load-static w) = by-call _ (λ s d e. never (cc)) (λ _. w .ensures .does)
 public-does (did-store-static w) = by-call _ (λ s d e. never (cc)) (λ _. w .ensures .does)
 
--- each line is the contract itself, that of a read by its law
+-- and so does a step of any sort
 pub does : {m m' : Mem} {c : Call} {o : Outcome Value} → Step m c o m' → Meets m c o m'
 does (public x) = public-does x
 does (linked x) = linked-does x

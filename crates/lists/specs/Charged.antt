@@ -1,5 +1,5 @@
--- WHAT LOADS AND STORES PAY, of the code's own `quote`, `load` and `store`. They meet their contracts, and from these it follows that a quote is what its
--- loads pay, and that growth adds up over every run of loads and stores. No hypothesis is left.
+-- WHAT LOADS AND STORES PAY, of the code's own `quote`, and of its loads and stores: the public, the linked and the owned ones. They meet their contracts,
+-- and from these it follows that a quote is what its loads pay, and that growth adds up over every run of loads and stores. No hypothesis is left.
 -- Assumes nothing.
 use mathlib.Core.Path.{_≡_}
 use mathlib.Core.Bool.{true}

@@ -1,4 +1,4 @@
--- One call of each function that the Rust crate's `Heaps` links. All but the opening require a well-formed memory: `asked` of the record. `Ready` says that every list leaves one.
+-- One call of each function that the Rust crate's `Heaps` links, the test except, its outputs of the right length. All but the opening require a well-formed memory: `asked` of the record. `Ready` says that every list leaves one.
 -- Assumes nothing.
 use mathlib.Core.Path.{_≡_}
 use mathlib.Core.List.{[]}

@@ -2,7 +2,7 @@
 -- Assumes nothing.
 use mathlib.Core.Path.{_≡_, refl, sym, ap, _∙_, subst}
 use mathlib.Core.Bool.{Bool, true, false, cond, not, false≢true}
-use mathlib.Core.List.{List, []}
+use mathlib.Core.List.{[]}
 use Prim.Native.Nat.{ℕ, zero, suc}
 use Rattle.outcome.specs.Outcome.{Outcome, refused, done, carriedOut, mapped, answered}
 use Rattle.word.specs.Value.{bigEndian}
@@ -11,7 +11,7 @@ use Rattle.formed.specs.WellFormed.{WellFormed}
 use Rattle.formed.proofs.Meaning.{well-formed-passes}
 use Rattle.view.specs.View.{settingOf, viewOf}
 use Rattle.view.specs.Steps.{run}
-use Rattle.view.specs.Calls.{Call, Value, ReadWord, WriteWord, number, outcomeOf, answerOf, CallDoes}
+use Rattle.view.specs.Calls.{Call, Value, ReadWord, WriteWord, number, outcomeOf, CallDoes}
 use Rattle.reads.proofs.Answers.{on-formed}
 use Rattle.reads.proofs.Calls.{word-call}
 

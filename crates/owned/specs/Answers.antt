@@ -26,7 +26,7 @@ frameOf gas heap aux heapBound auxBound panicked = record {
   panicked = panicked;
 }
 
--- how it ended: 0 running, 1 suspended on the hook with the value n, 2 panicked, 3 refused with the number n
+-- how it ended: 0 running, 1 suspended on the hook with the value n, 2 panicked, 3 and above refused with the number n
 abbrev pub statusFrom : (kind n : ℕ) → ExecutionStatus
 statusFrom zero n = Running
 statusFrom (suc zero) n = SuspendedOnHook n

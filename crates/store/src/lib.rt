@@ -89,7 +89,7 @@ pub fn key_chunk(key: u64) -> u64
 
 // ---- lookup
 // The slot of the key k, or the number of slots where none has it.
-pub fn slot_of(keys: &[u64], order: &[u32], words: &[u64], k: u64) -> usize
+fn slot_of(keys: &[u64], order: &[u32], words: &[u64], k: u64) -> usize
     requires { ⌜ (Indexed (now keys) (now order) (now words)) × (0 < k) ⌝ }
     ensures { λ r. ⌜ r ≡ seek (take (slotCount (now (words .entry))) (now (keys .entry))) k ⌝ }
 {
@@ -97,7 +97,7 @@ pub fn slot_of(keys: &[u64], order: &[u32], words: &[u64], k: u64) -> usize
     index::find(&keys[0..c], &order[0..c], words[head::HELD] as usize, k)
 }
 
-// Whether slot s has the key k.
+// True only where slot s has the key k. Of false the contract says nothing.
 pub fn has_key(keys: &[u64], words: &[u64], s: usize, k: u64) -> bool
     requires { ⌜ (headLength ≤ length (now words)) × (slotCount (now words) ≤ length (now keys)) × (slotCount (now words) ≤ 65536) ⌝ }
     ensures { λ r. ⌜ (r ≡ true → (s < slotCount (now (words .entry))) × (getD (now (keys .entry)) s 0 ≡ k)) ⌝ }
@@ -172,7 +172,7 @@ fn hint_place(order: &[u32], page: PageId, chunk: u32) -> usize
     std::num::wrapping_sub_usize(std::num::wrapping_sub_usize(n, x as usize), 2)
 }
 
-// Whether slot s holds this chunk of this page.
+// True only where slot s holds this chunk of this page. Of false the contract says nothing.
 fn is_place(keys: &[u64], words: &[u64], s: usize, page: PageId, chunk: u32) -> bool
     requires { ⌜ (headLength ≤ length (now words)) × (slotCount (now words) ≤ length (now keys)) × (slotCount (now words) ≤ 65536) × (length (now keys) ≤ 69636) ⌝ }
     ensures { λ r. ⌜ (r ≡ true → Names (now (keys .entry)) (now (words .entry)) s (page .0) chunk) ⌝ }

@@ -32,7 +32,7 @@ returns c =
     let start = at-in-one-piece .before .before .before .before .before .before .before .before in
     let m = mem (start .args .bytes .now) (start .args .keys .now) (start .args .order .now) (start .args .words .now) in
     let found = at-in-one-piece .in-one-piece .ensures (at-if1 .if1 .taken) in
-    piece-does m (start .pre) (start .args .page .0) (start .args .address .0) (at-in-one-piece .in-one-piece .result) (omega (arith, start .good .1 .1 .1 .1 .0)) (omega (arith, start .good .1 .1 .1 .1 .1 .0)) (at-if1 .if1 .taken) found (at-has-no-journal .has-no-journal .ensures (at-if2 .if2 .taken))
+    piece-does m (start .pre) (start .args .page .0) (start .args .address .0) (at-in-one-piece .in-one-piece .result) (omega (arith, start .good .1 .1 .1 .1 .0)) (omega (arith, start .good .1 .1 .1 .1 .1 .0)) (at-if1 .if1 .taken) found (at-has-no-journal .has-no-journal .ensures .0 (at-if2 .if2 .taken))
     (value (start .args .word .limbs)) (at-copy .copy .last .1 .1 .0) (at-copy .copy .kept .1 .1 .0) (rw (at-to-big-endian .to-big-endian .ensures .1) at (at-copy .copy .ensures))
 
 pub write-spec : {M : Type 1} → statement M

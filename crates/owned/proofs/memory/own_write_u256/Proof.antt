@@ -34,7 +34,7 @@ returns c =
     let start = at-in-one-piece .before .before .before .before .before .before .before .before in
     let m = mem (start .args .bytes .now) (start .args .keys .now) (start .args .order .now) (start .args .words .now) in
     written-as (start .args .page) (start .args .address) (at-word-of .word-of .ensures)
-    (piece-does m (start .pre) (start .args .page) (start .args .address) (at-in-one-piece .in-one-piece .result) (omega (arith, start .fits .page)) (omega (arith, start .fits .address)) (at-if1 .if1 .taken) (at-in-one-piece .in-one-piece .ensures (at-if1 .if1 .taken)) (at-has-no-journal .has-no-journal .ensures (at-if2 .if2 .taken))
+    (piece-does m (start .pre) (start .args .page) (start .args .address) (at-in-one-piece .in-one-piece .result) (omega (arith, start .fits .page)) (omega (arith, start .fits .address)) (at-if1 .if1 .taken) (at-in-one-piece .in-one-piece .ensures (at-if1 .if1 .taken)) (at-has-no-journal .has-no-journal .ensures .0 (at-if2 .if2 .taken))
     (value (at-word-of .word-of .result .limbs)) (at-copy .copy .last .1 .1 .0) (at-copy .copy .kept .1 .1 .0) (rw (at-to-big-endian .to-big-endian .ensures .1) at (at-copy .copy .ensures)))
 
 add-t-2 : tie.Need-add-t-2

@@ -26,13 +26,17 @@ const FRAME: Frame = Frame {
     panicked: false,
 };
 
-/// A page of both sides that holds as many chunks, and the addresses of a walk through it.
-fn sides(chunks: u32, order: Walk) -> (Machine, Heaps, Vec<u32>) {
-    let held = Held::by_one_page(chunks);
+/// A page of both sides that holds as many chunks.
+fn sides(held: Held) -> (Machine, Heaps) {
     let mut machine = Machine::new(PAGE);
     let ours = Both::holding(held).ours;
-    (0..chunks).for_each(|chunk| _ = machine.store(chunk * 256, [chunk.into(), PAGE.into(), 3, 4]));
-    (machine, ours, walk(held, order).into_iter().map(|(_, address)| address).collect())
+    (0..held.chunks)
+        .for_each(|chunk| _ = machine.store(chunk * 256, [chunk.into(), PAGE.into(), 3, 4]));
+    (machine, ours)
+}
+
+fn addresses(at: Vec<(u32, u32)>) -> Vec<u32> {
+    at.into_iter().map(|(_, address)| address).collect()
 }
 
 #[inline]
@@ -59,7 +63,8 @@ fn compare(machine: &mut Machine, ours: &Heaps, at: &[u32]) {
 }
 
 pub fn loads(chunks: u32, order: Walk) -> Times {
-    let (mut machine, ours, at) = sides(chunks, order);
+    let held = Held::by_one_page(chunks);
+    let ((mut machine, ours), at) = (sides(held), addresses(walk(held, order)));
     let mut frame = FRAME;
     let times = Times::of(
         at.len(),
@@ -76,7 +81,13 @@ pub fn loads(chunks: u32, order: Walk) -> Times {
 }
 
 pub fn stores(chunks: u32, order: Walk) -> Times {
-    let (mut machine, mut ours, at) = sides(chunks, order);
+    let held = Held::by_one_page(chunks);
+    stores_at(held, walk(held, order))
+}
+
+/// Stores at these places of one page.
+pub fn stores_at(held: Held, at: Vec<(u32, u32)>) -> Times {
+    let ((mut machine, mut ours), at) = (sides(held), addresses(at));
     let mut frame = FRAME;
     let times = Times::of(
         at.len(),
@@ -93,7 +104,8 @@ pub fn stores(chunks: u32, order: Walk) -> Times {
 
 /// A no-op with the registers of a load, and a load. The caches have its chunks.
 pub fn harness_of_loads() -> Times {
-    let (mut machine, _, at) = sides(1000, Walk::Sequential);
+    let held = Held::by_one_page(1000);
+    let ((mut machine, _), at) = (sides(held), addresses(walk(held, Walk::Sequential)));
     let mut idle = Machine::new(PAGE);
     let times = Times::of(
         at.len(),
@@ -106,7 +118,8 @@ pub fn harness_of_loads() -> Times {
 
 /// A no-op with the registers of a store, and a store.
 pub fn harness_of_stores() -> Times {
-    let (mut machine, _, at) = sides(1000, Walk::Sequential);
+    let held = Held::by_one_page(1000);
+    let ((mut machine, _), at) = (sides(held), addresses(walk(held, Walk::Sequential)));
     let mut idle = Machine::new(PAGE);
     let times = Times::of(
         at.len(),

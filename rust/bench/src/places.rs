@@ -81,6 +81,11 @@ pub fn walk(held: Held, walk: Walk) -> Vec<(u32, u32)> {
     }
 }
 
+/// A walk that comes back to the same few places.
+pub fn again(places: u32, held: Held, walk: Walk) -> Vec<(u32, u32)> {
+    random(places, held, walk).into_iter().cycle().take(WORDS as usize).collect()
+}
+
 /// Random numbers, each below the bound that is handed in: the same ones in every run.
 pub fn draws() -> impl FnMut(u32) -> u32 {
     let mut state = 0x9e37_79b9_7f4a_7c15u64;

@@ -2,7 +2,7 @@
 
 use crate::{
     chunks, formed, instructions, lent, limits,
-    places::{thousands, Held, Walk},
+    places::{again, thousands, Held, Walk, WORDS},
     table::Table,
     words,
 };
@@ -35,6 +35,7 @@ pub fn tables() -> Vec<Table> {
         of_the_test(),
         of_checked_calls(),
         of_bare_reads(),
+        of_fewer_places(),
         of_lost_hints(),
         of_the_harness(),
     ]
@@ -139,6 +140,24 @@ fn of_bare_reads() -> Table {
 }
 
 /// What a lost hint costs.
+/// The same calls on the same memory, at more or fewer places.
+fn of_fewer_places() -> Table {
+    let mut table = Table::new(LIMITS, "fewer places", ["vm2", "ours"]);
+    let held = Held::by_one_page(65_536);
+    let all = [1000, 5000, WORDS];
+    for places in all {
+        let name = format!("word read, random, {held}, {} places", thousands(places));
+        table.add(name, None, move || words::reads_at(held, again(places, held, Walk::Random)));
+    }
+    for places in all {
+        let name = format!("store, over two chunks, {held}, {} places", thousands(places));
+        table.add(name, None, move || {
+            instructions::stores_at(held, again(places, held, Walk::TwoChunks))
+        });
+    }
+    table
+}
+
 fn of_lost_hints() -> Table {
     let mut table = Table::new(LIMITS, "lost hints", ["with a hint", "without a hint"]);
     let name = format!("lost hints, word read, {SMALL_PAGES}");

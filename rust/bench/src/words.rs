@@ -9,8 +9,12 @@ use crate::{
 };
 
 pub fn reads(held: Held, order: Walk) -> Times {
+    reads_at(held, walk(held, order))
+}
+
+/// Reads at these places.
+pub fn reads_at(held: Held, at: Vec<(u32, u32)>) -> Times {
     let both = Both::holding(held);
-    let at = walk(held, order);
     let times = Times::of(
         at.len(),
         || each(&at, |(page, a)| used(&both.vm2.read_u256(page, a))),

@@ -112,7 +112,7 @@ fn short_of_chunks(
     requires { ⌜ (WellFormed (mem (now bytes) (now keys) (now order) (now words))) × (e ≡ entryOf (mem (now bytes) (now keys) (now order) (now words)) (page .0)) × (first + count < 2 ^ 64) ⌝ }
     ensures { λ r. ⌜ r ≡ ltb (viewOf (mem (now (bytes .entry)) (now (keys .entry)) (now (order .entry)) (now (words .entry))) .pool) (missing (viewOf (mem (now (bytes .entry)) (now (keys .entry)) (now (order .entry)) (now (words .entry))) .held (page .0)) first count) ⌝ }
 {
-    let pool = store::pool_count(keys, order, words);
+    let pool = pool::pool_count(keys, order, words);
     let c = words[head::CHUNKS] as usize;
     let mut missing: u64 = 0;
     // Chunks that follow each other often have slots that do.
@@ -148,7 +148,7 @@ fn short_of_chunk(
     if s < words[head::CHUNKS] as usize {
         return false;
     }
-    store::pool_count(keys, order, words) == 0
+    pool::pool_count(keys, order, words) == 0
 }
 
 // 11: w more words do not fit the page's journal.

@@ -5,7 +5,7 @@ use mathlib.Core.Bool.{cond}
 use Prim.Native.Nat.{ℕ, _≤_}
 use Rattle.store.specs.Keys.{keyOf}
 use Rattle.store.specs.Mem.{Mem, holders}
-use Rattle.store.specs.Hold.{lacks}
+use Rattle.pool.specs.Hold.{lacks}
 use Rattle.formed.specs.Parts.{entryOf, holds}
 use Rattle.formed.specs.WellFormed.{WellFormed}
 use Rattle.formed.proofs.Sizes.{holders-long}

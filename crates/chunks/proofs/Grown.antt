@@ -11,8 +11,8 @@ use Rattle.index.proofs.Places.{seek-other}
 use Rattle.index.specs.Index.{seek, freeCount}
 use Rattle.index.proofs.Logic.{same-or-not}
 use Rattle.index.proofs.Counts.{count-fill, used-free}
-use Rattle.store.specs.Hold.{lacks}
-use Rattle.store.proofs.Holds.{lacks-one, lacks-none}
+use Rattle.pool.specs.Hold.{lacks}
+use Rattle.pool.proofs.Holds.{lacks-one, lacks-none}
 
 -- ks' is ks after the key k was given a place if it had none
 pub record Grown (k : ℕ) (ks ks' : List ℕ) : Type 0 where

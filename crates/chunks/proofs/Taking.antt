@@ -17,9 +17,10 @@ use Rattle.index.proofs.Logic.{same-or-not, lt-or-ge, lt-by}
 use Rattle.index.proofs.Places.{seek-hit}
 use Rattle.page_ids.specs.declared.Layout.{Layout}
 use Rattle.store.specs.Mem.{Mem, mem, layoutOf, slotCount, pageCount, journalWords, journalLength, heldNow, inUse, dynamicLength, holders, entries, chunkBytes}
-use Rattle.store.specs.Hold.{lacks, Indexed, Taken, Held}
+use Rattle.store.specs.Indexed.{Indexed}
+use Rattle.pool.specs.Hold.{lacks, Taken, Held}
 use Rattle.store.proofs.Parts.{take-set, drop-set}
-use Rattle.store.proofs.Holds.{cut-keys}
+use Rattle.pool.proofs.Holds.{cut-keys}
 use Rattle.formed.specs.Pages.{LayoutRule, dynamic, group, journalCount, journalPlace}
 use Rattle.formed.specs.Parts.{tab, Note, entryOf, allocated, slotOfChunk, holds, byteAt, journal, notePlace, noteAddress, noteFirst, noteLast, oldPlace}
 use Rattle.formed.specs.WellFormed.{WellFormed, Lengths, NotedRight, holder, slotByte}

@@ -14,9 +14,9 @@ use Rattle.formed.proofs.Asks.{slots-asked}
 use Rattle.index.specs.Index.{seek}
 use Rattle.index.proofs.Places.{seek-hit}
 use Rattle.store.specs.Mem.{Mem, mem, slotCount, heldNow, holders, entries}
-use Rattle.store.specs.Hold.{lacks, Held}
+use Rattle.pool.specs.Hold.{lacks, Held}
 use Rattle.store.specs.Find.{slotFor, HintLearnt}
-use Rattle.store.proofs.Holds.{held-was}
+use Rattle.pool.proofs.Holds.{held-was}
 use Rattle.formed.specs.Parts.{entryOf, slotOfChunk, allocated, holds}
 use Rattle.formed.specs.WellFormed.{WellFormed}
 use Rattle.formed.proofs.Keys.{seek-is, key-entry, key-chunk}

@@ -3,7 +3,7 @@ ghost use mathlib.Core.Path.{_≡_};
 ghost use Prim.Native.Nat.{_<_};
 ghost use Rattle.store.specs.Keys.{keyOf};
 ghost use Rattle.store.specs.Mem.{mem, slotCount, entries};
-ghost use Rattle.store.specs.Hold.{Ranked};
+ghost use Rattle.store.specs.Indexed.{Ranked};
 ghost use Rattle.formed.specs.Parts.{entryOf, slotOfChunk};
 ghost use Rattle.view.specs.View.{settingOf, viewOf};
 ghost use Rattle.view.specs.Does.{Shows};
@@ -28,7 +28,7 @@ pub fn hold_at(
     ensures { λ _. ⌜ entries (mem (now (bytes .entry)) (now (keys .exit)) (now (order .exit)) (now (words .exit))) ≡ entries (mem (now (bytes .entry)) (now (keys .entry)) (now (order .entry)) (now (words .entry))) ⌝ }
     ensures { λ r. ⌜ (r ≡ slotOfChunk (mem (now (bytes .entry)) (now (keys .exit)) (now (order .exit)) (now (words .exit))) (page .0) chunk) × (r < slotCount (now (words .entry))) ⌝ }
 {
-    let s = store::hold(keys, order, words, at, k);
+    let s = pool::hold(keys, order, words, at, k);
     store::learn(order, words, page, chunk, s);
     s
 }

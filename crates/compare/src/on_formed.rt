@@ -8,7 +8,7 @@ ghost use lib.ListN.{length, getD, take};
 ghost use Rattle.store.specs.Keys.{keyChunk};
 ghost use Rattle.store.specs.Find.{slotAtEntry};
 ghost use Rattle.store.specs.Mem.{mem, layoutOf};
-ghost use Rattle.store.specs.Hold.{Indexed};
+ghost use Rattle.store.specs.Indexed.{Indexed};
 ghost use Rattle.formed.specs.WellFormed.{WellFormed};
 ghost use Rattle.view.specs.View.{viewOf};
 ghost use Rattle.view.specs.Steps.{alike};

@@ -17,9 +17,9 @@ use Rattle.index.proofs.Orders.{index-fits}
 use Rattle.index.proofs.Places.{seek-hit, find-past, find-gap}
 use Rattle.index.proofs.Meaning.{once}
 use Rattle.store.specs.Mem.{Mem, mem, layoutOf, slotCount, pageCount, heldNow, inUse, holders, entries, slotOrder, pageOrder}
-use Rattle.store.specs.Give.{within, Released}
+use Rattle.pool.specs.Give.{within, Released}
 use Rattle.store.proofs.Parts.{rest-low, rest-high, rest-part}
-use Rattle.store.proofs.Gives.{within-yes}
+use Rattle.pool.proofs.Gives.{within-yes}
 use Rattle.formed.specs.Pages.{dynamic}
 use Rattle.formed.specs.Parts.{entryOf, allocated, slotOfChunk, holds}
 use Rattle.formed.specs.WellFormed.{WellFormed, HeldAt, holder, slotByte}

@@ -7,7 +7,7 @@ use lib.Dec.{eqb}
 use lib.ListN.{getD}
 use Rattle.store.specs.Keys.{lastChunk}
 use Rattle.store.specs.Mem.{Mem, layoutOf, entries}
-use Rattle.store.specs.Give.{within}
+use Rattle.pool.specs.Give.{within}
 use Rattle.formed.specs.Pages.{dynamic}
 use Rattle.formed.specs.WellFormed.{WellFormed}
 use Rattle.view.specs.View.{View, Setting, viewOf}

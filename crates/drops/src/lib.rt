@@ -24,7 +24,7 @@ pub fn drop_chunks(
     let e = store::entry_of(keys, order, words, page);
     let from = store::key_of(e, lo as u64);
     let to = store::key_of(e, hi as u64);
-    store::give(bytes, keys, order, words, from, to);
+    pool::give(bytes, keys, order, words, from, to);
 }
 
 // Frees the entry of a dynamic page that holds no chunk.

@@ -4,7 +4,7 @@ use Prim.Native.Nat.{ℕ, _+_, _≤_}
 use native.Mathlib.Omega.{arith}
 use Rattle.index.proofs.Places.{seek-le}
 use Rattle.store.specs.Mem.{Mem, entries}
-use Rattle.store.specs.Hold.{Indexed, PagesIndexed}
+use Rattle.store.specs.Indexed.{Indexed, PagesIndexed}
 use Rattle.formed.specs.Parts.{entryOf}
 use Rattle.formed.specs.WellFormed.{WellFormed}
 use Rattle.formed.proofs.Sizes.{entries-long}

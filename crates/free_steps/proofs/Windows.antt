@@ -9,8 +9,8 @@ use lib.Dec.{eqb}
 use borrow.Author.Tests.{lt-ltb, le-ltb, le-leb, lt-leb, eqb-true}
 use Rattle.index.proofs.Logic.{lt-or-ge, and-left, and-right}
 use Rattle.store.specs.Mem.{Mem, layoutOf}
-use Rattle.store.specs.Give.{within}
-use Rattle.store.proofs.Gives.{within-yes, within-no}
+use Rattle.pool.specs.Give.{within}
+use Rattle.pool.proofs.Gives.{within-yes, within-no}
 use Rattle.formed.specs.Pages.{dynamic}
 use Rattle.formed.specs.Parts.{allocated, holds}
 use Rattle.formed.specs.WellFormed.{WellFormed}

@@ -11,7 +11,7 @@ use Rattle.store.specs.Keys.{keyOf, keyEntry, keyChunk}
 use Rattle.index.specs.Index.{seek}
 use Rattle.index.proofs.Places.{seek-hit}
 use Rattle.store.specs.Mem.{Mem, mem, layoutOf, slotCount, holders, entries}
-use Rattle.store.specs.Hold.{Indexed}
+use Rattle.store.specs.Indexed.{Indexed}
 use Rattle.formed.specs.Pages.{journalCount, journalPlace, journalPage}
 use Rattle.formed.specs.Parts.{entryOf, slotOfChunk, holds}
 use Rattle.formed.specs.WellFormed.{WellFormed, HeldAt, holder}

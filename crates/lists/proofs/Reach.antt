@@ -14,9 +14,10 @@ use Rattle.formed.proofs.Asks.{slots-asked}
 use Rattle.index.specs.Index.{seek}
 use Rattle.index.proofs.Logic.{lt-or-ge}
 use Rattle.store.specs.Mem.{Mem, mem, layoutOf, slotCount, pageCount, heldNow, inUse, journalWords, journalLength, holders}
-use Rattle.store.specs.Hold.{lacks, Indexed, Held}
+use Rattle.store.specs.Indexed.{Indexed}
+use Rattle.pool.specs.Hold.{lacks, Held}
 use Rattle.store.specs.Find.{slotFor, slotAtEntry}
-use Rattle.store.proofs.Holds.{part-room, insertable, taken, lacking, held-new, held-was}
+use Rattle.pool.proofs.Holds.{part-room, insertable, taken, lacking, held-new, held-was}
 use Rattle.store.proofs.Parts.{rest-part}
 use Rattle.formed.specs.Pages.{group, journalCount, journalPlace, journalPage}
 use Rattle.formed.specs.Parts.{entryOf, tab, wordNumber, oldPlace}

@@ -7,7 +7,7 @@ use Prim.Native.Nat.{ℕ, _+_, _≤_, _<_, max}
 use lib.ListN.{length, getD, set, take, drop}
 use Rattle.index.specs.Index.{indexed, seek}
 use Rattle.store.specs.Mem.{inUsePlace, dynamicLengthPlace, layoutOf, slotCount, inUse, dynamicLength}
-use Rattle.store.specs.Hold.{PagesIndexed}
+use Rattle.store.specs.Indexed.{PagesIndexed}
 use Rattle.formed.specs.Pages.{group}
 
 -- no entry lists page p, one is free, and p lies at or above the base of the dynamic pages

@@ -29,7 +29,7 @@ fn take_entry(keys: &mut [u64], order: &mut [u32], words: &mut [u64], page: Page
     let c = words[head::CHUNKS] as usize;
     let n = words[head::ENTRIES] as usize;
     let group = (page.0 as u64 - words[head::BASE]) / words[head::STRIDE];
-    let e = store::free_place(&keys[c..], n);
+    let e = pool::free_place(&keys[c..], n);
     index::insert(
         &mut keys[c..],
         &mut order[c..],

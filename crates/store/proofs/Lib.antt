@@ -1,6 +1,5 @@
 -- The laws that the proofs of this crate and of those above it share.
 
 pub mod Parts
-pub mod Holds
-pub mod Gives
+pub mod Slots
 pub mod Finds

@@ -9,7 +9,7 @@ use lib.ListN.{length, getD, take, drop}
 use Rattle.index.specs.Index.{seek}
 use Rattle.store.specs.Mem.{fixedCount, slotCount, pageCount}
 use Rattle.store.specs.Keys.{lastChunk, keyOf}
-use Rattle.store.specs.Hold.{Indexed, PagesIndexed}
+use Rattle.store.specs.Indexed.{Indexed, PagesIndexed}
 
 -- the slot of chunk k of the page at entry e, or the number of slots where none holds it
 abbrev pub slotAtEntry : List ℕ → List ℕ → ℕ → ℕ → ℕ

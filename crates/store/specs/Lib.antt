@@ -1,6 +1,5 @@
 -- The definitions that the contracts of this crate cite.
 pub mod Mem
 pub mod Keys
-pub mod Hold
-pub mod Give
+pub mod Indexed
 pub mod Find

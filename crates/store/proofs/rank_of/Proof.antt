@@ -1,6 +1,6 @@
 use borrow.Author.Needs.{needs}
 use Rattle.index.proofs.Orders.{index-rises}
-use Rattle.store.proofs.Holds.{part-index, part-fits, rank-part}
+use Rattle.store.proofs.Slots.{part-index, part-fits, rank-part}
 use Rattle.store.proofs.rank_of.Statement.{statement}
 use Rattle.store.proofs.rank_of.Tie as tie
 

@@ -1,5 +1,5 @@
 use borrow.Author.Needs.{needs}
-use Rattle.store.proofs.Holds.{part-index, part-rank, part-seek}
+use Rattle.store.proofs.Slots.{part-index, part-rank, part-seek}
 use Rattle.store.proofs.slot_at_rank.Statement.{statement}
 use Rattle.store.proofs.slot_at_rank.Tie as tie
 

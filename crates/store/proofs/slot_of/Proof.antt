@@ -1,5 +1,5 @@
 use borrow.Author.Needs.{needs}
-use Rattle.store.proofs.Holds.{part-index, part-seek}
+use Rattle.store.proofs.Slots.{part-index, part-seek}
 use Rattle.store.proofs.slot_of.Statement.{statement}
 use Rattle.store.proofs.slot_of.Tie as tie
 

@@ -8,13 +8,14 @@ use native.Mathlib.Omega.{arith}
 use lib.ListN.{length, getD, set, take, drop, length-set}
 use lib.Seq.{getD-set-same, getD-set-other, getD-take, length-take-le}
 use borrow.Author.Tests.{lt-ltb, le-ltb}
-use Rattle.index.specs.Index.{indexed, seek, usedCount, freeCount, LowerBound, Insertable}
+use Rattle.index.specs.Index.{indexed, seek, usedCount, freeCount, Insertable}
 use Rattle.index.proofs.Counts.{count-le, used-free}
-use Rattle.index.proofs.Orders.{index-fits, index-count, index-rises}
+use Rattle.index.proofs.Orders.{index-count, index-rises}
 use Rattle.index.proofs.Places.{place-at}
 use Rattle.store.specs.Mem.{slotCount, heldNow}
-use Rattle.store.specs.Hold.{lacks, Indexed, Ranked, Taken, Held}
+use Rattle.store.specs.Indexed.{Indexed}
+use Rattle.pool.specs.Hold.{lacks, Taken, Held}
 use Rattle.store.proofs.Parts.{sub-zero, take-front, drop-front, set-part, take-set, put-long}
 
 pub lacks-one : (ks : List ℕ) (k : ℕ) → length ks ≤ seek ks k → lacks ks k ≡ 1
 unfolding lacks
@@ -40,24 +41,8 @@ module _ (keys order words : List ℕ) (ix : Indexed keys order words) where
   pub pool-rest : slotCount words - heldNow words ≡ freeCount (take (slotCount words) keys)
   pool-rest = let l = cut-keys in let n = used-is in let h = used-free (take (slotCount words) keys) in omega arith
 
-  -- what the calls on the part of the slots ask
-  pub part-index : indexed (take (slotCount words - 0) keys) (take (slotCount words - 0) order) (heldNow words) ≡ true
-  part-index = rw (sub-zero (slotCount words)) (ix .index)
-
-  pub part-fits : heldNow words ≤ length (take (slotCount words - 0) order)
-  part-fits = index-fits (take (slotCount words - 0) keys) (take (slotCount words - 0) order) (heldNow words) part-index
-
   pub part-room : heldNow words < slotCount words → usedCount (take (slotCount words - 0) keys) < length (take (slotCount words - 0) keys)
   part-room room = rw (sub-zero (slotCount words)) (let l = cut-keys in let n = used-is in omega arith)
-
-  pub part-seek : (s k : ℕ) → s ≡ seek (take (slotCount words - 0) keys) k → s ≡ seek (take (slotCount words) keys) k
-  part-seek s k e = e ∙ ap (λ (x : ℕ). seek (take x keys) k) (sub-zero (slotCount words))
-
-  pub part-rank : (k at : ℕ) → Ranked keys order words k at → LowerBound (take (slotCount words - 0) keys) (take (slotCount words - 0) order) (heldNow words) k at
-  part-rank k at r = rw (sub-zero (slotCount words)) r
-
-  pub rank-part : (k at : ℕ) → LowerBound (take (slotCount words - 0) keys) (take (slotCount words - 0) order) (heldNow words) k at → Ranked keys order words k at
-  rank-part k at r = rw (sub-zero (slotCount words)) at r
 
   -- s is a pooled slot
   module _ (s : ℕ) (free : (s < length (take (slotCount words - 0) keys)) × (getD (take (slotCount words - 0) keys) s 0 ≡ 0)) where

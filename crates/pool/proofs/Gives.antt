@@ -14,11 +14,11 @@ use Rattle.index.specs.Index.{LowerBound, Removed}
 use Rattle.index.proofs.Logic.{same-or-not, lt-or-ge}
 use Rattle.index.proofs.Orders.{slot-lt, index-rises}
 use Rattle.index.proofs.Removes.{ranks-order, rank-within, rank-outside}
 use Rattle.store.specs.Mem.{slotCount, heldNow}
-use Rattle.store.specs.Hold.{Indexed}
-use Rattle.store.specs.Give.{Zeroed, SlotRun, Wiped, within, Released}
+use Rattle.store.specs.Indexed.{Indexed}
+use Rattle.pool.specs.Give.{Zeroed, SlotRun, Wiped, within, Released}
 use Rattle.store.proofs.Parts.{sub-zero, take-front, drop-front, put-long}
-use Rattle.store.proofs.Holds.{cut-keys, cut-order}
+use Rattle.pool.proofs.Holds.{cut-keys, cut-order}
 
 -- ---- the loop of `clear`
 pub zero-none : (bs : List ℕ) (at : ℕ) → Zeroed bs at 0 bs

@@ -1,10 +1,10 @@
-use Rattle.store.proofs.Gives.{wipe-none, run-in, wipe-more, wipe-end}
-use Rattle.store.specs.Give.{Wiped}
+use Rattle.pool.proofs.Gives.{wipe-none, run-in, wipe-more, wipe-end}
+use Rattle.pool.specs.Give.{Wiped}
 use borrow.Author.Needs.{needs}
 use Prim.Native.Nat.{_-_, _≤_}
 use native.Mathlib.Omega.{arith}
-use Rattle.store.proofs.wipe.Statement.{statement}
-use Rattle.store.proofs.wipe.Tie as tie
+use Rattle.pool.proofs.wipe.Statement.{statement}
+use Rattle.pool.proofs.wipe.Tie as tie
 
 abbrev Inv-loop : tie.InvT-loop
 Inv-loop bytes₀ order from to i₀ bytes i = (from ≤ i) × (i ≤ to) × Wiped bytes₀ order from i bytes

@@ -1,11 +1,11 @@
-use Rattle.store.proofs.Gives.{in-order, ranks-end, chunks-in, given}
-use Rattle.store.proofs.Holds.{part-index, part-fits}
+use Rattle.pool.proofs.Gives.{in-order, ranks-end, chunks-in, given}
+use Rattle.store.proofs.Slots.{part-index, part-fits}
 use Rattle.index.proofs.Orders.{index-rises}
 use Prim.Native.Nat.{_-_}
 use native.Mathlib.Omega.{arith}
 use borrow.Author.Needs.{needs}
-use Rattle.store.proofs.give.Statement.{statement}
-use Rattle.store.proofs.give.Tie as tie
+use Rattle.pool.proofs.give.Statement.{statement}
+use Rattle.pool.proofs.give.Tie as tie
 
 rank-below-requires : tie.Need-rank-below-requires
 rank-below-requires c κs =

@@ -2,11 +2,11 @@ use Prim.Native.Nat.{_≤_}
 use native.Mathlib.Omega.{arith}
 use lib.ListN.{take}
 use borrow.Author.Needs.{needs}
-use Rattle.store.proofs.Holds.{held-was, held-new, lacking}
+use Rattle.pool.proofs.Holds.{held-was, held-new, lacking}
 use Rattle.index.specs.Index.{seek}
 use Rattle.store.specs.Mem.{slotCount}
-use Rattle.store.proofs.hold.Statement.{statement}
-use Rattle.store.proofs.hold.Tie as tie
+use Rattle.pool.proofs.hold.Statement.{statement}
+use Rattle.pool.proofs.hold.Tie as tie
 
 returns : tie.Need-returns
 returns c =

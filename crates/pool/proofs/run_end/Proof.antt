@@ -1,10 +1,10 @@
-use Rattle.store.proofs.Gives.{run-one, run-more, run-last}
-use Rattle.store.specs.Give.{SlotRun}
+use Rattle.pool.proofs.Gives.{run-one, run-more, run-last}
+use Rattle.pool.specs.Give.{SlotRun}
 use borrow.Author.Needs.{needs}
 use Prim.Native.Nat.{_-_}
 use native.Mathlib.Omega.{arith}
-use Rattle.store.proofs.run_end.Statement.{statement}
-use Rattle.store.proofs.run_end.Tie as tie
+use Rattle.pool.proofs.run_end.Statement.{statement}
+use Rattle.pool.proofs.run_end.Tie as tie
 
 abbrev Inv-loop : tie.InvT-loop
 Inv-loop order from to i₀ i = SlotRun order from to i

@@ -1,8 +1,9 @@
 use native.Mathlib.Omega.{arith}
 use borrow.Author.Needs.{needs}
-use Rattle.store.proofs.Holds.{part-room, part-rank, free-in, insertable, taken}
-use Rattle.store.proofs.take_slot.Statement.{statement}
-use Rattle.store.proofs.take_slot.Tie as tie
+use Rattle.store.proofs.Slots.{part-rank}
+use Rattle.pool.proofs.Holds.{part-room, free-in, insertable, taken}
+use Rattle.pool.proofs.take_slot.Statement.{statement}
+use Rattle.pool.proofs.take_slot.Tie as tie
 
 free-place-requires : tie.Need-free-place-requires
 free-place-requires c κs =

@@ -1,7 +1,7 @@
 use borrow.Author.Needs.{needs}
-use Rattle.store.proofs.Holds.{held-le, pool-rest}
-use Rattle.store.proofs.pool_count.Statement.{statement}
-use Rattle.store.proofs.pool_count.Tie as tie
+use Rattle.pool.proofs.Holds.{held-le, pool-rest}
+use Rattle.pool.proofs.pool_count.Statement.{statement}
+use Rattle.pool.proofs.pool_count.Tie as tie
 
 shared-slice-read-result : tie.Need-shared-slice-read-result
 shared-slice-read-result c = search needs

@@ -7,8 +7,8 @@ use mathlib.Core.List.{List}
 use Prim.Native.Nat.{ℕ, _+_, _*_, _-_, _/_, _≤_, _<_}
 use lib.Dec.{leb, ltb}
 use lib.ListN.{length, getD, drop}
 use Rattle.store.specs.Mem.{heldPlace, slotCount}
-use Rattle.store.specs.Hold.{Indexed}
+use Rattle.store.specs.Indexed.{Indexed}
 
 -- the slots at the ranks from `from` up to, but without, r follow each other; r is `to` at most
 pub record SlotRun (os : List ℕ) (from to r : ℕ) : Type 0 where

@@ -1,10 +1,10 @@
-use Rattle.store.proofs.Gives.{zero-none, zero-more, zero-end}
-use Rattle.store.specs.Give.{Zeroed}
+use Rattle.pool.proofs.Gives.{zero-none, zero-more, zero-end}
+use Rattle.pool.specs.Give.{Zeroed}
 use borrow.Author.Needs.{needs}
 use Prim.Native.Nat.{_-_, _≤_}
 use native.Mathlib.Omega.{arith}
-use Rattle.store.proofs.clear.Statement.{statement}
-use Rattle.store.proofs.clear.Tie as tie
+use Rattle.pool.proofs.clear.Statement.{statement}
+use Rattle.pool.proofs.clear.Tie as tie
 
 abbrev Inv-loop : tie.InvT-loop
 Inv-loop bytes₀ at n i₀ bytes i = (i ≤ n) × Zeroed bytes₀ at i bytes

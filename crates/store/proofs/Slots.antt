@@ -1,0 +1,28 @@
+-- The part of the slots: what the calls on it ask, and what their answers say.
+-- Assumes nothing.
+use mathlib.Core.Path.{_≡_, ap, _∙_}
+use mathlib.Core.Bool.{true}
+use mathlib.Core.List.{List}
+use Prim.Native.Nat.{ℕ, _-_, _≤_}
+use lib.ListN.{length, take}
+use Rattle.index.specs.Index.{indexed, seek, LowerBound}
+use Rattle.index.proofs.Orders.{index-fits}
+use Rattle.store.specs.Mem.{slotCount, heldNow}
+use Rattle.store.specs.Indexed.{Indexed, Ranked}
+use Rattle.store.proofs.Parts.{sub-zero}
+
+module _ (keys order words : List ℕ) (ix : Indexed keys order words) where
+  pub part-index : indexed (take (slotCount words - 0) keys) (take (slotCount words - 0) order) (heldNow words) ≡ true
+  part-index = rw (sub-zero (slotCount words)) (ix .index)
+
+  pub part-fits : heldNow words ≤ length (take (slotCount words - 0) order)
+  part-fits = index-fits (take (slotCount words - 0) keys) (take (slotCount words - 0) order) (heldNow words) part-index
+
+  pub part-seek : (s k : ℕ) → s ≡ seek (take (slotCount words - 0) keys) k → s ≡ seek (take (slotCount words) keys) k
+  part-seek s k e = e ∙ ap (λ (x : ℕ). seek (take x keys) k) (sub-zero (slotCount words))
+
+  pub part-rank : (k at : ℕ) → Ranked keys order words k at → LowerBound (take (slotCount words - 0) keys) (take (slotCount words - 0) order) (heldNow words) k at
+  part-rank k at r = rw (sub-zero (slotCount words)) r
+
+  pub rank-part : (k at : ℕ) → LowerBound (take (slotCount words - 0) keys) (take (slotCount words - 0) order) (heldNow words) k at → Ranked keys order words k at
+  rank-part k at r = rw (sub-zero (slotCount words)) at r

@@ -26,7 +26,8 @@ use Rattle.execution.specs.Executions.{statusOutcome, executionOutcome}
 use Rattle.execution.specs.declared.Execution.{Execution}
 use Rattle.execution.specs.declared.ExecutionStatus.{ExecutionStatus}
 use Rattle.execution.specs.declared.ExecutionStatus.the-variants.{Running, SuspendedOnHook, Panicked, Refused}
-use Rattle.abi.specs.Executing.{bit, flag, fit, frameFrom, outcomeFrom, frameNumbers, grownNumbers, outNumbers, resultNumbers, executionStatus, frameAfter, outAfter, ReportsExecution, Executes}
+use Rattle.frames.specs.Frames.{bit, flag, frameFrom, frameNumbers, grownNumbers}
+use Rattle.abi.specs.Executing.{fit, outcomeFrom, outNumbers, resultNumbers, executionStatus, frameAfter, outAfter, ReportsExecution, Executes}
 use Rattle.abi.specs.Interface.{Gives}
 use Rattle.abi.specs.Numbers.{asTheyAre, Grows}
 

@@ -1,54 +1,26 @@
 -- What the numbers of an instruction mean, and its contract.
 -- Assumes nothing.
 use mathlib.Core.Path.{_≡_}
-use mathlib.Core.Bool.{Bool, true, false, cond, not, _&&_}
+use mathlib.Core.Bool.{Bool, true, false, cond, _&&_}
 use mathlib.Core.List.{List, [], _∷_, _++_}
 use mathlib.Core.Logic.{_⊎_}
-use Prim.Native.Nat.{ℕ, _+_}
+use Prim.Native.Nat.{ℕ}
 use lib.Dec.{eqb}
-use lib.ListN.{length, getD, set, take, drop}
+use lib.ListN.{length, getD, take, drop}
 use Rattle.outcome.specs.Outcome.{Outcome, refused, panicked, done, firstOf}
 use Rattle.word.specs.Value.{value, limbsValue}
-use Rattle.state.specs.declared.Frame.{Frame}
-use Rattle.state.specs.declared.Area.{Area}
-use Rattle.state.specs.declared.Area.the-variants.{Heap, Aux}
 use Rattle.store.specs.Mem.{Mem}
 use Rattle.view.specs.Instructions.{Operand, Hook, InstructionResult, running, onHook, frameAlone}
 use Rattle.view.specs.Calls.{Call, Value, instructionResult, CallDoes}
 use Rattle.execution.specs.declared.Execution.{Execution}
 use Rattle.execution.specs.declared.ExecutionStatus.{ExecutionStatus}
 use Rattle.execution.specs.declared.ExecutionStatus.the-variants.{Running, SuspendedOnHook, Panicked, Refused}
+use Rattle.frames.specs.Frames.{flag, bit, frameFrom, frameNumbers}
 
 -- ---- arguments
 -- a frame has six numbers, and `out` has n
 abbrev pub fit : (frame out : List ℕ) → ℕ → Bool
 fit frame out n = eqb (length frame) 6 && eqb (length out) n
-
--- a number is a flag, which is set where it is not 0; a flag is written as 0 or 1
-abbrev pub flag : ℕ → Bool
-flag n = not (eqb n 0)
-
-abbrev pub bit : Bool → ℕ
-bit b = cond b 1 0
-
-abbrev pub areaOf : Bool → Area
-areaOf true = Aux
-areaOf false = Heap
-
--- the frame that six numbers are: gas, heap page, aux page, heap bound, aux bound, and the panic's mark
-abbrev pub frameFrom : List ℕ → Frame
-frameFrom l = record {
-  gas = getD l 0 0;
-  heap = record { 0 = getD l 1 0 };
-  aux = record { 0 = getD l 2 0 };
-  «heap_bound» = getD l 3 0;
-  «aux_bound» = getD l 4 0;
-  panicked = flag (getD l 5 0);
-}
-
--- the six numbers of a frame
-abbrev pub frameNumbers : Frame → List ℕ
-frameNumbers f = f .gas ∷ f .heap .0 ∷ f .aux .0 ∷ f .«heap_bound» ∷ f .«aux_bound» ∷ bit (f .panicked) ∷ []
 
 -- the operand of four limbs and a tag
 abbrev pub operandFrom : (x0 x1 x2 x3 : ℕ) → Bool → Operand
@@ -96,13 +68,6 @@ pub record Executes (m : Mem) (c : Call) (frame out : List ℕ) (r : ℕ) (m' : 
   pub no-stop : r ≡ 0 → getD out' 9 0 ≡ 0
 
 -- ---- what the parts write
-abbrev pub limbsPut : List ℕ → ℕ → List ℕ → List ℕ
-limbsPut out at limbs = set (set (set (set out at (getD limbs 0 0)) (at + 1) (getD limbs 1 0)) (at + 2) (getD limbs 2 0)) (at + 3) (getD limbs 3 0)
-
--- the numbers of a frame that has grown to f: gas and bounds are those of f, and the others are as they were
-abbrev pub grownNumbers : List ℕ → Frame → List ℕ
-grownNumbers frame f = set (set (set frame 0 (f .gas)) 3 (f .«heap_bound»)) 4 (f .«aux_bound»)
-
 -- of an execution that was carried out, with the hook's value h
 abbrev pub resultNumbers : Execution → ℕ → List ℕ
 resultNumbers x h =

@@ -10,7 +10,8 @@ use Rattle.fat_pointer.specs.declared.FatPointer.{FatPointer}
 use Rattle.state.specs.declared.Gas.{Gas}
 use Rattle.state.specs.declared.FrameStep.{FrameStep}
 use Rattle.state.specs.declared.quote.RunEnd.{RunEnd}
-use Rattle.abi.specs.Executing.{bit, fit, grownNumbers}
+use Rattle.frames.specs.Frames.{bit, grownNumbers}
+use Rattle.abi.specs.Executing.{fit}
 
 -- ---- what `out` means
 -- the one number

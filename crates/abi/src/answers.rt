@@ -1,5 +1,4 @@
 // Values returned through an output.
-use crate::frames;
 use crate::status::UNFIT;
 use compare::Comparison;
 use fat_pointer::FatPointer;

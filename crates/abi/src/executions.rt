@@ -3,7 +3,6 @@ ghost use mathlib.Core.Path.{_≡_};
 ghost use lib.ListN.{length};
 ghost use Rattle.execution.specs.Executions as executions;
 ghost use Rattle.abi.specs.Executing.{operandFrom, hookFrom, fit, resultNumbers, ReportsExecution};
-use crate::frames;
 use crate::status::PANICKED;
 use crate::status::STOPPED;
 use execution::Execution;

@@ -1,5 +1,4 @@
-// What exported functions share: statuses, frames and words as numbers, and answers returned through an output.
+// What exported functions share: statuses, the reports of executions, and answers returned through an output.
 pub mod answers;
 pub mod executions;
-pub mod frames;
 pub mod status;

@@ -14,7 +14,8 @@ use Rattle.store.specs.Mem.{Mem}
 use Rattle.view.specs.Calls.{Call, Value, Open, Allocate, WriteWord, WriteBytes, ReadWord, ReadPartial, ReadRange, ReadByte, DynamicLength, Lookup, LookupCheck, Free, Window, Truncate, CompareLeft, CompareRight, CompareBoth, Snapshot, Rollback, DeleteHistory, nothing, bytes, Load, Store, LoadPointer, LoadStatic, StoreStatic}
 use Rattle.opening.specs.Opening.{settingFrom}
 use Rattle.abi.specs.Interface.{wordIn, numberIn, marksIn, verdictIn}
-use Rattle.abi.specs.Executing.{fit, areaOf, frameFrom, operandFrom, hookFrom, outcomeFrom}
+use Rattle.frames.specs.Frames.{areaOf, frameFrom}
+use Rattle.abi.specs.Executing.{fit, operandFrom, hookFrom, outcomeFrom}
 use Rattle.zincpapaya.proofs.memory.zp_open.Kinds as zp-open-kinds
 use Rattle.zincpapaya.proofs.memory.zp_open.Reads as zp-open-reads
 use Rattle.zincpapaya.proofs.memory.zp_read_u256.Kinds as zp-read-u256-kinds

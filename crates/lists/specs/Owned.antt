@@ -14,7 +14,8 @@ use Rattle.view.specs.Calls.{Call, Value, Open, Allocate, WriteWord, WriteBytes
 use Rattle.page_ids.specs.Decode.{layoutFrom}
 use Rattle.opening.specs.Opening.{settingFrom}
 use Rattle.execution.specs.Executions.{executionOutcome}
-use Rattle.abi.specs.Executing.{areaOf, operandFrom, hookFrom}
+use Rattle.frames.specs.Frames.{areaOf}
+use Rattle.abi.specs.Executing.{operandFrom, hookFrom}
 use Rattle.owned.specs.Answers.{comparedOutcome, frameOf, executionOf}
 use Rattle.lists.specs.Linked.{copiedPart}
 use Rattle.owned.proofs.memory.own_open.Kinds as own-open-kinds

@@ -1,6 +1,5 @@
 // The five instructions. Frames, operands and stored words are given as numbers: a struct that was just made would be copied by wider loads than its stores were, and the processor would wait for them.
 use abi::executions;
-use abi::frames;
 use execution::Execution;
 use execution::ExecutionStatus;
 use execution::Hook;
@@ -18,7 +17,8 @@ ghost use Rattle.store.specs.Mem.{mem};
 ghost use Rattle.formed.specs.WellFormed.{WellFormed};
 ghost use Rattle.view.specs.Calls.{Call, nothing, CallDoes};
 ghost use Rattle.execution.specs.Executions.{operandOf, hookOf, Runs};
-ghost use Rattle.abi.specs.Executing.{areaOf, operandFrom, hookFrom};
+ghost use Rattle.frames.specs.Frames.{areaOf};
+ghost use Rattle.abi.specs.Executing.{operandFrom, hookFrom};
 ghost use Rattle.owned.specs.Answers.{frameOf, withStatus, statusFrom, executionOf};
 
 // How an instruction ended: the values of `kind`.

@@ -1,6 +1,5 @@
 // The memory's calls: opening, reads, writes and allocation, freeing, history, comparison.
 use abi::answers;
-use abi::frames;
 use abi::status::UNFIT;
 use compare::Comparison;
 use page_ids::Address;

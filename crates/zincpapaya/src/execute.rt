@@ -2,10 +2,10 @@
 ghost use Rattle.word.specs.Value.{limbsValue};
 ghost use Rattle.store.specs.Mem.{mem};
 ghost use Rattle.view.specs.Calls.{Call};
-ghost use Rattle.abi.specs.Executing.{frameFrom, areaOf, operandFrom, hookFrom, Executes};
+ghost use Rattle.frames.specs.Frames.{frameFrom, areaOf};
+ghost use Rattle.abi.specs.Executing.{operandFrom, hookFrom, Executes};
 use abi::executions;
 use abi::executions::OUT_LENGTH;
-use abi::frames;
 use abi::status::UNFIT;
 
 // Reads the word at the operand, in the page of an area, and pays for the area's growth.

@@ -1,6 +1,5 @@
 // The memory's calls, as a host makes them: opening, reads, writes and allocation, freeing, history, comparison.
 use abi::answers;
-use abi::frames;
 use abi::status::UNFIT;
 use page_ids::Address;
 use page_ids::PageId;

@@ -1,6 +1,6 @@
 use mathlib.Core.List.{[], _∷_}
 use Rattle.abi.proofs.Outputs.{gives-unfit, gives-refused, gives-value}
-use Rattle.abi.proofs.Lists.{overwritten}
+use Rattle.frames.proofs.Lists.{overwritten}
 use borrow.Author.Needs.{needs}
 use Rattle.abi.proofs.answers.give_number.Statement.{statement}
 use Rattle.abi.proofs.answers.give_number.Tie as tie

@@ -1,9 +1,9 @@
-// Layouts, frames and words as numbers.
+// Layouts, frames and words as the numbers of the C interface: what the exported functions are given and write.
 ghost use mathlib.Core.Path.{_≡_};
 ghost use Prim.Native.Nat.{_+_, _≤_};
 ghost use lib.ListN.{length};
 ghost use Rattle.word.specs.Value.{value, limbsValue};
-ghost use Rattle.abi.specs.Executing as spec;
+ghost use Rattle.frames.specs.Frames as spec;
 ghost use Rattle.page_ids.specs.Decode.{layoutFrom};
 use page_ids::BasePage;
 use page_ids::Layout;

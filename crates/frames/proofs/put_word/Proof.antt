@@ -1,8 +1,8 @@
 use native.Mathlib.Omega.{arith}
 use lib.ListN.{length-set}
 use borrow.Author.Needs.{needs}
-use Rattle.abi.proofs.frames.put_word.Statement.{statement}
-use Rattle.abi.proofs.frames.put_word.Tie as tie
+use Rattle.frames.proofs.put_word.Statement.{statement}
+use Rattle.frames.proofs.put_word.Tie as tie
 
 pub put-word-spec : {M : Type 1} → statement M
 put-word-spec =

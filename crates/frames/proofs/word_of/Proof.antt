@@ -1,7 +1,7 @@
 use mathlib.Core.Path.{refl}
 use Rattle.word.specs.Value.{value}
-use Rattle.abi.proofs.frames.word_of.Statement.{statement}
-use Rattle.abi.proofs.frames.word_of.Tie as tie
+use Rattle.frames.proofs.word_of.Statement.{statement}
+use Rattle.frames.proofs.word_of.Tie as tie
 
 returns : tie.Need-returns
 unfolding value

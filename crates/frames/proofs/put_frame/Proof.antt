@@ -1,9 +1,9 @@
 use native.Mathlib.Omega.{arith}
 use lib.ListN.{length-set}
-use Rattle.abi.proofs.Lists.{frame-put}
+use Rattle.frames.proofs.Lists.{frame-put}
 use borrow.Author.Needs.{needs}
-use Rattle.abi.proofs.frames.put_frame.Statement.{statement}
-use Rattle.abi.proofs.frames.put_frame.Tie as tie
+use Rattle.frames.proofs.put_frame.Statement.{statement}
+use Rattle.frames.proofs.put_frame.Tie as tie
 
 returns : tie.Need-returns
 returns c =

@@ -1,6 +1,6 @@
 //! A memory of vm2 and one of the library, with the same bytes.
 
-use std::hint::black_box;
+use std::{hint::black_box, ops::Range};
 
 use vm2_example::testonly::speed::Plain;
 use zincpapaya::{Capacity, Heaps, Layout, PageId, Snapshot, Word};
@@ -35,13 +35,19 @@ impl Both {
 
     pub fn holding(held: Held) -> Self {
         let mut both = Self::empty(held.room, 0);
-        (0..held.pages).for_each(|group| both.hold(heap(group), held.chunks));
+        if held.in_turns {
+            for chunk in 0..held.chunks {
+                (0..held.pages).for_each(|group| both.hold(heap(group), chunk..chunk + 1));
+            }
+        } else {
+            (0..held.pages).for_each(|group| both.hold(heap(group), 0..held.chunks));
+        }
         both
     }
 
-    /// Writes a word to each of the first chunks of a page.
-    pub fn hold(&mut self, page: u32, chunks: u32) {
-        for chunk in 0..chunks {
+    /// Writes a word to each of these chunks of a page.
+    pub fn hold(&mut self, page: u32, chunks: Range<u32>) {
+        for chunk in chunks {
             let word = [chunk.into(), page.into(), 3, 4];
             self.vm2.write_u256(page, chunk * 256, word);
             write(&mut self.ours, page, chunk * 256, word);

@@ -65,8 +65,8 @@ fn journalled() -> Vec<u32> {
 /// Full memories with empty journals, where the bootloader heap holds 150 chunks: a rollback frees none.
 fn with_journal(chunks: u32) -> Both {
     let mut both = Both::empty(chunks, 1000);
-    both.hold(heap(0), chunks - 150);
-    both.hold(BOOTLOADER, 150);
+    both.hold(heap(0), 0..chunks - 150);
+    both.hold(BOOTLOADER, 0..150);
     both.roll_back();
     both
 }
@@ -124,7 +124,7 @@ pub fn rollbacks(chunks: u32) -> Times {
 pub fn frees(others: u32, low: bool) -> Times {
     let mut both = Both::empty(others + 256, 0);
     let counts = if low { [256, others] } else { [others, 256] };
-    (0..).zip(counts).for_each(|(group, count)| both.hold(heap(group), count));
+    (0..).zip(counts).for_each(|(group, count)| both.hold(heap(group), 0..count));
     let page = heap(u32::from(!low));
     let times = Times::of(
         1,

@@ -35,8 +35,8 @@ const fn held(chunks: u32) -> u32 {
 /// A memory of vm2, and buffers with room for this many chunks and the same bytes.
 fn half_full(chunks: u32) -> (Plain, Buffers) {
     let mut both = Both::empty(chunks, 100);
-    both.hold(heap(0), held(chunks));
-    both.hold(BOOTLOADER.0, 4);
+    both.hold(heap(0), 0..held(chunks));
+    both.hold(BOOTLOADER.0, 0..4);
     both.roll_back();
     let full = both.ours.buffers();
     let buffers = Buffers {

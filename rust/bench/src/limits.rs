@@ -82,14 +82,14 @@ impl<'a, const TESTED: bool> Bare<'a, TESTED> {
         self.limbs(256 * slot + address as usize % 256)
     }
 
-    /// The last 32 bytes of one chunk and the first 32 of the next: both parts of a word over two chunks.
+    /// The bytes of a word over two chunks whose slots follow each other.
     #[inline(always)]
-    fn two_parts(&self, page: u32, address: u32) -> [[u64; 4]; 2] {
+    fn word_over_two(&self, page: u32, address: u32) -> [u64; 4] {
         let chunk = address / 256;
-        let [first, second] = [self.slot(page, chunk), self.slot(page, chunk + 1)];
-        self.load_tested(first, chunk);
-        self.load_tested(second, chunk + 1);
-        [self.limbs(256 * first + 224), self.limbs(256 * second)]
+        let slot = self.slot(page, chunk);
+        self.load_tested(slot, chunk);
+        black_box(*Self::get(self.buffers.keys, slot + 1));
+        self.limbs(256 * slot + address as usize % 256)
     }
 }
 
@@ -107,12 +107,12 @@ fn has_hint(memory: &Heaps, page: u32, chunk: u32) -> bool {
 fn compare(memory: &Heaps, at: &[(u32, u32)]) {
     let bare = Bare::<true>::of(memory);
     for &(page, a) in at {
-        let (limbs, from) = match a as usize % 256 {
-            ..=224 => (bare.word(page, a).to_vec(), 0),
-            within => (bare.two_parts(page, a).concat(), within - 224),
+        let limbs = match a % 256 {
+            ..=224 => bare.word(page, a),
+            _ => bare.word_over_two(page, a),
         };
         let bytes: Vec<u8> = limbs.into_iter().flat_map(u64::to_le_bytes).collect();
-        let word = bytes[from..from + 32].try_into().expect("a word has 32 bytes");
+        let word = bytes[..].try_into().expect("a word has 32 bytes");
         assert_eq!(Word::from_big_endian(word).0, read(memory, page, a), "address {a}");
     }
 }
@@ -129,8 +129,8 @@ pub fn bare_reads(chunks: u32, order: Walk) -> Times {
     let ours = || each(&at, |(page, a)| used(&read(&memory, page, a)));
     match order {
         Walk::TwoChunks => {
-            let parts = || each(&at, |(page, a)| bare.two_parts(page, a).iter().for_each(used));
-            Times::of(at.len(), parts, ours)
+            let bare = || each(&at, |(page, a)| used(&bare.word_over_two(page, a)));
+            Times::of(at.len(), bare, ours)
         }
         _ => Times::of(at.len(), || each(&at, |(page, a)| used(&bare.word(page, a))), ours),
     }

@@ -1,7 +1,7 @@
 //! Times the library beside vm2, on the same inputs.
 //!
 //! `bench [--runs N] [NAME ..]` runs rows N times and prints their tables. A NAME is one of words, instructions, chunks,
-//! formed, checked, limits and trace, or a part of the names of rows; without any, all are run. `limits` has three tables, which
+//! formed, checked, limits and trace, or a part of the names of rows; without any, all are run. `limits` has four tables, which
 //! tell what limits slow rows. Each run of a row is a process of its own, `bench --row NAME`, which makes its memories afresh and
 //! prints one line: so no row depends on those before it.
 

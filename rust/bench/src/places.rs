@@ -10,12 +10,19 @@ pub struct Held {
     pub chunks: u32,
     /// Chunks that our memory has room for.
     pub room: u32,
+    /// The pages grow in turns, a chunk each: then no two chunks of a page have slots that follow each other.
+    pub in_turns: bool,
 }
 
 impl Held {
     /// One page that takes all the room.
     pub const fn by_one_page(chunks: u32) -> Self {
-        Self { pages: 1, chunks, room: chunks }
+        Self::by_pages(1, chunks, chunks)
+    }
+
+    /// Pages that grow one after another.
+    pub const fn by_pages(pages: u32, chunks: u32, room: u32) -> Self {
+        Self { pages, chunks, room, in_turns: false }
     }
 }
 
@@ -28,6 +35,7 @@ impl fmt::Display for Held {
         write!(out, "{} chunks", thousands(self.room))?;
         match self.pages {
             1 => Ok(()),
+            pages if self.in_turns => write!(out, ", {pages} pages in turns"),
             pages => write!(out, ", {pages} pages"),
         }
     }

@@ -13,13 +13,16 @@ const HELD: [Held; 6] = [
     Held::by_one_page(1000),
     Held::by_one_page(65_536),
     SMALL_PAGES,
-    Held { pages: 100, chunks: 10, room: 1024 },
-    Held { pages: 100, chunks: 10, room: 2048 },
-    Held { pages: 100, chunks: 655, room: 65_536 },
+    Held::by_pages(100, 10, 1024),
+    Held::by_pages(100, 10, 2048),
+    Held::by_pages(100, 655, 65_536),
 ];
 
 /// Many small pages in a full memory: some of their chunks have lost their hint.
-const SMALL_PAGES: Held = Held { pages: 100, chunks: 10, room: 1000 };
+const SMALL_PAGES: Held = Held::by_pages(100, 10, 1000);
+
+/// Pages whose chunks have slots that do not follow each other. No hint is lost.
+const IN_TURNS: Held = Held { pages: 100, chunks: 10, room: 2048, in_turns: true };
 
 /// Chunks of memories whose calls test them.
 const TESTED: [u32; 4] = [128, 1024, 8192, 65_536];
@@ -55,6 +58,11 @@ fn of_words() -> Table {
                 .add(format!("word write, {walk}, {held}"), aim, move || words::writes(held, walk));
         }
     }
+    let (held, walk) = (IN_TURNS, Walk::TwoChunks);
+    let name = format!("word read, {walk}, {held}");
+    table.add(name, Some(1.1), move || words::reads(held, walk));
+    let name = format!("word write, {walk}, {held}");
+    table.add(name, Some(1.1), move || words::writes(held, walk));
     table
 }
 
@@ -139,7 +147,6 @@ fn of_bare_reads() -> Table {
     table
 }
 
-/// What a lost hint costs.
 /// The same calls on the same memory, at more or fewer places.
 fn of_fewer_places() -> Table {
     let mut table = Table::new(LIMITS, "fewer places", ["vm2", "ours"]);
@@ -158,6 +165,7 @@ fn of_fewer_places() -> Table {
     table
 }
 
+/// What a lost hint costs.
 fn of_lost_hints() -> Table {
     let mut table = Table::new(LIMITS, "lost hints", ["with a hint", "without a hint"]);
     let name = format!("lost hints, word read, {SMALL_PAGES}");

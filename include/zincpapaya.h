@@ -80,13 +80,12 @@ extern "C" {
 
 /* ---- opening
  * Makes a memory of the buffers, empty but for the calldata on its page; or opens one afresh.
- * chunks, pages and journal_words are the C, P and J of the lengths above: 1 to 65,536, 1 to 4,096, 0 to 65,536.
+ * chunks, pages and room are the C, P and J of the lengths above: 1 to 65,536, 1 to 4,096, 0 to 65,536.
  */
 /* ZP_LAYOUT, ZP_SIZES, ZP_NO_CHUNK where the calldata does not fit; never ZP_NOT_FORMED */
 uint32_t zp_open(ZP_MEMORY, uint32_t static_memory, uint32_t calldata_page, uint32_t bootloader_heap,
                  uint32_t bootloader_aux, uint32_t base, uint32_t stride, uint32_t chunks,
-                 uint32_t pages, uint32_t journal_words, const uint8_t *calldata,
-                 size_t calldata_len);
+                 uint32_t pages, uint32_t room, const uint8_t *calldata, size_t calldata_len);
 
 /* ---- reads
  * What was never written, and any page that is undecodable or not allocated, reads as zeros.

@@ -11,6 +11,7 @@ use borrow.Author.Tests.{lt-ltb, le-ltb}
 use Rattle.view.proofs.Refused.{first-holds, first-fails}
 use Rattle.outcome.specs.Outcome.{refused}
 use Rattle.page_ids.specs.Decode.{Page, decoded, isNone, isFixed}
+use Rattle.store.specs.Keys.{lastChunk}
 use Rattle.store.specs.Mem.{Mem, headLength}
 use Rattle.formed.specs.Pages.{fixed}
 use Rattle.formed.specs.Formed.{narrow}
@@ -25,15 +26,13 @@ use Rattle.view.specs.Calls.{Value, firstRefusal}
 pub layout-asks : (m : Mem) → WellFormed m → (headLength ≤ length (m .words)) × (narrow (m .words) ≡ true)
 layout-asks m f = let h = f .lengths .in-words in (omega arith, narrow-test (m .words) (f .encoded .layout-width) (f .encoded .length-width))
 
+-- ---- none of the chunks that n bytes at address a touch lies past the last
+pub touched-top : (a n : ℕ) → a + n ≤ 4294967327 → a / 256 + touchedCount a n ≤ lastChunk + 1
+touched-top a zero l = omega arith
+touched-top a (suc n) l = omega arith
+
 -- ---- room for n bytes at address a, from the counts of chunks and of journal words as computed
 module _ (a n k : ℕ) (is : k ≡ touchedCount a n) where
-  pub chunks-fit : a + n < 2 ^ 64 → a / 256 + k < 2 ^ 64
-  chunks-fit l = let h = small n l in omega arith
-    where
-      small : (n : ℕ) → a + n < 2 ^ 64 → a / 256 + touchedCount a n < 2 ^ 64
-      small zero l = omega arith
-      small (suc n) l = omega arith
-
   pub room-chosen : (s : Setting) (v : View) (p w x r : ℕ) → x ≡ w → r ≡ firstRefusal (capacityChecks s v p (a / 256) k x) → r ≡ firstRefusal (capacityChecksAt s v p a n w)
   room-chosen s v p w x r e q = q ∙ ap (λ (y : ℕ). firstRefusal (capacityChecks s v p (a / 256) y x)) is ∙ ap (λ (y : ℕ). firstRefusal (capacityChecks s v p (a / 256) (touchedCount a n) y)) e
 

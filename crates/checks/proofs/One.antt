@@ -28,13 +28,14 @@ none-left : (n : ℕ) → eqb n 0 ≡ ltb n 1
 none-left zero = refl
 none-left (suc n) = ne-eqb (suc n) 0 (λ e. omega arith) ∙ sym (le-ltb (suc n) 1 (omega arith))
 
+-- an allocated page needs no entry
+pub listed-entry : (m : Mem) (p : ℕ) → viewOf m .allocated p ≡ true → (not (viewOf m .allocated p) && eqb (viewOf m .entriesLeft) 0) ≡ false
+listed-entry m p there = rw there refl
+
 module _ (m : Mem) (f : WellFormed m) (p a : ℕ) (there : viewOf m .allocated p ≡ true) (one : a % 256 ≤ 224) where
   known : undecodable (settingOf m) p ≡ false
   unfolding undecodable
   known = not-true (undecodable (settingOf m) p) (λ u. false≢true (sym (undecodable-unlisted m f p u) ∙ there))
-
-  pub one-entry : (not (viewOf m .allocated p) && eqb (viewOf m .entriesLeft) 0) ≡ false
-  one-entry = rw there refl
 
   pub one-number : (r : ℕ) → r ≡ firstRefusal (capacityChecks (settingOf m) (viewOf m) p (a / 256) 1 1) → r ≡ firstRefusal (wordWriteChecks (settingOf m) (viewOf m) p a)
   one-number r e = room-chosen a 32 1 (omega arith) (settingOf m) (viewOf m) p 1 1 r refl e ∙ first-fails (undecodable (settingOf m) p) (refused 4) (capacityChecksAt (settingOf m) (viewOf m) p a 32 1) known

@@ -4,7 +4,7 @@ use mathlib.Core.Path.{_≡_, refl, sym, ap, _∙_}
 use mathlib.Core.Bool.{Bool, true, false, not, _&&_, _||_, false≢true}
 use mathlib.Core.List.{[], _∷_}
 use mathlib.Core.Logic.{⊎-elim}
-use Prim.Native.Nat.{ℕ, zero, suc, _+_, _^_, _<_, _≤_}
+use Prim.Native.Nat.{ℕ, zero, suc, _+_, _/_, _^_, _<_, _≤_}
 use native.Mathlib.Omega.{arith}
 use lib.Dec.{ltb, eqb}
 use lib.ListN.{length}
@@ -15,8 +15,8 @@ use Rattle.index.proofs.Logic.{lt-or-ge}
 use Rattle.page_ids.specs.Decode.{Page, none, page, decoded, isNone, isDynamic, isFixed}
 use Rattle.formed.specs.Pages.{fixed, dynamic, journalCount, journalPage}
 use Rattle.view.specs.View.{View, Setting}
-use Rattle.view.specs.Steps.{needs, alignedCount}
-use Rattle.view.specs.Checks.{undecodable, overfull, capacityChecksAt, wordWriteChecks, byteWriteChecks, allocateChecks}
+use Rattle.view.specs.Steps.{missing, touchedCount, alignedCount}
+use Rattle.view.specs.Checks.{undecodable, overfull, capacityChecks, capacityChecksAt, wordWriteChecks, byteWriteChecks, allocateChecks}
 use Rattle.view.specs.Calls.{firstRefusal}
 
 -- ---- the tests of a write
@@ -53,37 +53,44 @@ words-by s v p w e (suc zero) l q =
     less-by (eqb p (journalPage (s .layout) 1)) (s .journalWords) _ (or-first (eqb p (journalPage (s .layout) 1) && ltb (s .journalWords) (length (v .journal 1) + w)) _ e) (eq-eqb p (journalPage (s .layout) 1) q)
 words-by s v p w e (suc (suc j)) l q = absurd (omega arith)
 
--- 9, 10 and 11 of n bytes at address a
-pub record Room (s : Setting) (v : View) (p a n w : ℕ) : Type 0 where
+-- 9, 10 and 11 of n chunks from number k on
+pub record Room (s : Setting) (v : View) (p k n w : ℕ) : Type 0 where
   pub entry : v .allocated p ≡ false → 0 < v .entriesLeft
-  pub chunks : needs v p a n ≤ v .pool
+  pub chunks : missing (v .held p) k n ≤ v .pool
   pub words : (j : ℕ) → j < journalCount → p ≡ journalPage (s .layout) j → length (v .journal j) + w ≤ s .journalWords
 
+pub room-passed : (s : Setting) (v : View) (p k n w : ℕ) → firstRefusal (capacityChecks s v p k n w) ≡ 0 → Room s v p k n w
+room-passed s v p k n w e =
+    let a₉ = none-first (not (v .allocated p) && eqb (v .entriesLeft) 0) 8 ((ltb (v .pool) (missing (v .held p) k n), refused 10) ∷ (overfull s v p w journalCount, refused 11) ∷ []) e in
+    let a₁₀ = none-first (ltb (v .pool) (missing (v .held p) k n)) 9 ((overfull s v p w journalCount, refused 11) ∷ []) (a₉ .1) in
+    let a₁₁ = none-first (overfull s v p w journalCount) 10 [] (a₁₀ .1) in
+    record { entry = entry-by (v .allocated p) (v .entriesLeft) (a₉ .0); chunks = ltb-false (v .pool) (missing (v .held p) k n) (a₁₀ .0); words = words-by s v p w (a₁₁ .0) }
+
+-- of n bytes at address a
 module _ (s : Setting) (v : View) (p a n w : ℕ) where
   pub room-refusals : Refusals (capacityChecksAt s v p a n w)
   room-refusals = next (next (next end))
 
-  pub room-passed : firstRefusal (capacityChecksAt s v p a n w) ≡ 0 → Room s v p a n w
-  room-passed e =
-      let a₉ = none-first (not (v .allocated p) && eqb (v .entriesLeft) 0) 8 ((ltb (v .pool) (needs v p a n), refused 10) ∷ (overfull s v p w journalCount, refused 11) ∷ []) e in
-      let a₁₀ = none-first (ltb (v .pool) (needs v p a n)) 9 ((overfull s v p w journalCount, refused 11) ∷ []) (a₉ .1) in
-      let a₁₁ = none-first (overfull s v p w journalCount) 10 [] (a₁₀ .1) in
-      record { entry = entry-by (v .allocated p) (v .entriesLeft) (a₉ .0); chunks = ltb-false (v .pool) (needs v p a n) (a₁₀ .0); words = words-by s v p w (a₁₁ .0) }
+  abbrev pub RoomAt : Type 0
+  RoomAt = Room s v p (a / 256) (touchedCount a n) w
+
+  pub room-at : firstRefusal (capacityChecksAt s v p a n w) ≡ 0 → RoomAt
+  room-at e = room-passed s v p (a / 256) (touchedCount a n) w e
 
 -- a word write, a byte write, an allocation
 module _ (s : Setting) (v : View) (p a : ℕ) where
-  pub word-passed : firstRefusal (wordWriteChecks s v p a) ≡ 0 → (undecodable s p ≡ false) × Room s v p a 32 1
-  word-passed e = let h = none-first (undecodable s p) 3 (capacityChecksAt s v p a 32 1) e in (h .0, room-passed s v p a 32 1 (h .1))
+  pub word-passed : firstRefusal (wordWriteChecks s v p a) ≡ 0 → (undecodable s p ≡ false) × RoomAt s v p a 32 1
+  word-passed e = let h = none-first (undecodable s p) 3 (capacityChecksAt s v p a 32 1) e in (h .0, room-at s v p a 32 1 (h .1))
 
-  pub bytes-passed : (n : ℕ) → firstRefusal (byteWriteChecks s v p a n) ≡ 0 → (undecodable s p ≡ false) × (a + n ≤ 2 ^ 32) × Room s v p a n (alignedCount a n)
+  pub bytes-passed : (n : ℕ) → firstRefusal (byteWriteChecks s v p a n) ≡ 0 → (undecodable s p ≡ false) × (a + n ≤ 2 ^ 32) × RoomAt s v p a n (alignedCount a n)
   bytes-passed n e =
       let h = none-first (undecodable s p) 3 ((ltb (2 ^ 32) (a + n), refused 8) ∷ capacityChecksAt s v p a n (alignedCount a n)) e in
       let k = none-first (ltb (2 ^ 32) (a + n)) 7 (capacityChecksAt s v p a n (alignedCount a n)) (h .1) in
-      (h .0, ltb-false (2 ^ 32) (a + n) (k .0), room-passed s v p a n (alignedCount a n) (k .1))
+      (h .0, ltb-false (2 ^ 32) (a + n) (k .0), room-at s v p a n (alignedCount a n) (k .1))
 
-  pub allocate-passed : (n : ℕ) → firstRefusal (allocateChecks s v p n) ≡ 0 → (undecodable s p ≡ false) × (fixed (s .layout) p ≡ false) × (v .allocated p ≡ false) × Room s v p 0 n 0
+  pub allocate-passed : (n : ℕ) → firstRefusal (allocateChecks s v p n) ≡ 0 → (undecodable s p ≡ false) × (fixed (s .layout) p ≡ false) × (v .allocated p ≡ false) × RoomAt s v p 0 n 0
   allocate-passed n e =
       let h = none-first (undecodable s p) 3 ((fixed (s .layout) p, refused 5) ∷ (v .allocated p, refused 6) ∷ capacityChecksAt s v p 0 n 0) e in
       let k = none-first (fixed (s .layout) p) 4 ((v .allocated p, refused 6) ∷ capacityChecksAt s v p 0 n 0) (h .1) in
       let l = none-first (v .allocated p) 5 (capacityChecksAt s v p 0 n 0) (k .1) in
-      (h .0, k .0, l .0, room-passed s v p 0 n 0 (l .1))
+      (h .0, k .0, l .0, room-at s v p 0 n 0 (l .1))

@@ -6,7 +6,7 @@ use Prim.Native.Nat.{ℕ, zero, suc, _+_, _-_, _/_, _≤_, _<_}
 use native.Mathlib.Omega.{arith}
 use lib.Dec.{ltb}
 use borrow.Author.Tests.{lt-ltb, le-ltb}
-use Rattle.view.proofs.Missing.{missing-more, missing-le}
+use Rattle.view.proofs.Missing.{missing-more, missing-le, missing-most}
 use Rattle.view.specs.Steps.{touchedCount, alignedCount, missing}
 
 pub touched-some : (a n : ℕ) → (n ≡ 0 → ⊥) → (a + (n - 1)) / 256 - a / 256 + 1 ≡ touchedCount a n
@@ -44,4 +44,12 @@ pub within-pool : (has : ℕ → Bool) (k count pool n i : ℕ) → i ≤ count 
 within-pool has k count pool n i l m e q =
     let s : i ≡ count = omega arith in
     let t : n ≡ missing has k count = e ∙ ap (missing has k) s in
+    sym (le-ltb pool (missing has k count) (omega arith))
+
+-- the pool has as many as may be missing
+pub enough : (has : ℕ → Bool) (k i count pool : ℕ) → i ≤ count → missing has k i ≡ 0 → count - i ≤ pool → false ≡ ltb pool (missing has k count)
+enough has k i count pool l z few =
+    let e : i + (count - i) ≡ count = omega arith in
+    let h = missing-most has k i (count - i) in
+    let q : missing has k (i + (count - i)) ≡ missing has k count = ap (missing has k) e in
     sym (le-ltb pool (missing has k count) (omega arith))

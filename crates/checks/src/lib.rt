@@ -1,21 +1,23 @@
 // Which refusal a write to a well-formed memory or an allocation in it gets, or 0: the tests in the order of 01's table.
 ghost use mathlib.Core.Path.{_≡_};
-ghost use mathlib.Core.Bool.{true, not, _&&_};
-ghost use Prim.Native.Nat.{_+_, _/_, _%_, _<_, _≤_, _^_};
-ghost use lib.Dec.{eqb, ltb};
+ghost use mathlib.Core.Bool.{true, false};
+ghost use Prim.Native.Nat.{ℕ, _+_, _/_, _%_, _<_, _≤_, _^_};
+ghost use lib.Dec.{ltb};
 ghost use lib.ListN.{length, drop};
 ghost use Rattle.index.specs.Index.{seek};
 ghost use Rattle.view.specs.Calls.{firstRefusal};
 ghost use Rattle.page_ids.specs.Decode.{pageOf, decoded};
 ghost use Rattle.store.specs.Mem.{mem, headLength, layoutOf, slotCount};
-ghost use Rattle.store.specs.Find.{slotWithin, Findable};
+ghost use Rattle.store.specs.Keys.{lastChunk, keyOf};
+ghost use Rattle.store.specs.Find.{slotFor, Findable};
 ghost use Rattle.formed.specs.Pages.{journalCount};
 ghost use Rattle.formed.specs.Parts.{entryOf, slotOfChunk};
 ghost use Rattle.formed.specs.Formed.{narrow};
 ghost use Rattle.formed.specs.WellFormed.{WellFormed};
 ghost use Rattle.view.specs.View.{settingOf, viewOf};
 ghost use Rattle.view.specs.Steps.{missing, touchedCount, alignedCount};
-ghost use Rattle.view.specs.Checks.{overfull, capacityChecks, wordWriteChecks, byteWriteChecks, allocateChecks};
+ghost use Rattle.view.specs.Checks.{overfull, capacityChecks, wordWriteChecks, allocateChecks};
+ghost use Rattle.checks.specs.Located.{Locates};
 use page_ids::Address;
 use page_ids::DecodedPage;
 use page_ids::PageId;
@@ -53,52 +55,92 @@ pub fn is_allocated(bytes: &[u8], keys: &[u64], order: &[u32], words: &[u64], pa
     (e as u64) < words[head::PAGES] + head::FIXED_PAGES
 }
 
-// 9: the page needs an entry and none is left. The page's entry is e.
-fn no_entry(
-    bytes: &[u8],
+// ---- a range of chunks is located
+// The slot of a chunk whose key is k, where the slot `guess` has that key or a hint knows the chunk. Any other answer is at least the number of slots, and says nothing.
+fn known_slot(
     keys: &[u64],
     order: &[u32],
     words: &[u64],
     page: PageId,
-    e: usize,
-) -> bool
-    requires { ⌜ (WellFormed (mem (now bytes) (now keys) (now order) (now words))) × (e ≡ entryOf (mem (now bytes) (now keys) (now order) (now words)) (page .0)) ⌝ }
-    ensures { λ r. ⌜ r ≡ (not (viewOf (mem (now (bytes .entry)) (now (keys .entry)) (now (order .entry)) (now (words .entry))) .allocated (page .0)) && eqb (viewOf (mem (now (bytes .entry)) (now (keys .entry)) (now (order .entry)) (now (words .entry))) .entriesLeft) 0) ⌝ }
-{
-    if (e as u64) < words[head::PAGES] + head::FIXED_PAGES {
-        return false;
-    }
-    words[head::ENTRIES] == words[head::PAGES] + head::FIXED_PAGES
-}
-
-// The slot of chunk k of the page at entry e, or the number of slots where none holds it: the slot `guess`, if it has the chunk's key, or by a hint, or else by search.
-fn slot_near(
-    keys: &[u64],
-    order: &[u32],
-    words: &[u64],
-    page: PageId,
-    e: usize,
+    chunk: u32,
     k: u64,
     guess: usize,
 ) -> usize
-    requires { ⌜ (Findable (now keys) (now order) (now words)) × (e ≤ 4100) × (e ≡ seek (drop (slotCount (now words)) (now keys)) ((page .0) + 1)) ⌝ }
-    ensures { λ r. ⌜ r ≡ slotWithin (now (keys .entry)) (now (words .entry)) e k ⌝ }
+    requires { ⌜ (Findable (now keys) (now order) (now words)) × (k ≡ keyOf (seek (drop (slotCount (now words)) (now keys)) ((page .0) + 1)) chunk) ⌝ }
+    ensures { λ r. ⌜ (r < slotCount (now (words .entry)) → r ≡ slotFor (now (keys .entry)) (now (words .entry)) (page .0) chunk) ⌝ }
 {
-    let c = words[head::CHUNKS] as usize;
-    if k > store::LAST_CHUNK as u64 {
-        return c;
-    }
-    if store::has_key(keys, words, guess, store::key_of(e, k)) {
+    if store::has_key(keys, words, guess, k) {
         return guess;
     }
-    let s = store::hinted(keys, order, words, page, k as u32);
-    if s < c {
-        return s;
-    }
-    store::slot_at_entry(keys, order, words, e, k)
+    store::hinted(keys, order, words, page, chunk)
 }
 
-// 10: more of the chunks first, .., first + count - 1 are missing than the pool has. The page's entry is e. It stops as soon as that is sure.
+// How many of the chunks first, .., first + count - 1 of the page at entry e are known to be held, up to the first that is not.
+fn known_run(
+    keys: &[u64],
+    order: &[u32],
+    words: &[u64],
+    page: PageId,
+    e: usize,
+    first: u32,
+    count: u32,
+) -> u32
+    requires { ⌜ (Findable (now keys) (now order) (now words)) × (e ≡ seek (drop (slotCount (now words)) (now keys)) ((page .0) + 1)) × (e ≤ 4100) × (first + count ≤ lastChunk + 1) ⌝ }
+    ensures { λ r. ⌜ (r ≤ count) × ((x : ℕ) → first ≤ x → x < first + r → slotFor (now (keys .entry)) (now (words .entry)) (page .0) x < slotCount (now (words .entry))) ⌝ }
+{
+    let c = words[head::CHUNKS] as usize;
+    let k = store::key_of(e, first as u64);
+    // Chunks that follow each other often have slots that do.
+    let mut guess = c;
+    let mut i = 0;
+    while i < count {
+        let s = known_slot(keys, order, words, page, first + i, k + i as u64, guess);
+        if c <= s {
+            return i;
+        }
+        guess = s + 1;
+        i += 1;
+    }
+    count
+}
+
+// What is known of a range of chunks: those before `chunk` are held, and `rank` is the rank of the key of `chunk`, unless the range ends there.
+pub struct Located {
+    pub chunk: u32,
+    pub rank: usize,
+}
+
+// The chunks first, .., first + count - 1 of the page at entry e: by hints, and by one search where they do not suffice.
+pub fn locate(
+    keys: &[u64],
+    order: &[u32],
+    words: &[u64],
+    page: PageId,
+    e: usize,
+    first: u32,
+    count: u32,
+) -> Located
+    requires { ⌜ (Findable (now keys) (now order) (now words)) × (e ≡ seek (drop (slotCount (now words)) (now keys)) ((page .0) + 1)) × (e ≤ 4100) × (first + count ≤ lastChunk + 1) ⌝ }
+    ensures { λ r. ⌜ Locates (now (keys .entry)) (now (order .entry)) (now (words .entry)) (page .0) first count (r .chunk) (r .rank) ⌝ }
+{
+    let known = known_run(keys, order, words, page, e, first, count);
+    let chunk = first + known;
+    if known == count {
+        return Located {
+            chunk: chunk,
+            rank: 0,
+        };
+    }
+    let at = store::rank_of(keys, order, words, store::key_of(e, chunk as u64));
+    Located {
+        chunk: chunk,
+        rank: at,
+    }
+}
+
+// ---- the tests
+// 10: more of the chunks first, .., first + count - 1 are missing than the pool has. They are located from `from` on, and the page's entry is e.
+// It counts those that may be missing only where the pool has fewer than these, and stops as soon as there are too many.
 fn short_of_chunks(
     bytes: &[u8],
     keys: &[u64],
@@ -106,27 +148,32 @@ fn short_of_chunks(
     words: &[u64],
     page: PageId,
     e: usize,
-    first: u64,
-    count: u64,
+    from: Located,
+    first: u32,
+    count: u32,
 ) -> bool
-    requires { ⌜ (WellFormed (mem (now bytes) (now keys) (now order) (now words))) × (e ≡ entryOf (mem (now bytes) (now keys) (now order) (now words)) (page .0)) × (first + count < 2 ^ 64) ⌝ }
+    requires { ⌜ (WellFormed (mem (now bytes) (now keys) (now order) (now words))) × (e ≡ entryOf (mem (now bytes) (now keys) (now order) (now words)) (page .0)) × (first + count ≤ lastChunk + 1) ⌝ }
+    requires { ⌜ Locates (now keys) (now order) (now words) (page .0) first count (from .chunk) (from .rank) ⌝ }
     ensures { λ r. ⌜ r ≡ ltb (viewOf (mem (now (bytes .entry)) (now (keys .entry)) (now (order .entry)) (now (words .entry))) .pool) (missing (viewOf (mem (now (bytes .entry)) (now (keys .entry)) (now (order .entry)) (now (words .entry))) .held (page .0)) first count) ⌝ }
 {
     let pool = pool::pool_count(keys, order, words);
+    let mut i = from.chunk - first;
+    if (count - i) as u64 <= pool {
+        return false;
+    }
     let c = words[head::CHUNKS] as usize;
+    let k = store::key_of(e, first as u64);
+    let mut at = from.rank;
     let mut missing: u64 = 0;
-    // Chunks that follow each other often have slots that do.
-    let mut guess = c;
-    let mut i: u64 = 0;
     while i < count {
-        let s = slot_near(keys, order, words, page, e, first + i, guess);
-        if c <= s {
+        if store::slot_at_rank(keys, order, words, at, k + i as u64) < c {
+            at += 1;
+        } else {
             if missing == pool {
                 return true;
             }
             missing += 1;
         }
-        guess = s + 1;
         i += 1;
     }
     false
@@ -170,25 +217,49 @@ pub fn short_of_words(
     words[head::JOURNAL_WORDS] < words[head::JOURNALS + j] + w
 }
 
-// 9, 10, 11.
-fn capacity_refusal(
+// 9, 10, 11 of a page that is not allocated. It holds none of `count` chunks, whichever these are.
+pub fn unallocated_refusal(
     bytes: &[u8],
     keys: &[u64],
     order: &[u32],
     words: &[u64],
     page: PageId,
-    first: u64,
     count: u64,
     w: u64,
 ) -> u32
-    requires { ⌜ (WellFormed (mem (now bytes) (now keys) (now order) (now words))) × (first + count < 2 ^ 64) × (w ≤ 2 ^ 60) ⌝ }
-    ensures { λ r. ⌜ r ≡ firstRefusal (capacityChecks (settingOf (mem (now (bytes .entry)) (now (keys .entry)) (now (order .entry)) (now (words .entry)))) (viewOf (mem (now (bytes .entry)) (now (keys .entry)) (now (order .entry)) (now (words .entry)))) (page .0) first count w) ⌝ }
+    requires { ⌜ (WellFormed (mem (now bytes) (now keys) (now order) (now words))) × (viewOf (mem (now bytes) (now keys) (now order) (now words)) .allocated (page .0) ≡ false) × (w ≤ 2 ^ 60) ⌝ }
+    ensures { λ r. ⌜ ((first : ℕ) → r ≡ firstRefusal (capacityChecks (settingOf (mem (now (bytes .entry)) (now (keys .entry)) (now (order .entry)) (now (words .entry)))) (viewOf (mem (now (bytes .entry)) (now (keys .entry)) (now (order .entry)) (now (words .entry)))) (page .0) first count w)) ⌝ }
 {
-    let e = store::entry_of(keys, order, words, page);
-    if no_entry(bytes, keys, order, words, page, e) {
+    if words[head::ENTRIES] == words[head::PAGES] + head::FIXED_PAGES {
         return 9;
     }
-    if short_of_chunks(bytes, keys, order, words, page, e, first, count) {
+    if pool::pool_count(keys, order, words) < count {
+        return 10;
+    }
+    if short_of_words(bytes, keys, order, words, page, w) {
+        return 11;
+    }
+    0
+}
+
+// 10 and 11 of an allocated page. Its entry is e, and its chunks first, .., first + count - 1 are located from `from` on.
+pub fn allocated_refusal(
+    bytes: &[u8],
+    keys: &[u64],
+    order: &[u32],
+    words: &[u64],
+    page: PageId,
+    e: usize,
+    from: Located,
+    first: u32,
+    count: u32,
+    w: u64,
+) -> u32
+    requires { ⌜ (WellFormed (mem (now bytes) (now keys) (now order) (now words))) × (e ≡ entryOf (mem (now bytes) (now keys) (now order) (now words)) (page .0)) × (first + count ≤ lastChunk + 1) ⌝ }
+    requires { ⌜ (Locates (now keys) (now order) (now words) (page .0) first count (from .chunk) (from .rank)) × (viewOf (mem (now bytes) (now keys) (now order) (now words)) .allocated (page .0) ≡ true) × (w ≤ 2 ^ 60) ⌝ }
+    ensures { λ r. ⌜ r ≡ firstRefusal (capacityChecks (settingOf (mem (now (bytes .entry)) (now (keys .entry)) (now (order .entry)) (now (words .entry)))) (viewOf (mem (now (bytes .entry)) (now (keys .entry)) (now (order .entry)) (now (words .entry)))) (page .0) first count w) ⌝ }
+{
+    if short_of_chunks(bytes, keys, order, words, page, e, from, first, count) {
         return 10;
     }
     if short_of_words(bytes, keys, order, words, page, w) {
@@ -220,15 +291,23 @@ pub fn word_refusal(
     if page_ids::is_undecodable(decode(words, page)) {
         return 4;
     }
+    let first = address.0 / 256;
     let count = touched(address, 32);
-    capacity_refusal(
+    let e = store::entry_of(keys, order, words, page);
+    if (e as u64) >= words[head::PAGES] + head::FIXED_PAGES {
+        return unallocated_refusal(bytes, keys, order, words, page, count, 1);
+    }
+    let from = locate(keys, order, words, page, e, first, count as u32);
+    allocated_refusal(
         bytes,
         keys,
         order,
         words,
         page,
-        (address.0 / 256) as u64,
-        count,
+        e,
+        from,
+        first,
+        count as u32,
         1,
     )
 }
@@ -256,39 +335,6 @@ pub fn one_chunk_refusal(
     0
 }
 
-// A write of n bytes.
-pub fn bytes_refusal(
-    bytes: &[u8],
-    keys: &[u64],
-    order: &[u32],
-    words: &[u64],
-    page: PageId,
-    start: Address,
-    n: usize,
-) -> u32
-    requires { ⌜ WellFormed (mem (now bytes) (now keys) (now order) (now words)) ⌝ }
-    ensures { λ r. ⌜ r ≡ firstRefusal (byteWriteChecks (settingOf (mem (now (bytes .entry)) (now (keys .entry)) (now (order .entry)) (now (words .entry)))) (viewOf (mem (now (bytes .entry)) (now (keys .entry)) (now (order .entry)) (now (words .entry)))) (page .0) (start .0) n) ⌝ }
-{
-    if page_ids::is_undecodable(decode(words, page)) {
-        return 4;
-    }
-    if (n as u64) > 4294967296 - (start.0 as u64) {
-        return 8;
-    }
-    let count = touched(start, n);
-    let notes = aligned(start, n);
-    capacity_refusal(
-        bytes,
-        keys,
-        order,
-        words,
-        page,
-        (start.0 / 256) as u64,
-        count,
-        notes,
-    )
-}
-
 // An allocation with n bytes of contents.
 pub fn allocate_refusal(
     bytes: &[u8],
@@ -312,5 +358,5 @@ pub fn allocate_refusal(
         return 6;
     }
     let count = touched(Address(0), n);
-    capacity_refusal(bytes, keys, order, words, page, 0, count, 0)
+    unallocated_refusal(bytes, keys, order, words, page, count, 0)
 }

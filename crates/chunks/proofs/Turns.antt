@@ -6,21 +6,21 @@ use mathlib.Core.List.{List}
 use Prim.Native.Nat.{ℕ, _+_, _≤_, _<_}
 use native.Mathlib.Omega.{arith}
 use lib.ListN.{length, getD, take}
-use lib.Seq.{getD-take}
+use lib.Seq.{getD-take, length-take-le, ext-getD}
 use borrow.Author.Tests.{ltb-true}
 use Rattle.store.specs.Keys.{keyOf, keyEntry, keyChunk}
 use Rattle.view.proofs.Missing.{missing-more, missing-one, missing-le}
 use Rattle.formed.proofs.Asks.{slots-asked}
-use Rattle.index.specs.Index.{seek}
+use Rattle.index.specs.Index.{seek, LowerBound}
 use Rattle.index.proofs.Places.{seek-hit}
-use Rattle.store.specs.Mem.{Mem, mem, slotCount, heldNow, holders, entries}
+use Rattle.store.specs.Mem.{Mem, mem, slotCount, heldNow, holders, entries, slotOrder}
+use Rattle.store.specs.Indexed.{Ranked}
 use Rattle.pool.specs.Hold.{lacks, Held}
-use Rattle.store.specs.Find.{slotFor, HintLearnt}
-use Rattle.pool.proofs.Holds.{held-was}
+use Rattle.store.specs.Find.{HintLearnt}
+use Rattle.pool.proofs.Holds.{held-le}
 use Rattle.formed.specs.Parts.{entryOf, slotOfChunk, allocated, holds}
 use Rattle.formed.specs.WellFormed.{WellFormed}
-use Rattle.formed.proofs.Keys.{seek-is, key-entry, key-chunk}
-use Rattle.formed.proofs.Meaning.{slot-once}
+use Rattle.formed.proofs.Keys.{key-entry, key-chunk}
 use Rattle.formed.proofs.Sense.{pool-is, slot-near}
 use Rattle.view.specs.View.{View, Setting, viewOf, settingOf}
 use Rattle.view.specs.Steps.{missing}
@@ -106,6 +106,29 @@ module _ (m₀ : Mem) (p k count : ℕ) (asks : HoldAsks m₀ p k count) (i : �
         pages = w .pages ∙ a .pages;
       }
 
+-- ---- a rank
+-- the key and the rank may be written as other sums
+pub rank-by : {ks os : List ℕ} {n k r k' r' : ℕ} → k' ≡ k → r' ≡ r → LowerBound ks os n k r → LowerBound ks os n k' r'
+rank-by d e ranked = rw (d, e) ranked
+
+module _ (m : Mem) (f : WellFormed m) (k r : ℕ) (ranked : Ranked (m .keys) (m .order) (m .words) k r) where
+  -- there are few slots, so few ranks
+  pub rank-few : r ≤ 65536
+  rank-few = let x = slots-asked m f in let l = x .few in let h = held-le (m .keys) (m .order) (m .words) x in let w = ranked .within in omega arith
+
+  -- it is the same with other hints
+  pub rank-learnt : (order' : List ℕ) → HintLearnt (m .order) (m .words) order' → Ranked (m .keys) order' (m .words) k r
+  rank-learnt order' h = rw slots-kept ranked
+    where
+      slots-kept : take (slotCount (m .words)) order' ≡ slotOrder m
+      slots-kept =
+          let c = slotCount (m .words) in
+          let o = slots-asked m f .in-order in
+          let q = h .long in
+          let l = length-take-le c order' (omega arith) in
+          let l₀ = length-take-le c (m .order) o in
+          ext-getD 0 (take c order') (slotOrder m) (l ∙ sym l₀) (λ i li. getD-take c order' i 0 (omega arith) ∙ h .kept i (omega arith) ∙ sym (getD-take c (m .order) i 0 (omega arith)))
+
 -- ---- one after the other: a chunk by itself, and then the next one
 -- with other hints
 pub after-learnt : (m₀ : Mem) (p k n : ℕ) (m : Mem) → After m₀ p k n m → (order' : List ℕ) → HintLearnt (m .order) (m .words) order' → After m₀ p k n (mem (m .bytes) (m .keys) order' (m .words))
@@ -134,20 +157,10 @@ module _ (bytes keys order words : List ℕ) (p n : ℕ) (asks : HoldAsks (mem b
       ∙ ap (seek (take (slotCount words) keys')) (sym is)
       ∙ sym (h .slot))
 
-  -- a slot has its key
-  pub one-there : (s : ℕ) → (s < slotCount words) × (getD keys s 0 ≡ key) → After m₂ p n 1 m₂
-  one-there s t =
-      let at : seek (holders m₂) key ≡ s = seek-is (holders m₂) key s (slot-once m₂ (asks .formed)) (omega arith) (getD-take (slotCount words) keys s 0 (t .0) ∙ t .1) in
-      one-held s keys order words (held-was keys order words (slots-asked m₂ (asks .formed)) key (omega arith) s (sym at) (t .0))
-
-  -- a hint knows its slot
-  pub one-known : (s : ℕ) → s < slotCount words → (s < slotCount words → s ≡ slotFor keys words p n) → After m₂ p n 1 m₂
-  one-known s l at = one-held s keys order words (held-was keys order words (slots-asked m₂ (asks .formed)) key (omega arith) s (at l ∙ ap (seek (take (slotCount words) keys)) (sym is)) l)
-
 -- .. and the next one
 module _ (m₀ : Mem) (p k count : ℕ) (asks : HoldAsks m₀ p k count) (i : ℕ) (more : i < count) (m : Mem) (a : After m₀ p k i m) where
-  pub next-key : (e key : ℕ) → e ≡ entryOf m₀ p → key ≡ keyOf e (k + i) → key ≡ keyOf (entryOf m p) (k + i)
-  next-key e key at is = let q : entryOf m p ≡ entryOf m₀ p = ap (λ (x : List ℕ). seek x (p + 1)) (a .pages) in omega arith
+  pub next-key : (key : ℕ) → key ≡ keyOf (entryOf m₀ p) k → key + i ≡ keyOf (entryOf m p) (k + i)
+  next-key key is = let q : entryOf m p ≡ entryOf m₀ p = ap (λ (x : List ℕ). seek x (p + 1)) (a .pages) in omega arith
 
   pub next-asks : HoldAsks m p (k + i) 1
   next-asks = record {

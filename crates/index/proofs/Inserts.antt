@@ -86,3 +86,19 @@ module _ (ks os ds : List ℕ) (n s k at : ℕ) (ins : Insertable ks os n s k) (
       let e = index-count ks os n (ins .index) in
       index-is (set ks s k) (set ds at s) (n + 1) (let r = ins .room in let q = mv .long in let w = length-set ds at s in omega arith) (omega arith)
       ∙ rising-intro (set ks s k) (set ds at s) (n + 1) (λ _. new-first) new-next
+
+  -- its rank is still that
+  pub inserted-rank : LowerBound (set ks s k) (set ds at s) (n + 1) k at
+  inserted-rank = record {
+    within = let w = lb .within in omega arith;
+    below = λ i l. lt-by (new-low i l) refl (lb .below i l);
+    above = λ i l m.
+        ⊎-elim
+        (λ (e : at ≡ i). let h : keyAt (set ks s k) (set ds at s) i ≡ k = ap (keyAt (set ks s k) (set ds at s)) (sym e) ∙ new-here in omega arith)
+        (λ (b : at < i).
+        let h = lb .above (i - 1) (omega arith) (omega arith) in
+        let e : i ≡ i - 1 + 1 = omega arith in
+        let q : keyAt (set ks s k) (set ds at s) i ≡ keyAt ks os (i - 1) = ap (keyAt (set ks s k) (set ds at s)) e ∙ new-high (i - 1) (omega arith) (omega arith) in
+        omega arith)
+        (eq-or-lt-of-le l);
+  }

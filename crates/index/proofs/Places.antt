@@ -4,7 +4,7 @@ use mathlib.Core.Path.{_≡_, refl, sym, ap, _∙_}
 use mathlib.Core.Logic.{⊎-elim}
 use mathlib.Core.Bool.{true, cond}
 use mathlib.Core.List.{List, [], _∷_}
-use Prim.Native.Nat.{ℕ, zero, suc, _≤_, _<_, zero-le, suc-le-suc}
+use Prim.Native.Nat.{ℕ, zero, suc, _+_, _≤_, _<_, zero-le, suc-le-suc}
 use native.Mathlib.Nat.{le-refl, le-of-suc-le-suc, not-suc-le-zero, eq-or-lt-of-le, le-antisymm}
 use native.Mathlib.Omega.{arith}
 use lib.Dec.{eqb}
@@ -75,3 +75,36 @@ module _ (ks os : List ℕ) (n k r : ℕ) (ix : indexed ks os n ≡ true) (pos :
 
   pub find-at : r < n → keyAt ks os r ≡ k → getD os r 0 ≡ seek ks k
   find-at l e = sym (place-at ks os n (index-rises ks os n ix) (index-count ks os n ix) k pos (getD os r 0) (slot-lt ks os n (index-rises ks os n ix) r l) e)
+
+  -- the rank of the next key, where the table has this one
+  ranked-here : seek ks k < length ks → (r < n) × (keyAt ks os r ≡ k)
+  ranked-here l =
+      ⊎-elim
+      (λ (a : r < n). ⊎-elim (λ (e : keyAt ks os r ≡ k). (a, e)) (λ (ne : keyAt ks os r ≡ k → ⊥). let h = find-gap a ne in absurd (omega arith)) (same-or-not (keyAt ks os r) k))
+      (λ (a : n ≤ r). let h = find-past a in absurd (omega arith))
+      (lt-or-ge r n)
+
+  pub rank-next : seek ks k < length ks → LowerBound ks os n (k + 1) (r + 1)
+  rank-next l =
+      let h = ranked-here l in
+      let here = h .0 in
+      let is = h .1 in
+      record {
+        within = omega arith;
+        below = λ i a. ⊎-elim (λ (b : i < r). let q = lb .below i b in omega arith) (λ (b : r ≤ i). let e : keyAt ks os i ≡ keyAt ks os r = ap (keyAt ks os) (le-antisymm (omega arith) b) in omega arith) (lt-or-ge i r);
+        above = λ i a b. let q = sorted ks os n (index-rises ks os n ix) r i (omega arith) b in omega arith;
+      }
+
+  -- and where it does not
+  pub rank-same : length ks ≤ seek ks k → LowerBound ks os n (k + 1) r
+  rank-same none = record {
+    within = lb .within;
+    below = λ i a. let q = lb .below i a in omega arith;
+    above = λ i a b.
+        let q = lb .above i a b in
+        let w = slot-lt ks os n (index-rises ks os n ix) i b in
+        ⊎-elim
+        (λ (e : k ≡ keyAt ks os i). let z = place-at ks os n (index-rises ks os n ix) (index-count ks os n ix) k pos (getD os i 0) w (sym e) in absurd (omega arith))
+        (λ (lt : k < keyAt ks os i). omega arith)
+        (eq-or-lt-of-le q);
+  }

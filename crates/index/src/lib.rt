@@ -137,10 +137,11 @@ fn move_up(order: &mut [u32], at: usize, n: usize)
     }
 }
 
-// Gives the free place s the key k, which no place has and whose rank is `at`.
+// Gives the free place s the key k, which no place has and whose rank is `at`. That is its rank afterwards too.
 pub fn insert_at(keys: &mut [u64], order: &mut [u32], n: usize, at: usize, s: u32, k: u64)
     requires { ⌜ (Insertable (now keys) (now order) n s k) × (LowerBound (now keys) (now order) n k at) ⌝ }
     ensures { λ _. ⌜ (now (keys .exit) ≡ set (now (keys .entry)) s k) × (indexed (now (keys .exit)) (now (order .exit)) (n + 1) ≡ true) ⌝ }
+    ensures { λ _. ⌜ LowerBound (now (keys .exit)) (now (order .exit)) (n + 1) k at ⌝ }
 {
     move_up(order, at, n);
     order[at] = s;

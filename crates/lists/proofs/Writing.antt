@@ -22,7 +22,8 @@ use Rattle.checks.proofs.Passed.{bytes-passed}
 use Rattle.word_steps.specs.Asks.{JournalAsks}
 use Rattle.bodies.proofs.Puts.{shows-then}
 use Rattle.word_steps.proofs.Chains.{Cleared, word-cleared, journal-own, journal-none, note-asks, word-notes-same, write-done}
-use Rattle.write_steps.proofs.Chains.{list-asks, hold-asks, prepared, bytes-cleared, contents-cleared, contents-unjournalled, prepare-asks, journal-asks, aligned-asks, aligned-notes-same, plain-asks, plain-done, put-asks}
+use Rattle.reserve.proofs.Reserving.{list-asks, hold-asks, prepared}
+use Rattle.write_steps.proofs.Chains.{bytes-cleared, contents-cleared, contents-unjournalled, prepare-asks, journal-asks, aligned-asks, aligned-notes-same, plain-asks, plain-done, put-asks}
 use Rattle.lists.proofs.Reach.{Reached, held-there, listed-there, put-there, noted-there, aligned-there}
 
 -- the page is allocated, and its chunks held

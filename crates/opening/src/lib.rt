@@ -222,7 +222,10 @@ fn put_calldata(
     ensures { λ _. let s = settingOf (mem (now (bytes .entry)) (now (keys .entry)) (now (order .entry)) (now (words .entry))) in ⌜ Shows s (opened s (now (calldata .entry))) (mem (now (bytes .exit)) (now (keys .exit)) (now (order .exit)) (now (words .exit))) ⌝ }
 {
     let count = ((calldata.len() + 255) / 256) as u32;
-    chunks::hold_chunks(bytes, keys, order, words, page, 0, count);
+    let e = store::entry_of(keys, order, words, page);
+    let k = store::key_of(e, 0);
+    let at = store::rank_of(keys, order, words, k);
+    chunks::hold_chunks(bytes, keys, order, words, page, 0, count, at, k);
     bodies::write_from(bytes, keys, order, words, page, Address(0), calldata);
 }
 

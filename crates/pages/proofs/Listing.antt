@@ -10,7 +10,7 @@ use native.Mathlib.Omega.{arith}
 use lib.Dec.{ltb, eqb}
 use lib.ListN.{length, getD, set, take, drop, length-set, length-drop, List·getD-eq-default}
 use lib.Seq.{getD-set-same, getD-set-other}
-use borrow.Author.Tests.{lt-ltb, le-ltb, eq-eqb, ne-eqb}
+use borrow.Author.Tests.{lt-ltb, le-ltb, ltb-false, eq-eqb, ne-eqb}
 use Rattle.store.specs.Keys.{keyOf, keyEntry}
 use Rattle.page_ids.specs.declared.Layout.{Layout}
 use Rattle.index.specs.Index.{indexed, seek, freeCount}
@@ -97,6 +97,10 @@ module _ (m : Mem) (p : ℕ) (a : ListAsks m p) where
     }
 
   -- it is not
+  pub no-entry : allocated m p ≡ false → pageCount (m .words) + 4 ≤ entryOf m p
+  unfolding allocated
+  no-entry n = let h = ltb-false (entryOf m p) (length (entries m)) n in let l = entries-long m (a .formed .lengths) in omega arith
+
   module _ (l : pageCount (m .words) + 4 ≤ entryOf m p) where
     pub not-listed : allocated m p ≡ false
     unfolding allocated
@@ -126,7 +130,7 @@ module _ (m : Mem) (p : ℕ) (a : ListAsks m p) where
         }
 
     -- ---- it is given an entry
-    module _ (keys' order' words' : List ℕ) (lk : length keys' ≡ length (m .keys)) (lo : length order' ≡ length (m .order)) (t : EntryTaken p (m .keys) (m .order) (m .words) keys' order' words') where
+    module _ (keys' order' words' : List ℕ) (lk : length keys' ≡ length (m .keys)) (lo : length order' ≡ length (m .order)) {entry : ℕ} (t : EntryTaken p entry (m .keys) (m .order) (m .words) keys' order' words') where
       abbrev m' : Mem
       m' = mem (m .bytes) keys' order' words'
 
@@ -181,17 +185,17 @@ module _ (m : Mem) (p : ℕ) (a : ListAsks m p) where
       order-kept : slotOrder m' ≡ slotOrder m
       order-kept = ap (λ (x : ℕ). take x order') six ∙ t .slots-order
 
-      entries-new : entries m' ≡ set (entries m) (t .entry) (p + 1)
+      entries-new : entries m' ≡ set (entries m) entry (p + 1)
       entries-new = ap (λ (x : ℕ). drop x keys') six ∙ t .entries-are
 
       pages-new : indexed (entries m') (pageOrder m') (inUse words') ≡ true
       pages-new = ap (λ (x : ℕ). indexed (drop x keys') (drop x order') (inUse words')) six ∙ ap (indexed (drop (slotCount (m .words)) keys') (drop (slotCount (m .words)) order')) ten ∙ t .index
 
-      entry-new : getD (entries m') (t .entry) 0 ≡ p + 1
-      entry-new = ap (λ (x : List ℕ). getD x (t .entry) 0) entries-new ∙ getD-set-same (entries m) (t .entry) (p + 1) 0 (t .entry-in)
+      entry-new : getD (entries m') entry 0 ≡ p + 1
+      entry-new = ap (λ (x : List ℕ). getD x entry 0) entries-new ∙ getD-set-same (entries m) entry (p + 1) 0 (t .entry-in)
 
-      entry-other : (x : ℕ) → (x ≡ t .entry → ⊥) → getD (entries m') x 0 ≡ getD (entries m) x 0
-      entry-other x n = ap (λ (y : List ℕ). getD y x 0) entries-new ∙ getD-set-other (entries m) (t .entry) x (p + 1) 0 n
+      entry-other : (x : ℕ) → (x ≡ entry → ⊥) → getD (entries m') x 0 ≡ getD (entries m) x 0
+      entry-other x n = ap (λ (y : List ℕ). getD y x 0) entries-new ∙ getD-set-other (entries m) entry x (p + 1) 0 n
 
       entry-used : (x : ℕ) → 0 < getD (entries m) x 0 → getD (entries m') x 0 ≡ getD (entries m) x 0
       entry-used x u = entry-other x (λ e. let z : getD (entries m) x 0 ≡ 0 = ap (λ (y : ℕ). getD (entries m) y 0) e ∙ t .free in omega arith)
@@ -207,20 +211,20 @@ module _ (m : Mem) (p : ℕ) (a : ListAsks m p) where
       listed-right : (x : ℕ) → 4 ≤ x → 0 < getD (entries m') x 0 → PageRight words' (getD (entries m') x 0)
       listed-right x ge u =
           ⊎-elim
-          (λ (e : x ≡ t .entry).
+          (λ (e : x ≡ entry).
           let q : p + 1 - 1 ≡ p = omega arith in
           let h = max-high (dynamicLength (m .words)) (group (layoutOf (m .words)) p + 1) in
           let g : group (layoutOf (m .words)) p < high = omega arith in
           let w = a .page in
           let r : PageRight words' (p + 1) = page-right (p + 1) (omega arith) (ap (dynamic (layoutOf (m .words))) q ∙ listed-dynamic) (subst (λ (o : ℕ). group (layoutOf (m .words)) o < high) (sym q) g) in
           subst (PageRight words') (sym (ap (λ (y : ℕ). getD (entries m') y 0) e ∙ entry-new)) r)
-          (λ (n : x ≡ t .entry → ⊥).
+          (λ (n : x ≡ entry → ⊥).
           let q = entry-other x n in
           let r = f .listed x ge (omega arith) in
           let g = max-low (dynamicLength (m .words)) (group (layoutOf (m .words)) p + 1) in
           let b = r .below in
           subst (PageRight words') (sym q) (page-right (getD (entries m) x 0) (r .width) (r .kind) (omega arith)))
-          (same-or-not x (t .entry))
+          (same-or-not x entry)
 
       slot-right : (s : ℕ) → 0 < holder m' s → SlotRight m' s (holder m' s)
       slot-right s u =
@@ -282,17 +286,17 @@ module _ (m : Mem) (p : ℕ) (a : ListAsks m p) where
       }
 
       -- ---- what it shows
-      place-new : entryOf m' p ≡ t .entry
-      place-new = seek-is (entries m') (p + 1) (t .entry) (once (entries m') (pageOrder m') (inUse words') pages-new) (omega arith) entry-new
+      pub listed-entry : entryOf m' p ≡ entry
+      listed-entry = seek-is (entries m') (p + 1) entry (once (entries m') (pageOrder m') (inUse words') pages-new) (omega arith) entry-new
 
       place-kept : (q : ℕ) → (q ≡ p → ⊥) → entryOf m' q ≡ entryOf m q
-      place-kept q n = ap (λ (x : List ℕ). seek x (q + 1)) entries-new ∙ seek-other (entries m) (t .entry) (p + 1) (q + 1) (t .free) (omega arith) (λ e. n (omega arith))
+      place-kept q n = ap (λ (x : List ℕ). seek x (q + 1)) entries-new ∙ seek-other (entries m) entry (p + 1) (q + 1) (t .free) (omega arith) (λ e. n (omega arith))
 
       slot-near-kept : (q k : ℕ) → k ≤ 16777216 → seek (holders m) (keyOf (entryOf m' q) k) ≡ seek (holders m) (keyOf (entryOf m q) k)
       slot-near-kept q k x =
           ⊎-elim
           (λ (e : q ≡ p).
-          let n : getD (entries m) (entryOf m' q) 0 ≡ 0 = ap (λ (y : ℕ). getD (entries m) (entryOf m' y) 0) e ∙ ap (λ (y : ℕ). getD (entries m) y 0) place-new ∙ t .free in
+          let n : getD (entries m) (entryOf m' q) 0 ≡ 0 = ap (λ (y : ℕ). getD (entries m) (entryOf m' y) 0) e ∙ ap (λ (y : ℕ). getD (entries m) y 0) listed-entry ∙ t .free in
           let o : getD (entries m) (entryOf m q) 0 ≡ 0 = ap (λ (y : ℕ). getD (entries m) (entryOf m y) 0) e ∙ List·getD-eq-default (entries m) 0 (entry-asks .none) in
           nobody m (a .formed) (entryOf m' q) k n x ∙ sym (nobody m (a .formed) (entryOf m q) k o x))
           (λ (n : q ≡ p → ⊥). ap (λ (y : ℕ). seek (holders m) (keyOf y k)) (place-kept q n))
@@ -314,24 +318,24 @@ module _ (m : Mem) (p : ℕ) (a : ListAsks m p) where
       holds-kept q k = ap (ltb (slotOfChunk m' q k)) six ∙ ap (λ (y : ℕ). ltb y (slotCount (m .words))) (slot-kept q k)
 
       entries-length : length (entries m') ≡ length (entries m)
-      entries-length = ap length entries-new ∙ length-set (entries m) (t .entry) (p + 1)
+      entries-length = ap length entries-new ∙ length-set (entries m) entry (p + 1)
 
       pages-shown : (q : ℕ) → allocated m' q ≡ (eqb q p || allocated m q)
       unfolding allocated
       pages-shown q =
           ap (ltb (entryOf m' q)) entries-length
           ∙ ⊎-elim
-          (λ (e : q ≡ p). rw (eq-eqb q p e) (let n : entryOf m' q ≡ t .entry = ap (entryOf m') e ∙ place-new in let i = t .entry-in in lt-ltb (entryOf m' q) (length (entries m)) (omega arith)))
+          (λ (e : q ≡ p). rw (eq-eqb q p e) (let n : entryOf m' q ≡ entry = ap (entryOf m') e ∙ listed-entry in let i = t .entry-in in lt-ltb (entryOf m' q) (length (entries m)) (omega arith)))
           (λ (n : q ≡ p → ⊥). rw (ne-eqb q p n) (ap (λ (y : ℕ). ltb y (length (entries m))) (place-kept q n)))
           (same-or-not q p)
 
       one-less : freeCount (entries m') ≡ entriesLeft m - 1
       one-less =
           let x = used-free (entries m) in
-          let y = used-free (set (entries m) (t .entry) (p + 1)) in
-          let c = count-fill (entries m) (t .entry) (p + 1) (t .entry-in) (t .free) (omega arith) in
-          let n = length-set (entries m) (t .entry) (p + 1) in
-          ap freeCount entries-new ∙ (let h : freeCount (set (entries m) (t .entry) (p + 1)) ≡ freeCount (entries m) - 1 = omega arith in h)
+          let y = used-free (set (entries m) entry (p + 1)) in
+          let c = count-fill (entries m) entry (p + 1) (t .entry-in) (t .free) (omega arith) in
+          let n = length-set (entries m) entry (p + 1) in
+          ap freeCount entries-new ∙ (let h : freeCount (set (entries m) entry (p + 1)) ≡ freeCount (entries m) - 1 = omega arith in h)
 
       note-kept : (j i : ℕ) → noteOf m' j i ≡ noteOf m j i
       note-kept j i = rw (note-number j i, six, eight)

@@ -58,9 +58,8 @@ module _ (keys order words : List ℕ) (p : ℕ) (ix : EntryAsks keys order word
     pub taken : (e₁ e₂ words' : List ℕ) → e₁ ≡ set (take (length keys - slotCount words) es) e (p + 1)
         → indexed e₁ e₂ (inUse words + 1) ≡ true
         → words' ≡ set (set words 10 (inUse words + 1)) 11 (max (getD (set words 10 (inUse words + 1)) 11 0) (group (layoutOf words) p + 1))
-        → EntryTaken p keys order words (take (slotCount words) keys ++ (e₁ ++ drop (length keys - slotCount words) es)) (take (slotCount words) order ++ (e₂ ++ drop (length order - slotCount words) (drop (slotCount words) order))) words'
+        → EntryTaken p e keys order words (take (slotCount words) keys ++ (e₁ ++ drop (length keys - slotCount words) es)) (take (slotCount words) order ++ (e₂ ++ drop (length order - slotCount words) (drop (slotCount words) order))) words'
     taken e₁ e₂ words' q i w = record {
-      entry = e;
       entry-in = entry-in;
       free = entry-free;
       holders-are = rest-low keys e₁ (slotCount words) (ix .pages .in-keys);

@@ -20,9 +20,8 @@ pub record EntryAsks (keys order words : List ℕ) (p : ℕ) : Type 0 where
   pub above : layoutOf words .base .0 ≤ p
   pub stride : 0 < layoutOf words .stride
 
--- keys', order', words' are keys, order, words after a free entry was given to page p
-pub record EntryTaken (p : ℕ) (keys order words keys' order' words' : List ℕ) : Type 0 where
-  pub entry : ℕ
+-- keys', order', words' are keys, order, words after the free entry was given to page p
+pub record EntryTaken (p entry : ℕ) (keys order words keys' order' words' : List ℕ) : Type 0 where
   pub entry-in : entry < length (drop (slotCount words) keys)
   pub free : getD (drop (slotCount words) keys) entry 0 ≡ 0
   pub holders-are : take (slotCount words) keys' ≡ take (slotCount words) keys

@@ -1,9 +1,11 @@
 // Page entries: a page is allocated.
 ghost use mathlib.Core.Path.{_≡_};
+ghost use mathlib.Core.Bool.{false};
 ghost use Prim.Native.Nat.{_≤_, max};
 ghost use lib.ListN.{length, set};
 ghost use Rattle.store.specs.Mem.{mem, headLength, dynamicLengthPlace, dynamicLength};
-ghost use Rattle.view.specs.View.{settingOf};
+ghost use Rattle.formed.specs.Parts.{entryOf};
+ghost use Rattle.view.specs.View.{settingOf, viewOf};
 ghost use Rattle.view.specs.Does.{Shows};
 ghost use Rattle.view.specs.Inner.{listing, ListAsks};
 ghost use Rattle.pages.specs.Entry.{EntryAsks, EntryTaken};
@@ -21,10 +23,10 @@ fn raise(words: &mut [u64], least: u64)
     words[head::DYNAMIC_LENGTH] = least;
 }
 
-// Gives a free entry to a dynamic page that has none, and makes the dynamic length reach past its group.
-fn take_entry(keys: &mut [u64], order: &mut [u32], words: &mut [u64], page: PageId)
+// Gives a free entry to a dynamic page that has none, makes the dynamic length reach past its group, and returns the entry.
+fn take_entry(keys: &mut [u64], order: &mut [u32], words: &mut [u64], page: PageId) -> usize
     requires { ⌜ EntryAsks (now keys) (now order) (now words) (page .0) ⌝ }
-    ensures { λ _. ⌜ EntryTaken (page .0) (now (keys .entry)) (now (order .entry)) (now (words .entry)) (now (keys .exit)) (now (order .exit)) (now (words .exit)) ⌝ }
+    ensures { λ r. ⌜ EntryTaken (page .0) r (now (keys .entry)) (now (order .entry)) (now (words .entry)) (now (keys .exit)) (now (order .exit)) (now (words .exit)) ⌝ }
 {
     let c = words[head::CHUNKS] as usize;
     let n = words[head::ENTRIES] as usize;
@@ -39,16 +41,20 @@ fn take_entry(keys: &mut [u64], order: &mut [u32], words: &mut [u64], page: Page
     );
     words[head::ENTRIES] = (n + 1) as u64;
     raise(words, group + 1);
+    e
 }
 
-// Allocates a page that can be; one that is stays as it is.
-pub fn list_page(bytes: &[u8], keys: &mut [u64], order: &mut [u32], words: &mut [u64], page: PageId)
-    requires { ⌜ ListAsks (mem (now bytes) (now keys) (now order) (now words)) (page .0) ⌝ }
+// Allocates a page that is not allocated and can be, and returns its entry.
+pub fn list_page(
+    bytes: &[u8],
+    keys: &mut [u64],
+    order: &mut [u32],
+    words: &mut [u64],
+    page: PageId,
+) -> usize
+    requires { ⌜ (ListAsks (mem (now bytes) (now keys) (now order) (now words)) (page .0)) × (viewOf (mem (now bytes) (now keys) (now order) (now words)) .allocated (page .0) ≡ false) ⌝ }
     ensures { λ _. ⌜ Shows (settingOf (mem (now (bytes .entry)) (now (keys .entry)) (now (order .entry)) (now (words .entry)))) (listing (mem (now (bytes .entry)) (now (keys .entry)) (now (order .entry)) (now (words .entry))) (page .0)) (mem (now (bytes .entry)) (now (keys .exit)) (now (order .exit)) (now (words .exit))) ⌝ }
+    ensures { λ r. ⌜ r ≡ entryOf (mem (now (bytes .entry)) (now (keys .exit)) (now (order .exit)) (now (words .exit))) (page .0) ⌝ }
 {
-    let e = store::entry_of(keys, order, words, page);
-    if (e as u64) < words[head::PAGES] + head::FIXED_PAGES {
-        return;
-    }
-    take_entry(keys, order, words, page);
+    take_entry(keys, order, words, page)
 }

@@ -42,6 +42,7 @@ fn take_slot(keys: &mut [u64], order: &mut [u32], words: &mut [u64], at: usize, 
     requires { ⌜ (Indexed (now keys) (now order) (now words)) × (Ranked (now keys) (now order) (now words) k at) ⌝ }
     requires { ⌜ (0 < k) × (slotCount (now words) ≤ seek (take (slotCount (now words)) (now keys)) k) × (heldNow (now words) < slotCount (now words)) ⌝ }
     ensures { λ r. ⌜ Taken k (now (keys .entry)) (now (order .entry)) (now (words .entry)) r (now (keys .exit)) (now (order .exit)) (now (words .exit)) ⌝ }
+    ensures { λ _. ⌜ Ranked (now (keys .exit)) (now (order .exit)) (now (words .exit)) k at ⌝ }
 {
     let c = words[head::CHUNKS] as usize;
     let n = words[head::HELD] as usize;
@@ -51,11 +52,12 @@ fn take_slot(keys: &mut [u64], order: &mut [u32], words: &mut [u64], at: usize, 
     s
 }
 
-// The slot of the key k, whose rank is `at`, taken from the pool where none has it yet.
+// The slot of the key k, whose rank is `at`, taken from the pool where none has it yet. The rank of the next key is then at + 1.
 pub fn hold(keys: &mut [u64], order: &mut [u32], words: &mut [u64], at: usize, k: u64) -> usize
     requires { ⌜ (Indexed (now keys) (now order) (now words)) × (Ranked (now keys) (now order) (now words) k at) ⌝ }
     requires { ⌜ (0 < k) × (lacks (take (slotCount (now words)) (now keys)) k + heldNow (now words) ≤ slotCount (now words)) ⌝ }
     ensures { λ r. ⌜ Held k (now (keys .entry)) (now (order .entry)) (now (words .entry)) r (now (keys .exit)) (now (order .exit)) (now (words .exit)) ⌝ }
+    ensures { λ _. ⌜ Ranked (now (keys .exit)) (now (order .exit)) (now (words .exit)) (k + 1) (at + 1) ⌝ }
 {
     let c = words[head::CHUNKS] as usize;
     let s = store::slot_at_rank(keys, order, words, at, k);

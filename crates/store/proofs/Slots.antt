@@ -3,10 +3,13 @@
 use mathlib.Core.Path.{_≡_, ap, _∙_}
 use mathlib.Core.Bool.{true}
 use mathlib.Core.List.{List}
-use Prim.Native.Nat.{ℕ, _-_, _≤_}
+use Prim.Native.Nat.{ℕ, _+_, _-_, _≤_, _<_}
+use native.Mathlib.Omega.{arith}
 use lib.ListN.{length, take}
+use lib.Seq.{length-take-le}
 use Rattle.index.specs.Index.{indexed, seek, LowerBound}
 use Rattle.index.proofs.Orders.{index-fits}
+use Rattle.index.proofs.Places.{rank-next, rank-same}
 use Rattle.store.specs.Mem.{slotCount, heldNow}
 use Rattle.store.specs.Indexed.{Indexed, Ranked}
 use Rattle.store.proofs.Parts.{sub-zero}
@@ -26,3 +29,11 @@ module _ (keys order words : List ℕ) (ix : Indexed keys order words) where
 
   pub rank-part : (k at : ℕ) → LowerBound (take (slotCount words - 0) keys) (take (slotCount words - 0) order) (heldNow words) k at → Ranked keys order words k at
   rank-part k at r = rw (sub-zero (slotCount words)) at r
+
+  -- the rank of the next key, where a slot has this one and where none has
+  module _ (k at : ℕ) (pos : 0 < k) (r : Ranked keys order words k at) where
+    pub ranked-next : seek (take (slotCount words) keys) k < slotCount words → Ranked keys order words (k + 1) (at + 1)
+    ranked-next l = rank-next (take (slotCount words) keys) (take (slotCount words) order) (heldNow words) k at (ix .index) pos r (let n = length-take-le (slotCount words) keys (ix .in-keys) in omega arith)
+
+    pub ranked-same : slotCount words ≤ seek (take (slotCount words) keys) k → Ranked keys order words (k + 1) at
+    ranked-same l = rank-same (take (slotCount words) keys) (take (slotCount words) order) (heldNow words) k at (ix .index) pos r (let n = length-take-le (slotCount words) keys (ix .in-keys) in omega arith)

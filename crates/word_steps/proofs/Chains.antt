@@ -20,7 +20,7 @@ use Rattle.view.specs.Does.{Shows}
 use Rattle.view.specs.Inner.{listing, holding, noting, journalling, putting, NoteAsks}
 use Rattle.view.proofs.Compose.{over-none, written-is, own-journal, unjournalled}
 use Rattle.bodies.proofs.Puts.{shows-view}
-use Rattle.checks.proofs.Passed.{Room, word-passed}
+use Rattle.checks.proofs.Passed.{RoomAt, word-passed}
 use Rattle.word_steps.specs.Asks.{JournalAsks}
 
 -- ---- a call that passed its tests: k is the count of chunks that its n bytes at address a touch, as computed
@@ -28,7 +28,7 @@ pub record Cleared (m : Mem) (p a n w k : ℕ) : Type 0 where
   pub formed : WellFormed m
   pub page : p ≤ 4294967295
   pub known : undecodable (settingOf m) p ≡ false
-  pub room : Room (settingOf m) (viewOf m) p a n w
+  pub room : RoomAt (settingOf m) (viewOf m) p a n w
   pub end : a + n ≤ 4294967327
   pub count : k ≡ touchedCount a n
 

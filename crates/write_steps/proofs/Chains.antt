@@ -8,10 +8,9 @@ use native.Mathlib.Omega.{arith}
 use lib.Dec.{ltb, leb}
 use lib.ListN.{length}
 use borrow.Author.Tests.{lt-ltb, le-leb, eq-eqb}
-use Rattle.view.proofs.Missing.{missing-same}
+use Rattle.view.proofs.Missing.{missing-all}
 use Rattle.view.specs.Calls.{firstRefusal}
 use Rattle.page_ids.specs.declared.Layout.{Layout}
-use Rattle.store.specs.Keys.{lastChunk}
 use Rattle.store.specs.Mem.{Mem, layoutOf, journalWords, holders}
 use Rattle.formed.specs.Pages.{journalCount, journalPlace, journalPage}
 use Rattle.formed.proofs.Sense.{unlisted-holds}
@@ -20,18 +19,19 @@ use Rattle.formed.specs.Parts.{Note}
 use Rattle.formed.specs.WellFormed.{WellFormed}
 use Rattle.formed.proofs.Pages.{is-fixed, place-lt}
 use Rattle.view.specs.View.{View, Setting, settingOf, viewOf}
-use Rattle.view.specs.Steps.{needs, missing, touchedCount, alignedCount, alignedNotes, written}
+use Rattle.view.specs.Steps.{needs, touchedCount, alignedCount, alignedNotes, written}
 use Rattle.view.specs.Does.{Shows}
-use Rattle.view.specs.Inner.{listing, holding, noting, journalling, putting, ListAsks, HoldAsks, PutAsks}
-use Rattle.view.proofs.Compose.{listed-held, listed-pool, listed-journal, plain-write}
+use Rattle.view.specs.Inner.{listing, holding, noting, journalling, putting, ListAsks, PutAsks}
+use Rattle.view.proofs.Compose.{listed-journal, plain-write}
 use Rattle.journal.specs.Steps.{AlignedAsks, alignedFrom}
 use Rattle.bodies.proofs.Puts.{shows-then, shows-view}
 use Rattle.word_steps.specs.Asks.{JournalAsks}
 use Rattle.word_steps.proofs.Chains.{Cleared, ready, run-same}
-use Rattle.write_steps.specs.Asks.{PrepareAsks}
+use Rattle.reserve.specs.Asks.{PrepareAsks}
 use Rattle.index.proofs.Counts.{used-free}
 use Rattle.formed.proofs.Sizes.{holders-long}
 use Rattle.view.specs.Checks.{byteWriteChecks, allocateChecks}
+use Rattle.checks.proofs.Chosen.{touched-top}
 use Rattle.checks.proofs.Passed.{decodable, bytes-passed, allocate-passed}
 
 -- ---- ranges
@@ -40,33 +40,6 @@ pub touched-in : (a n x : ℕ) → x < n → (leb (a / 256) ((a + x) / 256) && l
 touched-in a zero x l = absurd (omega arith)
 touched-in a (suc n) x l =
     rw (le-leb (a / 256) ((a + x) / 256) (omega arith), lt-ltb ((a + x) / 256) (a / 256 + ((a + n) / 256 - a / 256 + 1)) (omega arith)) refl
-
--- and none lies past the last
-pub touched-top : (a n : ℕ) → a + n ≤ 4294967327 → a / 256 + touchedCount a n ≤ lastChunk + 1
-touched-top a zero l = omega arith
-touched-top a (suc n) l = omega arith
-
--- ---- the page is allocated, and its chunks held
-module _ (m : Mem) (p k n : ℕ) (asks : PrepareAsks m p k n) where
-  pub list-asks : ListAsks m p
-  list-asks = record { formed = asks .formed; page = asks .page; decodable = asks .decodable; entry = asks .entry }
-
-  module _ (m₁ : Mem) (listed : Shows (settingOf m) (listing m p) m₁) where
-    pub hold-asks : HoldAsks m₁ p k n
-    hold-asks = record {
-      formed = listed .formed;
-      listed = ap (λ (v : View). v .allocated p) (listed .view) ∙ ap (λ (b : Bool). b || viewOf m .allocated p) (eq-eqb p p refl);
-      top = asks .top;
-      room =
-          let e : missing (viewOf m₁ .held p) k n ≡ missing (viewOf m .held p) k n =
-          missing-same (viewOf m₁ .held p) (viewOf m .held p) (λ j. ap (λ (v : View). v .held p j) (listed .view) ∙ listed-held (layoutOf (m .words)) p (viewOf m) p j) k n in
-          let q : viewOf m₁ .pool ≡ viewOf m .pool = ap (λ (v : View). v .pool) (listed .view) ∙ listed-pool (layoutOf (m .words)) p (viewOf m) in
-          let r = asks .room in
-          omega arith;
-    }
-
-    pub prepared : (m₂ : Mem) → Shows (settingOf m₁) (holding p k n (viewOf m₁)) m₂ → Shows (settingOf m) (holding p k n (listing m p)) m₂
-    prepared m₂ held = shows-then (holding p k n) listed held
 
 -- ---- a call that passed its tests
 module _ (m : Mem) (p a k : ℕ) (page : p ≤ 4294967295) where
@@ -77,11 +50,6 @@ module _ (m : Mem) (p a k : ℕ) (page : p ≤ 4294967295) where
       record { formed = asks .0; page = page; known = h .0; room = h .2; end = omega arith; count = e }
 
 -- contents for which the pool suffices are short: a page that is not allocated holds no chunk
-missing-all : (t : ℕ → Bool) → ((i : ℕ) → t i ≡ false) → (k n : ℕ) → missing t k n ≡ n
-unfolding missing
-missing-all t h k zero = refl
-missing-all t h k (suc n) = rw (missing-all t h k n, h (k + n)) (omega arith)
-
 contents-end : (m : Mem) → WellFormed m → (p n : ℕ) → viewOf m .allocated p ≡ false → needs (viewOf m) p 0 n ≤ viewOf m .pool → 0 + n ≤ 4294967327
 contents-end m f p n new room =
     let e = missing-all (viewOf m .held p) (λ k. unlisted-holds m f p k new) (0 / 256) (touchedCount 0 n) in

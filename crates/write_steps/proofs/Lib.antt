@@ -2,3 +2,4 @@
 pub mod Chains
 pub mod Searched
 pub mod One
+pub mod Passing

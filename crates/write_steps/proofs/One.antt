@@ -1,19 +1,16 @@
 -- A word in one chunk of an allocated page, by searches: nothing has to be listed, and one chunk at most has to be held.
 -- Assumes nothing.
 use mathlib.Core.Path.{_≡_, refl, sym, ap, _∙_}
-use mathlib.Core.Bool.{true}
 use Prim.Native.Nat.{ℕ, _+_, _/_, _%_, _<_, _≤_}
 use native.Mathlib.Omega.{arith}
 use lib.ListN.{length}
 use Rattle.outcome.specs.Outcome.{answered}
 use Rattle.word.specs.Value.{wordBytes}
 use Rattle.word.proofs.Digits.{digits-long}
-use borrow.Author.Tests.{lt-ltb}
 use Rattle.index.specs.Index.{seek}
 use Rattle.store.specs.Keys.{keyOf}
-use Rattle.store.specs.Mem.{Mem, layoutOf, slotCount, pageCount, holders, entries}
-use Rattle.formed.specs.Parts.{entryOf, slotOfChunk, allocated}
-use Rattle.formed.proofs.Sizes.{entries-long}
+use Rattle.store.specs.Mem.{Mem, layoutOf, slotCount, pageCount, holders}
+use Rattle.formed.specs.Parts.{entryOf, slotOfChunk}
 use Rattle.formed.proofs.Sense.{slot-near}
 use Rattle.formed.specs.WellFormed.{WellFormed}
 use Rattle.view.specs.View.{View, Setting, settingOf, viewOf}
@@ -25,13 +22,9 @@ use Rattle.view.specs.Inner.{listing, holding, HoldAsks}
 use Rattle.pages.proofs.Listing.{listed-already}
 use Rattle.word_steps.specs.Asks.{WordAsks, wordPut}
 use Rattle.word_steps.proofs.Chains.{Cleared, word-cleared, word-notes-same, write-done}
-use Rattle.write_steps.proofs.Chains.{prepare-asks, list-asks, hold-asks, prepared, journal-asks}
+use Rattle.reserve.proofs.Reserving.{list-asks, hold-asks, prepared}
+use Rattle.write_steps.proofs.Chains.{prepare-asks, journal-asks}
 use Rattle.write_steps.proofs.Searched.{searched-done}
-
--- the page has an entry, so it is allocated
-pub one-listed : (m : Mem) → WellFormed m → (p e : ℕ) → e ≡ entryOf m p → e < pageCount (m .words) + 4 → viewOf m .allocated p ≡ true
-unfolding allocated
-one-listed m f p e is l = let n = entries-long m (f .lengths) in lt-ltb (entryOf m p) (length (entries m)) (omega arith)
 
 -- the chunk's slot, from its key
 pub one-place : (m : Mem) (p a e k s : ℕ) → a ≤ 4294967295 → e ≡ entryOf m p → k ≡ keyOf e (a / 256) → s ≡ seek (holders m) k → s ≡ slotOfChunk m p (a / 256)

@@ -1,9 +1,11 @@
--- A word write by searches, and the outcome of any, from its number.
+-- A write by searches, and the outcome of any, from its number.
 -- Assumes nothing.
 use mathlib.Core.Path.{_≡_, refl, sym, ap, _∙_, subst}
 use mathlib.Core.Bool.{true}
+use mathlib.Core.List.{List}
 use Prim.Native.Nat.{ℕ, zero, suc, _+_, _/_, _≤_, _<_}
 use native.Mathlib.Omega.{arith}
+use lib.ListN.{length}
 use borrow.Author.Tests.{ltb-true}
 use Rattle.outcome.specs.Outcome.{refused, done, answered}
 use Rattle.word.specs.Value.{wordBytes}
@@ -13,9 +15,9 @@ use Rattle.formed.specs.Parts.{slotOfChunk, holds}
 use Rattle.formed.specs.WellFormed.{WellFormed}
 use Rattle.formed.proofs.Hints.{slot-found}
 use Rattle.view.specs.View.{settingOf, viewOf}
-use Rattle.view.specs.Steps.{wordWritten}
-use Rattle.view.specs.Checks.{wordWriteChecks}
-use Rattle.view.specs.Calls.{Call, WriteWord, nothing, nextOf, firstRefusal, CallDoes}
+use Rattle.view.specs.Steps.{alignedCount, wordWritten, bytesWritten}
+use Rattle.view.specs.Checks.{wordWriteChecks, byteWriteChecks}
+use Rattle.view.specs.Calls.{Call, WriteWord, WriteBytes, nothing, nextOf, firstRefusal, CallDoes}
 use Rattle.view.specs.Does.{Shows}
 use Rattle.view.proofs.Refused.{next, refused-does, done-does}
 use Rattle.checks.proofs.Passed.{room-refusals}
@@ -56,6 +58,15 @@ module _ (m : Mem) (p a n : ℕ) where
 
     pub searched-done : firstRefusal (wordWriteChecks (settingOf m) (viewOf m) p a) ≡ 0 → (m' : Mem) → Shows (settingOf m) (wordWritten (layoutOf (m .words)) p a (wordBytes n) (viewOf m)) m' → CallDoes m (WriteWord p a n) (answered 0 nothing) m'
     searched-done e m' shown = done-does m f (wordWriteChecks (settingOf m) (viewOf m) p a) (settingOf m) (nextOf (settingOf m) (WriteWord p a n) (viewOf m)) (next (room-refusals (settingOf m) (viewOf m) p a 32 1)) e shown
+
+-- ---- bytes
+module _ (m : Mem) (p a : ℕ) (bs : List ℕ) (f : WellFormed m) where
+  pub range-refused : (r : ℕ) → r ≡ firstRefusal (byteWriteChecks (settingOf m) (viewOf m) p a (length bs)) → (r ≡ 0 → ⊥) → CallDoes m (WriteBytes p a bs) (answered r nothing) m
+  range-refused zero e z = absurd (z refl)
+  range-refused (suc r) e z = refused-does m f (byteWriteChecks (settingOf m) (viewOf m) p a (length bs)) (settingOf m) (nextOf (settingOf m) (WriteBytes p a bs) (viewOf m)) (suc r) e z
+
+  pub range-done : firstRefusal (byteWriteChecks (settingOf m) (viewOf m) p a (length bs)) ≡ 0 → (m' : Mem) → Shows (settingOf m) (bytesWritten (layoutOf (m .words)) p a bs (viewOf m)) m' → CallDoes m (WriteBytes p a bs) (answered 0 nothing) m'
+  range-done e m' shown = done-does m f (byteWriteChecks (settingOf m) (viewOf m) p a (length bs)) (settingOf m) (nextOf (settingOf m) (WriteBytes p a bs) (viewOf m)) (next (next (room-refusals (settingOf m) (viewOf m) p a (length bs) (alignedCount a (length bs))))) e shown
 
 -- ---- the outcome, from its number
 pub number-refused : (m : Mem) (c : Call) (r : ℕ) (m' : Mem) → (r ≡ 0 → ⊥) → CallDoes m c (answered r nothing) m' → CallDoes m c (refused r) m'

@@ -1,5 +1,5 @@
 // Word writes to a well-formed memory.
-// What any other write or an allocation does once it is not refused: the page is allocated, its chunks are held, the words journalled, the bytes put.
+// Any other write, and what an allocation does once it is not refused: the page holds its chunks, the words are journalled, the bytes put.
 ghost use mathlib.Core.Path.{_≡_};
 ghost use Prim.Native.Nat.{_+_, _%_, _<_, _≤_, _^_};
 ghost use lib.ListN.{length};
@@ -10,33 +10,18 @@ ghost use Rattle.store.specs.Mem.{mem, layoutOf, pageCount, fixedCount};
 ghost use Rattle.formed.specs.Parts.{entryOf};
 ghost use Rattle.formed.specs.WellFormed.{WellFormed};
 ghost use Rattle.view.specs.View.{settingOf, viewOf};
-ghost use Rattle.view.specs.Steps.{alignedCount, alignedNotes, wordWritten, bytesWritten, contentsAllocated};
-ghost use Rattle.view.specs.Checks.{wordWriteChecks, byteWriteChecks, allocateChecks};
+ghost use Rattle.view.specs.Steps.{alignedCount, alignedNotes, contentsAllocated};
+ghost use Rattle.view.specs.Checks.{allocateChecks};
 ghost use Rattle.view.specs.Does.{Shows};
-ghost use Rattle.view.specs.Inner.{listing, holding, journalling};
+ghost use Rattle.view.specs.Inner.{journalling};
 ghost use Rattle.word_steps.specs.Asks.{JournalAsks, wordPut};
-ghost use Rattle.write_steps.specs.Asks.{PrepareAsks};
 use page_ids::Address;
 use page_ids::PageId;
 use store::head;
 use word::Word;
 
-// The page is allocated and holds the chunks first, .., first + count - 1.
-fn prepare(
-    bytes: &[u8],
-    keys: &mut [u64],
-    order: &mut [u32],
-    words: &mut [u64],
-    page: PageId,
-    first: u32,
-    count: u32,
-)
-    requires { ⌜ PrepareAsks (mem (now bytes) (now keys) (now order) (now words)) (page .0) first count ⌝ }
-    ensures { λ _. ⌜ Shows (settingOf (mem (now (bytes .entry)) (now (keys .entry)) (now (order .entry)) (now (words .entry)))) (holding (page .0) first count (listing (mem (now (bytes .entry)) (now (keys .entry)) (now (order .entry)) (now (words .entry))) (page .0))) (mem (now (bytes .entry)) (now (keys .exit)) (now (order .exit)) (now (words .exit))) ⌝ }
-{
-    pages::list_page(bytes, keys, order, words, page);
-    chunks::hold_chunks(bytes, keys, order, words, page, first, count);
-}
+// How many addresses a page has.
+const ADDRESSES: u64 = 4294967296;
 
 // Each aligned word that n bytes touch is journalled, if their page has a journal.
 fn journal_range(
@@ -76,25 +61,7 @@ fn write_held(
     word_steps::write_at(bytes, keys, order, words, page, address, s, t, word);
 }
 
-// A word is written whether or not its page is allocated, its chunks are held and its page has a journal.
-fn write_new(
-    bytes: &mut [u8],
-    keys: &mut [u64],
-    order: &mut [u32],
-    words: &mut [u64],
-    page: PageId,
-    address: Address,
-    word: Word,
-)
-    requires { ⌜ (WellFormed (mem (now bytes) (now keys) (now order) (now words))) × (firstRefusal (wordWriteChecks (settingOf (mem (now bytes) (now keys) (now order) (now words))) (viewOf (mem (now bytes) (now keys) (now order) (now words))) (page .0) (address .0)) ≡ 0) ⌝ }
-    ensures { λ _. ⌜ Shows (settingOf (mem (now (bytes .entry)) (now (keys .entry)) (now (order .entry)) (now (words .entry)))) (wordWritten (layoutOf (now (words .entry))) (page .0) (address .0) (wordBytes (value (word .limbs))) (viewOf (mem (now (bytes .entry)) (now (keys .entry)) (now (order .entry)) (now (words .entry))))) (mem (now (bytes .exit)) (now (keys .exit)) (now (order .exit)) (now (words .exit))) ⌝ }
-{
-    let count = checks::touched(address, 32) as u32;
-    prepare(bytes, keys, order, words, page, address.0 / 256, count);
-    write_held(bytes, keys, order, words, page, address, word);
-}
-
-// Writes any word: the refusals first, and then the steps, each with a lookup of its own.
+// Writes a word wherever it lies. The page's entry is e.
 fn write_any(
     bytes: &mut [u8],
     keys: &mut [u64],
@@ -102,16 +69,31 @@ fn write_any(
     words: &mut [u64],
     page: PageId,
     address: Address,
+    e: usize,
     word: Word,
 ) -> u32
-    requires { ⌜ WellFormed (mem (now bytes) (now keys) (now order) (now words)) ⌝ }
+    requires { ⌜ (WellFormed (mem (now bytes) (now keys) (now order) (now words))) × (e ≡ entryOf (mem (now bytes) (now keys) (now order) (now words)) (page .0)) ⌝ }
     ensures { λ r. ⌜ CallDoes (mem (now (bytes .entry)) (now (keys .entry)) (now (order .entry)) (now (words .entry))) (Call.WriteWord (page .0) (address .0) (value (word .limbs))) (answered r nothing) (mem (now (bytes .exit)) (now (keys .exit)) (now (order .exit)) (now (words .exit))) ⌝ }
 {
-    let number = checks::word_refusal(bytes, keys, order, words, page, address);
+    if page_ids::is_undecodable(checks::decode(words, page)) {
+        return 4;
+    }
+    let count = checks::touched(address, 32) as u32;
+    let number = reserve::reserve(
+        bytes,
+        keys,
+        order,
+        words,
+        page,
+        e,
+        address.0 / 256,
+        count,
+        1,
+    );
     if number != 0 {
         return number;
     }
-    write_new(bytes, keys, order, words, page, address, word);
+    write_held(bytes, keys, order, words, page, address, word);
     0
 }
 
@@ -143,7 +125,7 @@ fn write_one(
     0
 }
 
-// Writes a word by searches. The page's entry is found once where the page is allocated and the word lies in one chunk, as when a page grows.
+// Writes a word by searches. The page's entry is found once.
 pub fn write_searched(
     bytes: &mut [u8],
     keys: &mut [u64],
@@ -156,12 +138,12 @@ pub fn write_searched(
     requires { ⌜ WellFormed (mem (now bytes) (now keys) (now order) (now words)) ⌝ }
     ensures { λ r. ⌜ CallDoes (mem (now (bytes .entry)) (now (keys .entry)) (now (order .entry)) (now (words .entry))) (Call.WriteWord (page .0) (address .0) (value (word .limbs))) (answered r nothing) (mem (now (bytes .exit)) (now (keys .exit)) (now (order .exit)) (now (words .exit))) ⌝ }
 {
-    if address.0 % 256 > 224 {
-        return write_any(bytes, keys, order, words, page, address, word);
-    }
     let e = store::entry_of(keys, order, words, page);
+    if address.0 % 256 > 224 {
+        return write_any(bytes, keys, order, words, page, address, e, word);
+    }
     if (e as u64) >= words[head::PAGES] + head::FIXED_PAGES {
-        return write_any(bytes, keys, order, words, page, address, word);
+        return write_any(bytes, keys, order, words, page, address, e, word);
     }
     write_one(bytes, keys, order, words, page, address, e, word)
 }
@@ -186,6 +168,7 @@ pub fn write_word(
     write_searched(bytes, keys, order, words, page, address, word)
 }
 
+// Writes bytes.
 pub fn write_range(
     bytes: &mut [u8],
     keys: &mut [u64],
@@ -194,14 +177,36 @@ pub fn write_range(
     page: PageId,
     start: Address,
     src: &[u8],
-)
-    requires { ⌜ (WellFormed (mem (now bytes) (now keys) (now order) (now words))) × (firstRefusal (byteWriteChecks (settingOf (mem (now bytes) (now keys) (now order) (now words))) (viewOf (mem (now bytes) (now keys) (now order) (now words))) (page .0) (start .0) (length (now src))) ≡ 0) ⌝ }
-    ensures { λ _. ⌜ Shows (settingOf (mem (now (bytes .entry)) (now (keys .entry)) (now (order .entry)) (now (words .entry)))) (bytesWritten (layoutOf (now (words .entry))) (page .0) (start .0) (now (src .entry)) (viewOf (mem (now (bytes .entry)) (now (keys .entry)) (now (order .entry)) (now (words .entry))))) (mem (now (bytes .exit)) (now (keys .exit)) (now (order .exit)) (now (words .exit))) ⌝ }
+) -> u32
+    requires { ⌜ WellFormed (mem (now bytes) (now keys) (now order) (now words)) ⌝ }
+    ensures { λ r. ⌜ CallDoes (mem (now (bytes .entry)) (now (keys .entry)) (now (order .entry)) (now (words .entry))) (Call.WriteBytes (page .0) (start .0) (now (src .entry))) (answered r nothing) (mem (now (bytes .exit)) (now (keys .exit)) (now (order .exit)) (now (words .exit))) ⌝ }
 {
+    if page_ids::is_undecodable(checks::decode(words, page)) {
+        return 4;
+    }
+    if (src.len() as u64) > ADDRESSES - (start.0 as u64) {
+        return 8;
+    }
     let count = checks::touched(start, src.len()) as u32;
-    prepare(bytes, keys, order, words, page, start.0 / 256, count);
+    let notes = checks::aligned(start, src.len());
+    let e = store::entry_of(keys, order, words, page);
+    let number = reserve::reserve(
+        bytes,
+        keys,
+        order,
+        words,
+        page,
+        e,
+        start.0 / 256,
+        count,
+        notes,
+    );
+    if number != 0 {
+        return number;
+    }
     journal_range(bytes, keys, order, words, page, start, src.len());
     bodies::write_from(bytes, keys, order, words, page, start, src);
+    0
 }
 
 // The page is allocated with contents from address 0.
@@ -217,6 +222,6 @@ pub fn fill(
     ensures { λ _. ⌜ Shows (settingOf (mem (now (bytes .entry)) (now (keys .entry)) (now (order .entry)) (now (words .entry)))) (contentsAllocated (layoutOf (now (words .entry))) (page .0) (now (contents .entry)) (viewOf (mem (now (bytes .entry)) (now (keys .entry)) (now (order .entry)) (now (words .entry))))) (mem (now (bytes .exit)) (now (keys .exit)) (now (order .exit)) (now (words .exit))) ⌝ }
 {
     let count = checks::touched(Address(0), contents.len()) as u32;
-    prepare(bytes, keys, order, words, page, 0, count);
+    reserve::prepare_new(bytes, keys, order, words, page, 0, count);
     bodies::write_from(bytes, keys, order, words, page, Address(0), contents);
 }

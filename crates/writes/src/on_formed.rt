@@ -41,11 +41,10 @@ pub fn write_bytes(
     requires { ⌜ WellFormed (mem (now bytes) (now keys) (now order) (now words)) ⌝ }
     ensures { λ r. ⌜ CallDoes (mem (now (bytes .entry)) (now (keys .entry)) (now (order .entry)) (now (words .entry))) (Call.WriteBytes (page .0) (start .0) (now (src .entry))) (answerOutcome nothing r) (mem (now (bytes .exit)) (now (keys .exit)) (now (order .exit)) (now (words .exit))) ⌝ }
 {
-    let refusal = checks::bytes_refusal(bytes, keys, order, words, page, start, src.len());
+    let refusal = write_steps::write_range(bytes, keys, order, words, page, start, src);
     if refusal != 0 {
         return Answer::Refused(refusal);
     }
-    write_steps::write_range(bytes, keys, order, words, page, start, src);
     Answer::Done
 }
 

@@ -3,7 +3,7 @@
 use std::hint::black_box;
 
 use vm2_example::testonly::speed::Plain;
-use zincpapaya::PageId;
+use zincpapaya::{Heaps, PageId};
 
 use crate::{
     both::{free, roll_back, write, Both, LAYOUT, WORD},
@@ -143,26 +143,55 @@ pub fn frees(others: u32, low: bool) -> Times {
     times
 }
 
-/// Writes to chunks that are not held yet, each at the end of its page. vm2 has them in its pool: both sides freed them.
-pub fn pooled(chunks: u32) -> Times {
+/// Writes at all these addresses of one page, upwards, to chunks that are not held yet. vm2 has them in its pool: both
+/// sides freed the page before.
+fn taking(
+    chunks: u32,
+    starts: &[u32],
+    vm2: impl Fn(&mut Plain, u32),
+    ours: impl Fn(&mut Heaps, u32),
+) -> Times {
     let mut both = Both::holding(Held::by_one_page(chunks));
-    let starts: Vec<u32> = (0..chunks).map(|chunk| chunk * 256).collect();
     let times = Times::of(
         starts.len(),
         || {
             both.vm2.deallocate(heap(0));
-            each(&starts, |a| both.vm2.write_u256(heap(0), a, black_box(WORD)))
+            each(starts, |a| vm2(&mut both.vm2, a))
         },
         || {
             free(&mut both.ours, heap(0));
-            each(&starts, |a| write(&mut both.ours, heap(0), a, black_box(WORD)))
+            each(starts, |a| ours(&mut both.ours, a))
         },
     );
     both.compare_page(heap(0), chunks);
     times
 }
 
-/// The same in a new memory: vm2 allocates each chunk, ours has been opened afresh.
+/// Words, each of which takes `taken` chunks: its only one, or both of those that it lies over.
+pub fn pooled(chunks: u32, taken: u32) -> Times {
+    let offset = if taken == 2 { 240 } else { 0 };
+    let starts: Vec<u32> = (0..chunks / taken).map(|i| i * taken * 256 + offset).collect();
+    taking(
+        chunks,
+        &starts,
+        |vm2, a| vm2.write_u256(heap(0), a, black_box(WORD)),
+        |ours, a| write(ours, heap(0), a, black_box(WORD)),
+    )
+}
+
+/// Blocks of bytes, each of which takes all its chunks.
+pub fn pooled_blocks(chunks: u32) -> Times {
+    let src: Vec<u8> = (0..BLOCK).map(|i| (i % 251) as u8).collect();
+    let starts: Vec<u32> = (0..chunks * 256 / BLOCK).map(|i| i * BLOCK).collect();
+    taking(
+        chunks,
+        &starts,
+        |vm2, a| vm2.write_bytes(heap(0), a, black_box(&src)),
+        |ours, a| ours.write_bytes(PageId(heap(0)), a, black_box(&src)).expect("there is room"),
+    )
+}
+
+/// Words in one chunk, in a new memory: vm2 allocates each chunk, ours has been opened afresh.
 pub fn allocated(chunks: u32) -> Times {
     let mut both = Both::empty(chunks, 0);
     let starts: Vec<u32> = (0..chunks).map(|chunk| chunk * 256).collect();

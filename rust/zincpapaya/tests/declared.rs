@@ -1,5 +1,5 @@
 //! That a function of the library is the same wherever it is declared: its name, the names and types of
-//! its arguments, its result, and the structs among them.
+//! its arguments, its result, and the structs among them. One argument has another name in the header.
 //!
 //! - Checked functions: the source in Rattle, `crates/zincpapaya/src`, is compared with
 //!   `include/zincpapaya.h`, and the header with `ffi.rs`.
@@ -82,6 +82,9 @@ fn definition(text: &str, name: &str) -> String {
     rest.lines().next().expect("a definition is not empty").to_owned()
 }
 
+/// The one argument with two names: in the header, and everywhere else.
+const RENAMED: (&str, &str) = ("room", "journal_words");
+
 /// The functions of a header, with the arguments of a memory written out.
 fn header(text: &str) -> Functions {
     let memories = ["ZP_CONST_MEMORY", "ZP_MEMORY"].map(|name| (name, definition(text, name)));
@@ -90,7 +93,10 @@ fn header(text: &str) -> Functions {
         let written_out =
             |all: String, (memory, arguments): &(&str, String)| all.replace(memory, arguments);
         let arguments = memories.iter().fold(arguments.to_owned(), written_out);
-        (name.into(), (listed(&arguments).map(from_c).collect(), "u32".into()))
+        let named = |(name, kind): Argument| {
+            (if name == RENAMED.0 { RENAMED.1.into() } else { name }, kind)
+        };
+        (name.into(), (listed(&arguments).map(from_c).map(named).collect(), "u32".into()))
     });
     functions.collect()
 }

@@ -5,7 +5,7 @@ use borrow.Author.Needs.{needs}
 use Rattle.store.specs.Mem.{mem}
 use Rattle.view.specs.View.{settingOf, viewOf}
 use Rattle.view.specs.Checks.{capacityChecksAt}
-use Rattle.checks.proofs.Chosen.{layout-asks, chunks-fit, room-chosen, chosen-4, allocate-5, allocate-6, allocate-room}
+use Rattle.checks.proofs.Chosen.{layout-asks, room-chosen, chosen-4, allocate-5, allocate-6, allocate-room}
 use Rattle.outcome.specs.Outcome.{refused}
 use Rattle.formed.specs.Pages.{fixed}
 use Rattle.checks.proofs.allocate_refusal.Statement.{statement}
@@ -44,16 +44,17 @@ returns-3 c =
     let m = mem (start .args .bytes .now) (start .args .keys .now) (start .args .order .now) (start .args .words .now) in
     allocate-6 (settingOf m) (viewOf m) (start .args .page .0) _ (at-decode .decode .ensures) (start .args .n) (sym (at-is-undecodable .is-undecodable .ensures) ∙ at-if1 .if1 .left) (sym (at-is-fixed .is-fixed .ensures) ∙ at-if2 .if2 .left) (sym (at-is-allocated .is-allocated .ensures) ∙ at-if3 .if3 .taken)
 
-capacity-refusal-requires : tie.Need-capacity-refusal-requires
-capacity-refusal-requires c κs =
-    let at-touched = c in
-    let start = at-touched .before .before .before .before .before .before .before .before .before .before .before .before in
-    (start .pre, chunks-fit 0 (start .args .n) _ (at-touched .touched .ensures) (omega arith), omega arith)
+unallocated-refusal-requires : tie.Need-unallocated-refusal-requires
+unallocated-refusal-requires c κs =
+    let at-if3 = c .before in
+    let at-is-allocated = at-if3 .before in
+    let start = at-is-allocated .before .before .before .before .before .before .before .before .before .before in
+    (start .pre, sym (at-is-allocated .is-allocated .ensures) ∙ at-if3 .if3 .left, omega arith)
 
 returns-4 : tie.Need-returns-4
 returns-4 c =
-    let at-capacity-refusal = c in
-    let at-touched = at-capacity-refusal .before in
+    let at-unallocated-refusal = c in
+    let at-touched = at-unallocated-refusal .before in
     let at-if3 = at-touched .before in
     let at-is-allocated = at-if3 .before in
     let at-if2 = at-is-allocated .before in
@@ -63,7 +64,7 @@ returns-4 c =
     let at-decode = at-is-undecodable .before in
     let start = at-decode .before .before .before .before .before in
     let m = mem (start .args .bytes .now) (start .args .keys .now) (start .args .order .now) (start .args .words .now) in
-    allocate-room (settingOf m) (viewOf m) (start .args .page .0) _ (at-decode .decode .ensures) (start .args .n) (sym (at-is-undecodable .is-undecodable .ensures) ∙ at-if1 .if1 .left) (sym (at-is-fixed .is-fixed .ensures) ∙ at-if2 .if2 .left) (sym (at-is-allocated .is-allocated .ensures) ∙ at-if3 .if3 .left) _ (room-chosen 0 (start .args .n) _ (at-touched .touched .ensures) (settingOf m) (viewOf m) (start .args .page .0) 0 0 _ refl (at-capacity-refusal .capacity-refusal .ensures))
+    allocate-room (settingOf m) (viewOf m) (start .args .page .0) _ (at-decode .decode .ensures) (start .args .n) (sym (at-is-undecodable .is-undecodable .ensures) ∙ at-if1 .if1 .left) (sym (at-is-fixed .is-fixed .ensures) ∙ at-if2 .if2 .left) (sym (at-is-allocated .is-allocated .ensures) ∙ at-if3 .if3 .left) _ (room-chosen 0 (start .args .n) _ (at-touched .touched .ensures) (settingOf m) (viewOf m) (start .args .page .0) 0 0 _ refl (at-unallocated-refusal .unallocated-refusal .ensures 0))
 
 pub allocate-refusal-spec : {M : Type 1} → statement M
 allocate-refusal-spec =
@@ -77,5 +78,5 @@ allocate-refusal-spec =
     (λ c κs. c .before .before .before .before .before .before .before .before .before .pre)
     returns-3
     (λ c κs. search needs)
-    capacity-refusal-requires
+    unallocated-refusal-requires
     returns-4)

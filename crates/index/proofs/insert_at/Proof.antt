@@ -1,13 +1,14 @@
 use mathlib.Core.Path.{refl}
 use borrow.Author.Needs.{needs}
-use Rattle.index.proofs.Inserts.{inserted}
+use Rattle.index.proofs.Inserts.{inserted, inserted-rank}
 use Rattle.index.proofs.insert_at.Statement.{statement}
 use Rattle.index.proofs.insert_at.Tie as tie
 
 returns : tie.Need-returns
 returns c =
     let start = c .before .before .before .before .before .before in
-    (refl, inserted _ _ _ _ _ _ _ (start .pre .0) (start .pre .1) (c .before .before .move-up .ensures))
+    let moved = c .before .before .move-up .ensures in
+    ((refl, inserted _ _ _ _ _ _ _ (start .pre .0) (start .pre .1) moved), inserted-rank _ _ _ _ _ _ _ (start .pre .0) (start .pre .1) moved)
 
 pub insert-at-spec : {M : Type 1} → statement M
 insert-at-spec =

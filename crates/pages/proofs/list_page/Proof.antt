@@ -1,35 +1,27 @@
-use native.Mathlib.Omega.{arith}
+use mathlib.Core.Path.{sym}
 use borrow.Author.Needs.{needs}
-use Rattle.formed.proofs.Asks.{pages-asked}
-use Rattle.pages.proofs.Listing.{listed-already, entry-asks, listed-now}
+use Rattle.pages.proofs.Listing.{no-entry, entry-asks, listed-entry, listed-now}
 use Rattle.pages.proofs.list_page.Statement.{statement}
 use Rattle.pages.proofs.list_page.Tie as tie
 
-returns : tie.Need-returns
-returns c =
-    let at-if1 = c in
-    let at-entry-of = at-if1 .before .before in
-    listed-already _ _ (at-entry-of .before .before .before .before .before .before .before .before .pre) (omega (arith, at-entry-of .entry-of .ensures, at-if1 .if1 .taken))
-
 take-entry-requires : tie.Need-take-entry-requires
 take-entry-requires c κs =
-    let at-if1 = c .before .before .before in
-    let at-entry-of = at-if1 .before .before in
-    entry-asks _ _ (at-entry-of .before .before .before .before .before .before .before .before .pre) (omega (arith, at-entry-of .entry-of .ensures, at-if1 .if1 .left))
+    let start = c .before .before .before .before .before .before .before in
+    entry-asks _ _ (start .pre .0) (no-entry _ _ (start .pre .0) (start .pre .1))
 
-returns-2 : tie.Need-returns-2
-returns-2 c =
+returns : tie.Need-returns
+returns c =
     let at-take-entry = c .before .before .before .before .before .before in
-    let at-if1 = at-take-entry .before .before .before .before in
-    let at-entry-of = at-if1 .before .before in
-    listed-now _ _ (at-entry-of .before .before .before .before .before .before .before .before .pre) (omega (arith, at-entry-of .entry-of .ensures, at-if1 .if1 .left)) _ _ _ (at-take-entry .take-entry .kept .0) (at-take-entry .take-entry .kept .1 .0) (at-take-entry .take-entry .ensures)
+    let start = at-take-entry .before .before .before .before .before .before .before .before in
+    let a = start .pre .0 in
+    let l = no-entry _ _ a (start .pre .1) in
+    let t = at-take-entry .take-entry in
+    (listed-now _ _ a l _ _ _ (t .kept .0) (t .kept .1 .0) (t .ensures), sym (listed-entry _ _ a l _ _ _ (t .kept .0) (t .kept .1 .0) (t .ensures)))
 
 pub list-page-spec : {M : Type 1} → statement M
 list-page-spec =
     tie.close
-    (tie.spec (λ c κs. pages-asked _ (c .before .before .before .before .before .before .before .pre .formed))
-    (λ c. search needs) (λ c. search needs) (λ c. search needs) (λ c. search needs) (λ c. search needs)
-    returns
+    (tie.spec
     take-entry-requires
     (λ c. search needs) (λ c. search needs) (λ c. search needs)
-    returns-2)
+    returns)

@@ -1,8 +1,9 @@
-use Prim.Native.Nat.{_≤_}
+use Prim.Native.Nat.{_≤_, _<_}
 use native.Mathlib.Omega.{arith}
 use lib.ListN.{take}
 use borrow.Author.Needs.{needs}
-use Rattle.pool.proofs.Holds.{held-was, held-new, lacking}
+use Rattle.store.proofs.Slots.{ranked-next}
+use Rattle.pool.proofs.Holds.{held-was, held-new, lacking, next-rank}
 use Rattle.index.specs.Index.{seek}
 use Rattle.store.specs.Mem.{slotCount}
 use Rattle.pool.proofs.hold.Statement.{statement}
@@ -11,7 +12,8 @@ use Rattle.pool.proofs.hold.Tie as tie
 returns : tie.Need-returns
 returns c =
     let start = c .before .before .before .before .before .before .before .before .before in
-    held-was _ _ _ (start .pre .0 .0) _ (start .pre .1 .0) _ (c .before .slot-at-rank .ensures) (c .if1 .taken)
+    let held : seek (take (slotCount (start .args .words .now)) (start .args .keys .now)) (start .args .k) < slotCount (start .args .words .now) = omega (arith, c .before .slot-at-rank .ensures, c .if1 .taken) in
+    (held-was _ _ _ (start .pre .0 .0) _ (start .pre .1 .0) _ (c .before .slot-at-rank .ensures) (c .if1 .taken), ranked-next _ _ _ (start .pre .0 .0) _ _ (start .pre .1 .0) (start .pre .0 .1) held)
 
 take-slot-requires : tie.Need-take-slot-requires
 take-slot-requires c κs =
@@ -26,7 +28,8 @@ returns-2 c =
     let at-slot-at-rank = at-take-slot .before .before .before .before .before in
     let start = at-slot-at-rank .before .before .before .before .before .before .before .before in
     let none : slotCount (start .args .words .now) ≤ seek (take (slotCount (start .args .words .now)) (start .args .keys .now)) (start .args .k) = omega (arith, at-slot-at-rank .slot-at-rank .ensures, at-take-slot .before .before .before .before .if1 .left) in
-    held-new _ _ _ (start .pre .0 .0) _ (start .pre .1 .0) none _ _ _ _ (at-take-slot .take-slot .ensures)
+    let t = at-take-slot .take-slot .ensures in
+    (held-new _ _ _ (start .pre .0 .0) _ (start .pre .1 .0) none _ _ _ _ (t .0), next-rank _ _ _ (start .pre .0 .0) _ (start .pre .1 .0) _ _ _ _ (t .0) _ (t .1))
 
 pub hold-spec : {M : Type 1} → statement M
 hold-spec =

@@ -1,7 +1,7 @@
 use native.Mathlib.Omega.{arith}
 use borrow.Author.Needs.{needs}
 use Rattle.store.proofs.Slots.{part-rank}
-use Rattle.pool.proofs.Holds.{part-room, free-in, insertable, taken}
+use Rattle.pool.proofs.Holds.{part-room, free-in, insertable, taken, taken-rank}
 use Rattle.pool.proofs.take_slot.Statement.{statement}
 use Rattle.pool.proofs.take_slot.Tie as tie
 
@@ -28,7 +28,8 @@ returns c =
     let at-insert-at = c .before .before .before .before in
     let at-free-place = at-insert-at .before .before .before in
     let start = at-free-place .before .before .before .before .before .before .before .before in
-    taken _ _ _ (start .pre .0 .0) _ (at-free-place .free-place .ensures) _ (start .pre .1 .0) (start .pre .1 .1) (start .pre .1 .2) (at-insert-at .insert-at .last .0) (at-insert-at .insert-at .last .1 .0) (at-insert-at .insert-at .kept .1 .0) (at-insert-at .insert-at .ensures .0) (at-insert-at .insert-at .ensures .1)
+    let put = at-insert-at .insert-at .ensures in
+    (taken _ _ _ (start .pre .0 .0) _ (at-free-place .free-place .ensures) _ (start .pre .1 .0) (start .pre .1 .1) (start .pre .1 .2) (at-insert-at .insert-at .last .0) (at-insert-at .insert-at .last .1 .0) (at-insert-at .insert-at .kept .1 .0) (put .0 .0) (put .0 .1), taken-rank _ _ _ (start .pre .0 .0) _ (at-free-place .free-place .ensures) _ (start .pre .1 .0) (start .pre .1 .1) (start .pre .1 .2) (at-insert-at .insert-at .last .0) (at-insert-at .insert-at .last .1 .0) (at-insert-at .insert-at .kept .1 .0) (put .0 .0) _ (put .1))
 
 pub take-slot-spec : {M : Type 1} → statement M
 take-slot-spec =

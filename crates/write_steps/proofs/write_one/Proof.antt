@@ -8,7 +8,8 @@ use Rattle.store.specs.Mem.{mem, pageCount}
 use Rattle.formed.specs.Parts.{entryOf}
 use Rattle.formed.proofs.Asks.{slots-asked}
 use Rattle.write_steps.proofs.Searched.{searched-refused}
-use Rattle.write_steps.proofs.One.{one-listed, one-place, one-hold, one-asks, one-does}
+use Rattle.reserve.proofs.Reserving.{entry-listed}
+use Rattle.write_steps.proofs.One.{one-place, one-hold, one-asks, one-does}
 use Rattle.write_steps.proofs.write_one.Statement.{statement}
 use Rattle.write_steps.proofs.write_one.Tie as tie
 
@@ -30,7 +31,7 @@ one-chunk-refusal-requires c κs =
     let at-key-of = at-slot-at-rank .before .before .before .before .before .before .before .before in
     let start = at-key-of .before .before .before .before .before .before in
     let m = (mem (start .args .bytes .now) (start .args .keys .now) (start .args .order .now) (start .args .words .now)) in
-    ((start .pre .0 .0, one-place m (start .args .page .0) (start .args .address .0) (start .args .e) (at-key-of .key-of .result) (at-slot-at-rank .slot-at-rank .result) (omega (arith, start .good .1 .1 .1 .1 .1 .0)) (start .pre .1 .0) (at-key-of .key-of .ensures) (at-slot-at-rank .slot-at-rank .ensures)), (one-listed m (start .pre .0 .0) (start .args .page .0) (start .args .e) (start .pre .1 .0) (start .pre .1 .1), start .pre .0 .1))
+    ((start .pre .0 .0, one-place m (start .args .page .0) (start .args .address .0) (start .args .e) (at-key-of .key-of .result) (at-slot-at-rank .slot-at-rank .result) (omega (arith, start .good .1 .1 .1 .1 .1 .0)) (start .pre .1 .0) (at-key-of .key-of .ensures) (at-slot-at-rank .slot-at-rank .ensures)), (entry-listed m (start .pre .0 .0) (start .args .page .0) (start .args .e) (start .pre .1 .0) (start .pre .1 .1), start .pre .0 .1))
 
 returns : tie.Need-returns
 returns c =
@@ -61,7 +62,7 @@ write-at-requires c κs =
     let is = start .pre .1 .0 in
     let there : entryOf m (start .args .page .0) < pageCount (start .args .words .now) + 4 = omega (arith, is, start .pre .1 .1) in
     let free = sym (at-one-chunk-refusal .one-chunk-refusal .ensures) ∙ at-if1 .if1 .left in
-    one-asks m (start .pre .0 .0) (start .args .page .0) (start .args .address .0) (omega (arith, start .good .1 .1 .1 .1 .0)) (omega (arith, start .good .1 .1 .1 .1 .1 .0)) (start .pre .0 .1) there free (mem (start .args .bytes .now) (at-hold-at .hold-at .last .1 .0) (at-hold-at .hold-at .last .1 .1 .0) (at-hold-at .hold-at .last .1 .1 .1 .0)) (at-hold-at .hold-at .ensures .0) _ (at-hold-at .hold-at .ensures .1 .1 .0) (at-hold-at .hold-at .ensures .1 .1 .1)
+    one-asks m (start .pre .0 .0) (start .args .page .0) (start .args .address .0) (omega (arith, start .good .1 .1 .1 .1 .0)) (omega (arith, start .good .1 .1 .1 .1 .1 .0)) (start .pre .0 .1) there free (mem (start .args .bytes .now) (at-hold-at .hold-at .last .1 .0) (at-hold-at .hold-at .last .1 .1 .0) (at-hold-at .hold-at .last .1 .1 .1 .0)) (at-hold-at .hold-at .ensures .0) _ (at-hold-at .hold-at .ensures .1 .1 .0 .0) (at-hold-at .hold-at .ensures .1 .1 .0 .1)
 
 returns-2 : tie.Need-returns-2
 returns-2 c =

@@ -7,7 +7,7 @@ use Rattle.store.specs.Mem.{mem}
 use Rattle.view.specs.View.{settingOf, viewOf}
 use Rattle.view.specs.Checks.{allocateChecks}
 use Rattle.view.specs.Calls.{Call, nextOf}
-use Rattle.checks.proofs.Passed.{room-refusals}
+use Rattle.checks.proofs.Passed.{room-refusals, allocate-passed}
 use Rattle.write_steps.proofs.Chains.{allocate-asks}
 use Rattle.writes.proofs.on_formed.allocate_at.Statement.{statement}
 use Rattle.writes.proofs.on_formed.allocate_at.Tie as tie
@@ -26,7 +26,8 @@ list-page-requires c κs =
     let at-allocate-refusal = at-if1 .before in
     let start = at-allocate-refusal .before .before .before .before .before .before .before .before .before in
     let m = mem (start .args .bytes .now) (start .args .keys .now) (start .args .order .now) (start .args .words .now) in
-    allocate-asks m (start .args .page .0) (omega (arith, start .good .1 .1 .1 .1 .0)) (start .pre, sym (at-allocate-refusal .allocate-refusal .ensures) ∙ at-if1 .if1 .left)
+    let free = sym (at-allocate-refusal .allocate-refusal .ensures) ∙ at-if1 .if1 .left in
+    (allocate-asks m (start .args .page .0) (omega (arith, start .good .1 .1 .1 .1 .0)) (start .pre, free), allocate-passed (settingOf m) (viewOf m) (start .args .page .0) 0 0 free .2)
 
 returns-2 : tie.Need-returns-2
 returns-2 c =
@@ -35,7 +36,7 @@ returns-2 c =
     let at-allocate-refusal = at-if1 .before in
     let start = at-allocate-refusal .before .before .before .before .before .before .before .before .before in
     let m = mem (start .args .bytes .now) (start .args .keys .now) (start .args .order .now) (start .args .words .now) in
-    done-does m (start .pre) (allocateChecks (settingOf m) (viewOf m) (start .args .page .0) 0) (settingOf m) (nextOf (settingOf m) (Call.Allocate (start .args .page .0) []) (viewOf m)) (next (next (next (room-refusals (settingOf m) (viewOf m) (start .args .page .0) 0 0 0)))) (sym (at-allocate-refusal .allocate-refusal .ensures) ∙ at-if1 .if1 .left) (at-list-page .list-page .ensures)
+    done-does m (start .pre) (allocateChecks (settingOf m) (viewOf m) (start .args .page .0) 0) (settingOf m) (nextOf (settingOf m) (Call.Allocate (start .args .page .0) []) (viewOf m)) (next (next (next (room-refusals (settingOf m) (viewOf m) (start .args .page .0) 0 0 0)))) (sym (at-allocate-refusal .allocate-refusal .ensures) ∙ at-if1 .if1 .left) (at-list-page .list-page .ensures .0)
 
 pub allocate-at-spec : {M : Type 1} → statement M
 allocate-at-spec = tie.close (tie.spec (λ c κs. search needs) (λ c. search needs) (λ c. search needs) (λ c. search needs) (λ c. search needs) returns list-page-requires (λ c. search needs) (λ c. search needs) (λ c. search needs) (λ c. search needs) returns-2)

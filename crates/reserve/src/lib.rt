@@ -1,0 +1,136 @@
+// A page is made to hold chunks: it is allocated, if it is not, and chunks that are missing are taken from the pool. The page's entry is handed on, and one rank.
+ghost use mathlib.Core.Path.{_≡_};
+ghost use mathlib.Core.Bool.{false};
+ghost use Prim.Native.Nat.{_+_, _<_};
+ghost use Rattle.store.specs.Mem.{mem, pageCount, fixedCount};
+ghost use Rattle.formed.specs.Parts.{entryOf};
+ghost use Rattle.view.specs.View.{settingOf, viewOf};
+ghost use Rattle.view.specs.Does.{Shows};
+ghost use Rattle.view.specs.Inner.{listing, holding};
+ghost use Rattle.checks.specs.Located.{Locates};
+ghost use Rattle.reserve.specs.Asks.{PrepareAsks, ReserveAsks, Reserved};
+use checks::Located;
+use page_ids::PageId;
+use store::head;
+
+// A page that is not allocated is allocated, and holds the chunks first, .., first + count - 1.
+pub fn prepare_new(
+    bytes: &[u8],
+    keys: &mut [u64],
+    order: &mut [u32],
+    words: &mut [u64],
+    page: PageId,
+    first: u32,
+    count: u32,
+)
+    requires { ⌜ (PrepareAsks (mem (now bytes) (now keys) (now order) (now words)) (page .0) first count) × (viewOf (mem (now bytes) (now keys) (now order) (now words)) .allocated (page .0) ≡ false) ⌝ }
+    ensures { λ _. ⌜ Shows (settingOf (mem (now (bytes .entry)) (now (keys .entry)) (now (order .entry)) (now (words .entry)))) (holding (page .0) first count (listing (mem (now (bytes .entry)) (now (keys .entry)) (now (order .entry)) (now (words .entry))) (page .0))) (mem (now (bytes .entry)) (now (keys .exit)) (now (order .exit)) (now (words .exit))) ⌝ }
+{
+    let e = pages::list_page(bytes, keys, order, words, page);
+    let k = store::key_of(e, first as u64);
+    let at = store::rank_of(keys, order, words, k);
+    chunks::hold_chunks(bytes, keys, order, words, page, first, count, at, k);
+}
+
+// An allocated page holds the chunks first, .., first + count - 1. Its entry is e, and the chunks are located.
+fn prepare_more(
+    bytes: &[u8],
+    keys: &mut [u64],
+    order: &mut [u32],
+    words: &mut [u64],
+    page: PageId,
+    e: usize,
+    from: Located,
+    first: u32,
+    count: u32,
+)
+    requires { ⌜ (PrepareAsks (mem (now bytes) (now keys) (now order) (now words)) (page .0) first count) × (e ≡ entryOf (mem (now bytes) (now keys) (now order) (now words)) (page .0)) × (e < pageCount (now words) + fixedCount) ⌝ }
+    requires { ⌜ Locates (now keys) (now order) (now words) (page .0) first count (from .chunk) (from .rank) ⌝ }
+    ensures { λ _. ⌜ Shows (settingOf (mem (now (bytes .entry)) (now (keys .entry)) (now (order .entry)) (now (words .entry)))) (holding (page .0) first count (listing (mem (now (bytes .entry)) (now (keys .entry)) (now (order .entry)) (now (words .entry))) (page .0))) (mem (now (bytes .entry)) (now (keys .exit)) (now (order .exit)) (now (words .exit))) ⌝ }
+{
+    let chunk = from.chunk;
+    let rest = first + count - chunk;
+    if rest == 0 {
+        return;
+    }
+    let k = store::key_of(e, chunk as u64);
+    chunks::hold_chunks(bytes, keys, order, words, page, chunk, rest, from.rank, k);
+}
+
+// `reserve` for a page that is not allocated.
+fn reserve_new(
+    bytes: &[u8],
+    keys: &mut [u64],
+    order: &mut [u32],
+    words: &mut [u64],
+    page: PageId,
+    first: u32,
+    count: u32,
+    w: u64,
+) -> u32
+    requires { ⌜ (ReserveAsks (mem (now bytes) (now keys) (now order) (now words)) (page .0) first count w) × (viewOf (mem (now bytes) (now keys) (now order) (now words)) .allocated (page .0) ≡ false) ⌝ }
+    ensures { λ r. ⌜ Reserved (mem (now (bytes .entry)) (now (keys .entry)) (now (order .entry)) (now (words .entry))) (page .0) first count w r (mem (now (bytes .entry)) (now (keys .exit)) (now (order .exit)) (now (words .exit))) ⌝ }
+{
+    let number = checks::unallocated_refusal(bytes, keys, order, words, page, count as u64, w);
+    if number != 0 {
+        return number;
+    }
+    prepare_new(bytes, keys, order, words, page, first, count);
+    0
+}
+
+// `reserve` for an allocated page. Its chunks are located once: the refusal and the step are given what was found.
+fn reserve_more(
+    bytes: &[u8],
+    keys: &mut [u64],
+    order: &mut [u32],
+    words: &mut [u64],
+    page: PageId,
+    e: usize,
+    first: u32,
+    count: u32,
+    w: u64,
+) -> u32
+    requires { ⌜ (ReserveAsks (mem (now bytes) (now keys) (now order) (now words)) (page .0) first count w) × (e ≡ entryOf (mem (now bytes) (now keys) (now order) (now words)) (page .0)) × (e < pageCount (now words) + fixedCount) ⌝ }
+    ensures { λ r. ⌜ Reserved (mem (now (bytes .entry)) (now (keys .entry)) (now (order .entry)) (now (words .entry))) (page .0) first count w r (mem (now (bytes .entry)) (now (keys .exit)) (now (order .exit)) (now (words .exit))) ⌝ }
+{
+    let from = checks::locate(keys, order, words, page, e, first, count);
+    let number = checks::allocated_refusal(
+        bytes,
+        keys,
+        order,
+        words,
+        page,
+        e,
+        from,
+        first,
+        count,
+        w,
+    );
+    if number != 0 {
+        return number;
+    }
+    prepare_more(bytes, keys, order, words, page, e, from, first, count);
+    0
+}
+
+// Refuses with 9, 10 or 11, or makes the page hold the chunks first, .., first + count - 1 and be allocated. The journal, if it has one, must have room for w words. The page's entry is e.
+pub fn reserve(
+    bytes: &[u8],
+    keys: &mut [u64],
+    order: &mut [u32],
+    words: &mut [u64],
+    page: PageId,
+    e: usize,
+    first: u32,
+    count: u32,
+    w: u64,
+) -> u32
+    requires { ⌜ (ReserveAsks (mem (now bytes) (now keys) (now order) (now words)) (page .0) first count w) × (e ≡ entryOf (mem (now bytes) (now keys) (now order) (now words)) (page .0)) ⌝ }
+    ensures { λ r. ⌜ Reserved (mem (now (bytes .entry)) (now (keys .entry)) (now (order .entry)) (now (words .entry))) (page .0) first count w r (mem (now (bytes .entry)) (now (keys .exit)) (now (order .exit)) (now (words .exit))) ⌝ }
+{
+    if (e as u64) < words[head::PAGES] + head::FIXED_PAGES {
+        return reserve_more(bytes, keys, order, words, page, e, first, count, w);
+    }
+    reserve_new(bytes, keys, order, words, page, first, count, w)
+}

@@ -8,20 +8,17 @@ use Prim.Native.Nat.{ℕ, zero, suc, _+_, _-_, _≤_, _<_}
 use native.Mathlib.Omega.{arith}
 use lib.Dec.{ltb, eqb}
 use lib.ListN.{length, getD, take, drop}
-use lib.Seq.{getD-take, length-take-le}
 use borrow.Author.Tests.{eq-eqb, ne-eqb, lt-ltb, le-ltb, lt-leb, le-leb}
 use Rattle.index.specs.Index.{seek}
 use Rattle.index.proofs.Logic.{same-or-not}
-use Rattle.index.proofs.Meaning.{once}
-use Rattle.index.proofs.Places.{seek-le}
 use Rattle.store.specs.Keys.{lastChunk, keyOf}
 use Rattle.store.specs.Indexed.{Ranked}
 use Rattle.store.specs.Find.{slotAtEntry, slotWithin, slotFor, Findable}
-use Rattle.store.specs.Mem.{Mem, slotCount, pageCount, heldNow, inUse}
+use Rattle.store.specs.Mem.{Mem, slotCount, pageCount, inUse}
+use Rattle.store.proofs.Slots.{slot-of-key}
 use Rattle.formed.specs.Parts.{entryOf, allocated, entriesLeft, holds, slotOfChunk, pool}
 use Rattle.formed.specs.WellFormed.{WellFormed}
 use Rattle.formed.proofs.Sizes.{entries-long}
-use Rattle.formed.proofs.Keys.{le-or-gt, seek-is}
 use Rattle.formed.proofs.Sense.{left-is, unlisted-holds}
 use Rattle.view.specs.Steps.{missing}
 use Rattle.view.proofs.Missing.{missing-held, missing-all}
@@ -67,9 +64,7 @@ held-at m p e q = rw q refl
 
 -- a slot that has the key of a chunk is the chunk's
 pub key-found : (keys order words : List ℕ) → Findable keys order words → (p k key s : ℕ) → key ≡ keyOf (seek (drop (slotCount words) keys) (p + 1)) k → (s < slotCount words) × (getD keys s 0 ≡ key) → s ≡ slotFor keys words p k
-key-found keys order words f p k key s is t =
-    let c = slotCount words in
-    sym (seek-is (take c keys) (keyOf (seek (drop c keys) (p + 1)) k) s (once (take c keys) (take c order) (heldNow words) (f .slots .index)) (omega arith) (getD-take c keys s 0 (t .0) ∙ t .1 ∙ is))
+key-found keys order words f p k key s is t = slot-of-key keys order words (f .slots) key s (omega arith) t ∙ ap (seek (take (slotCount words) keys)) is
 
 -- one chunk more is known to be held
 pub run-longer : (keys words : List ℕ) (p first i s : ℕ) → ((x : ℕ) → first ≤ x → x < first + i → slotFor keys words p x < slotCount words) → (s < slotCount words → s ≡ slotFor keys words p (first + i)) → s < slotCount words

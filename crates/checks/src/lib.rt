@@ -56,7 +56,7 @@ pub fn is_allocated(bytes: &[u8], keys: &[u64], order: &[u32], words: &[u64], pa
 }
 
 // ---- a range of chunks is located
-// The slot of a chunk whose key is k, where the slot `guess` has that key or a hint knows the chunk. Any other answer is at least the number of slots, and says nothing.
+// The slot of a chunk whose key is k: `guess`, if that slot has the key, or the one that a hint names. An answer of at least the number of slots says nothing.
 fn known_slot(
     keys: &[u64],
     order: &[u32],
@@ -75,7 +75,7 @@ fn known_slot(
     store::hinted(keys, order, words, page, chunk)
 }
 
-// How many of the chunks first, .., first + count - 1 of the page at entry e are known to be held, up to the first that is not.
+// How many of the chunks first, .., first + count - 1 of the page at entry e are known to be held before the first that is not.
 fn known_run(
     keys: &[u64],
     order: &[u32],
@@ -104,13 +104,13 @@ fn known_run(
     count
 }
 
-// What is known of a range of chunks: those before `chunk` are held, and `rank` is the rank of the key of `chunk`, unless the range ends there.
+// What is known of a range of chunks: those before `chunk` are held. `rank` is the rank of the key of `chunk`, unless the range ends there.
 pub struct Located {
     pub chunk: u32,
     pub rank: usize,
 }
 
-// The chunks first, .., first + count - 1 of the page at entry e: by hints, and by one search where they do not suffice.
+// Finds how many of the chunks first, .., first + count - 1 of the page at entry e are known to be held, by the next slots and hints, and searches once for the rank of the first that is not.
 pub fn locate(
     keys: &[u64],
     order: &[u32],
@@ -139,8 +139,8 @@ pub fn locate(
 }
 
 // ---- the tests
-// 10: more of the chunks first, .., first + count - 1 are missing than the pool has. They are located from `from` on, and the page's entry is e.
-// It counts those that may be missing only where the pool has fewer than these, and stops as soon as there are too many.
+// 10: more of the chunks first, .., first + count - 1 are missing than the pool has. `located` says what is known of them, and the page's entry is e.
+// Where the pool has as many chunks as are not known to be held, nothing is counted. The count stops as soon as too many are missing.
 fn short_of_chunks(
     bytes: &[u8],
     keys: &[u64],
@@ -148,22 +148,22 @@ fn short_of_chunks(
     words: &[u64],
     page: PageId,
     e: usize,
-    from: Located,
+    located: Located,
     first: u32,
     count: u32,
 ) -> bool
     requires { ⌜ (WellFormed (mem (now bytes) (now keys) (now order) (now words))) × (e ≡ entryOf (mem (now bytes) (now keys) (now order) (now words)) (page .0)) × (first + count ≤ lastChunk + 1) ⌝ }
-    requires { ⌜ Locates (now keys) (now order) (now words) (page .0) first count (from .chunk) (from .rank) ⌝ }
+    requires { ⌜ Locates (now keys) (now order) (now words) (page .0) first count (located .chunk) (located .rank) ⌝ }
     ensures { λ r. ⌜ r ≡ ltb (viewOf (mem (now (bytes .entry)) (now (keys .entry)) (now (order .entry)) (now (words .entry))) .pool) (missing (viewOf (mem (now (bytes .entry)) (now (keys .entry)) (now (order .entry)) (now (words .entry))) .held (page .0)) first count) ⌝ }
 {
     let pool = pool::pool_count(keys, order, words);
-    let mut i = from.chunk - first;
+    let mut i = located.chunk - first;
     if (count - i) as u64 <= pool {
         return false;
     }
     let c = words[head::CHUNKS] as usize;
     let k = store::key_of(e, first as u64);
-    let mut at = from.rank;
+    let mut at = located.rank;
     let mut missing: u64 = 0;
     while i < count {
         if store::slot_at_rank(keys, order, words, at, k + i as u64) < c {
@@ -217,7 +217,7 @@ pub fn short_of_words(
     words[head::JOURNAL_WORDS] < words[head::JOURNALS + j] + w
 }
 
-// 9, 10, 11 of a page that is not allocated. It holds none of `count` chunks, whichever these are.
+// 9, 10, 11 of a page that is not allocated. Such a page holds no chunk, so all of `count` are missing.
 pub fn unallocated_refusal(
     bytes: &[u8],
     keys: &[u64],
@@ -242,7 +242,7 @@ pub fn unallocated_refusal(
     0
 }
 
-// 10 and 11 of an allocated page. Its entry is e, and its chunks first, .., first + count - 1 are located from `from` on.
+// 10 and 11 of an allocated page. Its entry is e, and `located` says what is known of its chunks first, .., first + count - 1.
 pub fn allocated_refusal(
     bytes: &[u8],
     keys: &[u64],
@@ -250,16 +250,16 @@ pub fn allocated_refusal(
     words: &[u64],
     page: PageId,
     e: usize,
-    from: Located,
+    located: Located,
     first: u32,
     count: u32,
     w: u64,
 ) -> u32
     requires { ⌜ (WellFormed (mem (now bytes) (now keys) (now order) (now words))) × (e ≡ entryOf (mem (now bytes) (now keys) (now order) (now words)) (page .0)) × (first + count ≤ lastChunk + 1) ⌝ }
-    requires { ⌜ (Locates (now keys) (now order) (now words) (page .0) first count (from .chunk) (from .rank)) × (viewOf (mem (now bytes) (now keys) (now order) (now words)) .allocated (page .0) ≡ true) × (w ≤ 2 ^ 60) ⌝ }
+    requires { ⌜ (Locates (now keys) (now order) (now words) (page .0) first count (located .chunk) (located .rank)) × (viewOf (mem (now bytes) (now keys) (now order) (now words)) .allocated (page .0) ≡ true) × (w ≤ 2 ^ 60) ⌝ }
     ensures { λ r. ⌜ r ≡ firstRefusal (capacityChecks (settingOf (mem (now (bytes .entry)) (now (keys .entry)) (now (order .entry)) (now (words .entry)))) (viewOf (mem (now (bytes .entry)) (now (keys .entry)) (now (order .entry)) (now (words .entry)))) (page .0) first count w) ⌝ }
 {
-    if short_of_chunks(bytes, keys, order, words, page, e, from, first, count) {
+    if short_of_chunks(bytes, keys, order, words, page, e, located, first, count) {
         return 10;
     }
     if short_of_words(bytes, keys, order, words, page, w) {
@@ -276,7 +276,7 @@ pub fn decode(words: &[u64], page: PageId) -> DecodedPage
     page_ids::decode_page(formed::head::layout_of(words), page)
 }
 
-// A word write.
+// A word write that is not made: a store whose value is too wide for the hook is refused with this, or else with 15.
 pub fn word_refusal(
     bytes: &[u8],
     keys: &[u64],
@@ -297,7 +297,7 @@ pub fn word_refusal(
     if (e as u64) >= words[head::PAGES] + head::FIXED_PAGES {
         return unallocated_refusal(bytes, keys, order, words, page, count, 1);
     }
-    let from = locate(keys, order, words, page, e, first, count as u32);
+    let located = locate(keys, order, words, page, e, first, count as u32);
     allocated_refusal(
         bytes,
         keys,
@@ -305,7 +305,7 @@ pub fn word_refusal(
         words,
         page,
         e,
-        from,
+        located,
         first,
         count as u32,
         1,

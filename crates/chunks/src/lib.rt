@@ -10,7 +10,7 @@ ghost use Rattle.view.specs.Does.{Shows};
 ghost use Rattle.view.specs.Inner.{holding, HoldAsks};
 use page_ids::PageId;
 
-// The page, which is allocated, holds the chunk, whose key k has the rank `at`. The answer is the chunk's slot. The pages keep their entries, and the rank of the next key is at + 1.
+// The page, which is allocated, holds the chunk, whose key k has the rank `at`. The answer is the chunk's slot. The pages keep their entries, and the rank of the key k + 1 is at + 1.
 pub fn hold_at(
     bytes: &[u8],
     keys: &mut [u64],
@@ -33,7 +33,7 @@ pub fn hold_at(
     s
 }
 
-// The page, which is allocated, holds the chunks first, .., first + count - 1. The key k of the first has the rank `at`; each next key has the next rank, so no other has to be found.
+// The page, which is allocated, holds the chunks first, .., first + count - 1. The key k of the first has the rank `at`. Each next key has the next rank, so no other rank has to be searched for.
 pub fn hold_chunks(
     bytes: &[u8],
     keys: &mut [u64],

@@ -1,6 +1,8 @@
 // The journals of the bootloader pages: words as they were before they were written. vm2: the rollback part of `Heaps`.
 ghost use mathlib.Core.Path.{_≡_};
-ghost use Prim.Native.Nat.{_+_, _*_, _<_};
+ghost use Prim.Native.Nat.{_+_, _*_, _^_, _<_, _≤_};
+ghost use Rattle.store.specs.Indexed.{Indexed};
+ghost use Rattle.store.specs.Find.{slotAtEntry};
 ghost use Rattle.store.specs.Mem.{mem, layoutOf, journalWords};
 ghost use Rattle.formed.specs.Pages.{journalCount, journalPage};
 ghost use Rattle.formed.specs.WellFormed.{WellFormed};
@@ -57,22 +59,46 @@ pub fn note_found(
     note_at(bytes, words, j, address, s, t);
 }
 
-// The same, where the slots are searched for.
+// The slot of a chunk of the page at entry e: `guess` or the slot after it, if that has the chunk's key, or else by search.
+fn slot_near(
+    keys: &[u64],
+    order: &[u32],
+    words: &[u64],
+    e: usize,
+    chunk: u64,
+    guess: usize,
+) -> usize
+    requires { ⌜ (Indexed (now keys) (now order) (now words)) × (e ≤ 69636) × (chunk ≤ 2 ^ 32) × (guess ≤ 65536) ⌝ }
+    ensures { λ r. ⌜ r ≡ slotAtEntry (now (keys .entry)) (now (words .entry)) e chunk ⌝ }
+{
+    let k = store::key_of(e, chunk);
+    if store::has_key(keys, words, guess, k) {
+        return guess;
+    }
+    if store::has_key(keys, words, guess + 1, k) {
+        return guess + 1;
+    }
+    store::slot_at_entry(keys, order, words, e, chunk)
+}
+
+// Notes the aligned word number n, which lies in one chunk. The answer is the chunk's slot; of that the contract says only that it is a slot.
 fn note(
     bytes: &mut [u8],
     keys: &[u64],
     order: &[u32],
     words: &mut [u64],
     j: usize,
-    address: Address,
-)
-    requires { ⌜ NoteAsks (mem (now bytes) (now keys) (now order) (now words)) j (address .0) ⌝ }
-    ensures { λ _. ⌜ Shows (settingOf (mem (now (bytes .entry)) (now (keys .entry)) (now (order .entry)) (now (words .entry)))) (noting j (wordNotes (viewOf (mem (now (bytes .entry)) (now (keys .entry)) (now (order .entry)) (now (words .entry)))) (journalPage (layoutOf (now (words .entry))) j) (address .0)) (viewOf (mem (now (bytes .entry)) (now (keys .entry)) (now (order .entry)) (now (words .entry))))) (mem (now (bytes .exit)) (now (keys .entry)) (now (order .entry)) (now (words .exit))) ⌝ }
+    n: u32,
+    guess: usize,
+) -> usize
+    requires { ⌜ (NoteAsks (mem (now bytes) (now keys) (now order) (now words)) j (32 * n)) × (guess ≤ 65536) ⌝ }
+    ensures { λ _. ⌜ Shows (settingOf (mem (now (bytes .entry)) (now (keys .entry)) (now (order .entry)) (now (words .entry)))) (noting j (wordNotes (viewOf (mem (now (bytes .entry)) (now (keys .entry)) (now (order .entry)) (now (words .entry)))) (journalPage (layoutOf (now (words .entry))) j) (32 * n)) (viewOf (mem (now (bytes .entry)) (now (keys .entry)) (now (order .entry)) (now (words .entry))))) (mem (now (bytes .exit)) (now (keys .entry)) (now (order .entry)) (now (words .exit))) ⌝ }
+    ensures { λ r. ⌜ r ≤ 65536 ⌝ }
 {
     let e = formed::journals::place(j);
-    let s = store::slot_at_entry(keys, order, words, e, (address.0 / 256) as u64);
-    let t = store::slot_at_entry(keys, order, words, e, (address.0 as u64 + 31) / 256);
-    note_found(bytes, keys, order, words, j, address, s, t);
+    let s = slot_near(keys, order, words, e, (n / 8) as u64, guess);
+    note_found(bytes, keys, order, words, j, Address(32 * n), s, s);
+    s
 }
 
 // Empties the journals. vm2: `delete_history`.
@@ -145,9 +171,11 @@ pub fn note_aligned(
     requires { ⌜ AlignedAsks (mem (now bytes) (now keys) (now order) (now words)) j first count ⌝ }
     ensures { λ _. ⌜ Shows (settingOf (mem (now (bytes .entry)) (now (keys .entry)) (now (order .entry)) (now (words .entry)))) (noting j (alignedFrom (viewOf (mem (now (bytes .entry)) (now (keys .entry)) (now (order .entry)) (now (words .entry)))) (journalPage (layoutOf (now (words .entry))) j) first count) (viewOf (mem (now (bytes .entry)) (now (keys .entry)) (now (order .entry)) (now (words .entry))))) (mem (now (bytes .exit)) (now (keys .entry)) (now (order .entry)) (now (words .exit))) ⌝ }
 {
+    // The next word is often in the same chunk or in the next one, and that in the next slot.
+    let mut guess = words[head::CHUNKS] as usize;
     let mut i = 0;
     while i < count {
-        note(bytes, keys, order, words, j, Address(32 * (first + i)));
+        guess = note(bytes, keys, order, words, j, first + i, guess);
         i += 1;
     }
 }

@@ -20,7 +20,7 @@ pub record EntryAsks (keys order words : List ℕ) (p : ℕ) : Type 0 where
   pub above : layoutOf words .base .0 ≤ p
   pub stride : 0 < layoutOf words .stride
 
--- keys', order', words' are keys, order, words after the free entry was given to page p
+-- keys', order', words' are keys, order, words after `entry`, which was free, was given to page p
 pub record EntryTaken (p entry : ℕ) (keys order words keys' order' words' : List ℕ) : Type 0 where
   pub entry-in : entry < length (drop (slotCount words) keys)
   pub free : getD (drop (slotCount words) keys) entry 0 ≡ 0

@@ -52,7 +52,7 @@ fn take_slot(keys: &mut [u64], order: &mut [u32], words: &mut [u64], at: usize, 
     s
 }
 
-// The slot of the key k, whose rank is `at`, taken from the pool where none has it yet. The rank of the next key is then at + 1.
+// The slot of the key k, whose rank is `at`, taken from the pool where none has it yet. The rank of the key k + 1 is then at + 1.
 pub fn hold(keys: &mut [u64], order: &mut [u32], words: &mut [u64], at: usize, k: u64) -> usize
     requires { ⌜ (Indexed (now keys) (now order) (now words)) × (Ranked (now keys) (now order) (now words) k at) ⌝ }
     requires { ⌜ (0 < k) × (lacks (take (slotCount (now words)) (now keys)) k + heldNow (now words) ≤ slotCount (now words)) ⌝ }

@@ -1,4 +1,4 @@
--- What the first step of a write asks, and what it leaves.
+-- What a reservation requires and ensures.
 -- Assumes nothing.
 use mathlib.Core.Path.{_≡_}
 use mathlib.Core.Bool.{true, false, _||_}

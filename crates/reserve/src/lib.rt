@@ -1,4 +1,4 @@
-// A page is made to hold chunks: it is allocated, if it is not, and chunks that are missing are taken from the pool. The page's entry is handed on, and one rank.
+// Makes a page hold chunks: allocates it, if it is not, and takes the chunks that are missing from the pool. The page's entry and one rank are handed on.
 ghost use mathlib.Core.Path.{_≡_};
 ghost use mathlib.Core.Bool.{false};
 ghost use Prim.Native.Nat.{_+_, _<_};
@@ -13,8 +13,8 @@ use checks::Located;
 use page_ids::PageId;
 use store::head;
 
-// A page that is not allocated is allocated, and holds the chunks first, .., first + count - 1.
-pub fn prepare_new(
+// Allocates a page that is not allocated, and makes it hold the chunks first, .., first + count - 1.
+pub fn prepare_unallocated(
     bytes: &[u8],
     keys: &mut [u64],
     order: &mut [u32],
@@ -32,33 +32,43 @@ pub fn prepare_new(
     chunks::hold_chunks(bytes, keys, order, words, page, first, count, at, k);
 }
 
-// An allocated page holds the chunks first, .., first + count - 1. Its entry is e, and the chunks are located.
-fn prepare_more(
+// Makes an allocated page hold the chunks first, .., first + count - 1. Its entry is e, and `located` says what is known of the chunks.
+fn prepare_allocated(
     bytes: &[u8],
     keys: &mut [u64],
     order: &mut [u32],
     words: &mut [u64],
     page: PageId,
     e: usize,
-    from: Located,
+    located: Located,
     first: u32,
     count: u32,
 )
     requires { ⌜ (PrepareAsks (mem (now bytes) (now keys) (now order) (now words)) (page .0) first count) × (e ≡ entryOf (mem (now bytes) (now keys) (now order) (now words)) (page .0)) × (e < pageCount (now words) + fixedCount) ⌝ }
-    requires { ⌜ Locates (now keys) (now order) (now words) (page .0) first count (from .chunk) (from .rank) ⌝ }
+    requires { ⌜ Locates (now keys) (now order) (now words) (page .0) first count (located .chunk) (located .rank) ⌝ }
     ensures { λ _. ⌜ Shows (settingOf (mem (now (bytes .entry)) (now (keys .entry)) (now (order .entry)) (now (words .entry)))) (holding (page .0) first count (listing (mem (now (bytes .entry)) (now (keys .entry)) (now (order .entry)) (now (words .entry))) (page .0))) (mem (now (bytes .entry)) (now (keys .exit)) (now (order .exit)) (now (words .exit))) ⌝ }
 {
-    let chunk = from.chunk;
+    let chunk = located.chunk;
     let rest = first + count - chunk;
     if rest == 0 {
         return;
     }
     let k = store::key_of(e, chunk as u64);
-    chunks::hold_chunks(bytes, keys, order, words, page, chunk, rest, from.rank, k);
+    chunks::hold_chunks(
+        bytes,
+        keys,
+        order,
+        words,
+        page,
+        chunk,
+        rest,
+        located.rank,
+        k,
+    );
 }
 
 // `reserve` for a page that is not allocated.
-fn reserve_new(
+fn reserve_unallocated(
     bytes: &[u8],
     keys: &mut [u64],
     order: &mut [u32],
@@ -75,12 +85,12 @@ fn reserve_new(
     if number != 0 {
         return number;
     }
-    prepare_new(bytes, keys, order, words, page, first, count);
+    prepare_unallocated(bytes, keys, order, words, page, first, count);
     0
 }
 
-// `reserve` for an allocated page. Its chunks are located once: the refusal and the step are given what was found.
-fn reserve_more(
+// `reserve` for an allocated page. Its chunks are located once: the refusals and the step are given what was found.
+fn reserve_allocated(
     bytes: &[u8],
     keys: &mut [u64],
     order: &mut [u32],
@@ -94,7 +104,7 @@ fn reserve_more(
     requires { ⌜ (ReserveAsks (mem (now bytes) (now keys) (now order) (now words)) (page .0) first count w) × (e ≡ entryOf (mem (now bytes) (now keys) (now order) (now words)) (page .0)) × (e < pageCount (now words) + fixedCount) ⌝ }
     ensures { λ r. ⌜ Reserved (mem (now (bytes .entry)) (now (keys .entry)) (now (order .entry)) (now (words .entry))) (page .0) first count w r (mem (now (bytes .entry)) (now (keys .exit)) (now (order .exit)) (now (words .exit))) ⌝ }
 {
-    let from = checks::locate(keys, order, words, page, e, first, count);
+    let located = checks::locate(keys, order, words, page, e, first, count);
     let number = checks::allocated_refusal(
         bytes,
         keys,
@@ -102,7 +112,7 @@ fn reserve_more(
         words,
         page,
         e,
-        from,
+        located,
         first,
         count,
         w,
@@ -110,11 +120,12 @@ fn reserve_more(
     if number != 0 {
         return number;
     }
-    prepare_more(bytes, keys, order, words, page, e, from, first, count);
+    prepare_allocated(bytes, keys, order, words, page, e, located, first, count);
     0
 }
 
-// Refuses with 9, 10 or 11, or makes the page hold the chunks first, .., first + count - 1 and be allocated. The journal, if it has one, must have room for w words. The page's entry is e.
+// Refuses with 9, 10 or 11, or allocates the page, if it is not, and makes it hold the chunks first, .., first + count - 1. Refusal 11 is about w words in the page's journal.
+// The page's entry is e, or e is the number of entries where none lists it.
 pub fn reserve(
     bytes: &[u8],
     keys: &mut [u64],
@@ -130,7 +141,7 @@ pub fn reserve(
     ensures { λ r. ⌜ Reserved (mem (now (bytes .entry)) (now (keys .entry)) (now (order .entry)) (now (words .entry))) (page .0) first count w r (mem (now (bytes .entry)) (now (keys .exit)) (now (order .exit)) (now (words .exit))) ⌝ }
 {
     if (e as u64) < words[head::PAGES] + head::FIXED_PAGES {
-        return reserve_more(bytes, keys, order, words, page, e, first, count, w);
+        return reserve_allocated(bytes, keys, order, words, page, e, first, count, w);
     }
-    reserve_new(bytes, keys, order, words, page, first, count, w)
+    reserve_unallocated(bytes, keys, order, words, page, first, count, w)
 }

@@ -1,15 +1,15 @@
 -- The part of the slots: what the calls on it ask, and what their answers say.
 -- Assumes nothing.
-use mathlib.Core.Path.{_≡_, ap, _∙_}
+use mathlib.Core.Path.{_≡_, sym, ap, _∙_}
 use mathlib.Core.Bool.{true}
 use mathlib.Core.List.{List}
 use Prim.Native.Nat.{ℕ, _+_, _-_, _≤_, _<_}
 use native.Mathlib.Omega.{arith}
-use lib.ListN.{length, take}
-use lib.Seq.{length-take-le}
+use lib.ListN.{length, getD, take}
+use lib.Seq.{getD-take, length-take-le}
 use Rattle.index.specs.Index.{indexed, seek, LowerBound}
-use Rattle.index.proofs.Orders.{index-fits}
-use Rattle.index.proofs.Places.{rank-next, rank-same}
+use Rattle.index.proofs.Orders.{index-fits, index-count, index-rises}
+use Rattle.index.proofs.Places.{place-at, seek-le, rank-next, rank-same}
 use Rattle.store.specs.Mem.{slotCount, heldNow}
 use Rattle.store.specs.Indexed.{Indexed, Ranked}
 use Rattle.store.proofs.Parts.{sub-zero}
@@ -37,3 +37,18 @@ module _ (keys order words : List ℕ) (ix : Indexed keys order words) where
 
     pub ranked-same : slotCount words ≤ seek (take (slotCount words) keys) k → Ranked keys order words (k + 1) at
     ranked-same l = rank-same (take (slotCount words) keys) (take (slotCount words) order) (heldNow words) k at (ix .index) pos r (let n = length-take-le (slotCount words) keys (ix .in-keys) in omega arith)
+
+  -- a slot that has a key is the key's
+  pub slot-of-key : (k s : ℕ) → 0 < k → (s < slotCount words) × (getD keys s 0 ≡ k) → s ≡ seek (take (slotCount words) keys) k
+  slot-of-key k s pos t =
+      let l = t .0 in
+      let n = length-take-le (slotCount words) keys (ix .in-keys) in
+      sym (place-at (take (slotCount words) keys) (take (slotCount words) order) (heldNow words) (index-rises _ _ _ (ix .index)) (index-count _ _ _ (ix .index)) k pos s (omega arith) (getD-take (slotCount words) keys s 0 l ∙ t .1))
+
+  -- no slot is past the last
+  pub slot-few : (k : ℕ) → seek (take (slotCount words) keys) k ≤ 65536
+  slot-few k =
+      let n = length-take-le (slotCount words) keys (ix .in-keys) in
+      let h = seek-le (take (slotCount words) keys) k in
+      let f = ix .few in
+      omega arith

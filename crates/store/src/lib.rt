@@ -214,7 +214,7 @@ pub fn hinted_last(
     hinted(keys, order, words, page, address.0 / 256 + 1)
 }
 
-// The same, by search where no hint knows it.
+// The same, by the next slot, or else by a hint, or else by search.
 pub fn place_of_last(
     keys: &[u64],
     order: &[u32],
@@ -228,6 +228,10 @@ pub fn place_of_last(
 {
     if address.0 % 256 <= 224 {
         return s;
+    }
+    let next = next_to(keys, words, s);
+    if next < words[head::CHUNKS] as usize {
+        return next;
     }
     place_of(keys, order, words, page, address.0 / 256 + 1)
 }

@@ -1,5 +1,5 @@
 // Word writes to a well-formed memory.
-// Any other write, and what an allocation does once it is not refused: the page holds its chunks, the words are journalled, the bytes put.
+// Byte writes, and what an allocation with contents does once it is not refused.
 ghost use mathlib.Core.Path.{_≡_};
 ghost use Prim.Native.Nat.{_+_, _%_, _<_, _≤_, _^_};
 ghost use lib.ListN.{length};
@@ -61,7 +61,7 @@ fn write_held(
     word_steps::write_at(bytes, keys, order, words, page, address, s, t, word);
 }
 
-// Writes a word wherever it lies. The page's entry is e.
+// Writes a word wherever it lies. The page's entry is e, or e is the number of entries where none lists it.
 fn write_any(
     bytes: &mut [u8],
     keys: &mut [u64],
@@ -222,6 +222,6 @@ pub fn fill(
     ensures { λ _. ⌜ Shows (settingOf (mem (now (bytes .entry)) (now (keys .entry)) (now (order .entry)) (now (words .entry)))) (contentsAllocated (layoutOf (now (words .entry))) (page .0) (now (contents .entry)) (viewOf (mem (now (bytes .entry)) (now (keys .entry)) (now (order .entry)) (now (words .entry))))) (mem (now (bytes .exit)) (now (keys .exit)) (now (order .exit)) (now (words .exit))) ⌝ }
 {
     let count = checks::touched(Address(0), contents.len()) as u32;
-    reserve::prepare_new(bytes, keys, order, words, page, 0, count);
+    reserve::prepare_unallocated(bytes, keys, order, words, page, 0, count);
     bodies::write_from(bytes, keys, order, words, page, Address(0), contents);
 }

@@ -103,7 +103,8 @@ fn of_chunks() -> Table {
         table.add(name, Some(1.3), move || chunks::pooled(chunks, 1));
         let name = format!("word over two fresh chunks, vm2 has them in its pool, {label}");
         table.add(name, None, move || chunks::pooled(chunks, 2));
-        let name = format!("byte write of 4 KiB to fresh chunks, vm2 has them in its pool, {label}");
+        let name =
+            format!("byte write of 4 KiB to fresh chunks, vm2 has them in its pool, {label}");
         table.add(name, None, move || chunks::pooled_blocks(chunks));
         let name = format!("fresh chunk, vm2 allocates, {label}");
         table.add(name, None, move || chunks::allocated(chunks));

@@ -82,21 +82,21 @@ fn definition(text: &str, name: &str) -> String {
     rest.lines().next().expect("a definition is not empty").to_owned()
 }
 
-/// The one argument with two names: in the header, and everywhere else.
-const RENAMED: (&str, &str) = ("room", "journal_words");
+/// The one argument with two names: what the header of `zp_open` says, and what it is called elsewhere. The header is kept as
+/// hosts know it.
+const RENAMED: (&str, &str) = ("uint32_t room", "uint32_t journal_words");
 
 /// The functions of a header, with the arguments of a memory written out.
 fn header(text: &str) -> Functions {
+    assert_eq!(text.matches(RENAMED.0).count(), 1);
+    let text = &text.replace(RENAMED.0, RENAMED.1);
     let memories = ["ZP_CONST_MEMORY", "ZP_MEMORY"].map(|name| (name, definition(text, name)));
     let functions = declarations(text, "uint32_t ", "zp_").into_iter();
     let functions = functions.map(|[name, arguments, _]| {
         let written_out =
             |all: String, (memory, arguments): &(&str, String)| all.replace(memory, arguments);
         let arguments = memories.iter().fold(arguments.to_owned(), written_out);
-        let named = |(name, kind): Argument| {
-            (if name == RENAMED.0 { RENAMED.1.into() } else { name }, kind)
-        };
-        (name.into(), (listed(&arguments).map(from_c).map(named).collect(), "u32".into()))
+        (name.into(), (listed(&arguments).map(from_c).collect(), "u32".into()))
     });
     functions.collect()
 }

@@ -47,7 +47,7 @@ returns c =
     let at-pool-count = at-if1 .before .before in
     let start = at-pool-count .before .before .before .before .before in
     let m = (mem (start .args .bytes .now) (start .args .keys .now) (start .args .order .now) (start .args .words .now)) in
-    enough (holdsAt (m .keys) (m .words) (start .args .e)) (start .args .first) (start .args .from .chunk - start .args .first) (start .args .count) (pool m) (omega (arith, start .pre .1 .from, start .pre .1 .to)) (located-none (m .keys) (m .order) (m .words) (start .args .e) (start .args .page .0) (start .args .first) (start .args .count) (start .args .from .chunk) (start .args .from .rank) (start .pre .0 .1) (start .pre .0 .2) (start .pre .1)) (omega (arith, at-if1 .if1 .taken, at-pool-count .pool-count .ensures))
+    enough (holdsAt (m .keys) (m .words) (start .args .e)) (start .args .first) (start .args .located .chunk - start .args .first) (start .args .count) (pool m) (omega (arith, start .pre .1 .from, start .pre .1 .to)) (located-none (m .keys) (m .order) (m .words) (start .args .e) (start .args .page .0) (start .args .first) (start .args .count) (start .args .located .chunk) (start .args .located .rank) (start .pre .0 .1) (start .pre .0 .2) (start .pre .1)) (omega (arith, at-if1 .if1 .taken, at-pool-count .pool-count .ensures))
     ∙ ap (λ (has : ℕ → Bool). ltb (pool m) (spec.missing has (start .args .first) (start .args .count))) (held-at m (start .args .page .0) (start .args .e) (start .pre .0 .1))
 
 key-of-requires : tie.Need-key-of-requires Inv-loop μ-loop
@@ -61,7 +61,7 @@ loop-holds c =
     let at-if1 = c .before .before in
     let start = at-if1 .before .before .before .before .before .before .before in
     let m = (mem (start .args .bytes .now) (start .args .keys .now) (start .args .order .now) (start .args .words .now)) in
-    (omega (arith, start .pre .1 .from, start .pre .1 .to), search needs, sym (located-none (m .keys) (m .order) (m .words) (start .args .e) (start .args .page .0) (start .args .first) (start .args .count) (start .args .from .chunk) (start .args .from .rank) (start .pre .0 .1) (start .pre .0 .2) (start .pre .1)), located-rank (m .keys) (m .order) (m .words) (start .args .e) (start .args .page .0) (start .args .first) (start .args .count) (start .args .from .chunk) (start .args .from .rank) (start .pre .0 .1) (start .pre .0 .2) (start .pre .1) (omega (arith, at-if1 .if1 .left, start .pre .1 .from)))
+    (omega (arith, start .pre .1 .from, start .pre .1 .to), search needs, sym (located-none (m .keys) (m .order) (m .words) (start .args .e) (start .args .page .0) (start .args .first) (start .args .count) (start .args .located .chunk) (start .args .located .rank) (start .pre .0 .1) (start .pre .0 .2) (start .pre .1)), located-rank (m .keys) (m .order) (m .words) (start .args .e) (start .args .page .0) (start .args .first) (start .args .count) (start .args .located .chunk) (start .args .located .rank) (start .pre .0 .1) (start .pre .0 .2) (start .pre .1) (omega (arith, at-if1 .if1 .left, start .pre .1 .from)))
 
 add-slot-at-rank : tie.Need-add-slot-at-rank Inv-loop μ-loop
 add-slot-at-rank c =

@@ -6,8 +6,8 @@ use Rattle.checks.proofs.Tables.{allocated-by}
 use Rattle.reserve.proofs.reserve.Statement.{statement}
 use Rattle.reserve.proofs.reserve.Tie as tie
 
-reserve-new-requires : tie.Need-reserve-new-requires
-reserve-new-requires c κs =
+reserve-unallocated-requires : tie.Need-reserve-unallocated-requires
+reserve-unallocated-requires c κs =
     let at-if1 = c .before .before .before in
     let start = at-if1 .before .before .before .before .before .before in
     (start .pre .0, sym (allocated-by (mem (start .args .bytes .now) (start .args .keys .now) (start .args .order .now) (start .args .words .now)) (start .pre .0 .formed) (start .args .page .0) (start .args .e) (start .pre .1)) ∙ le-ltb _ _ (at-if1 .if1 .left))
@@ -17,5 +17,5 @@ reserve-spec =
     tie.close
     (tie.spec
     (λ c. search needs) (λ c. search needs) (λ c κs. search needs) (λ c. search needs) (λ c. search needs) (λ c. search needs) (λ c. search needs)
-    reserve-new-requires
+    reserve-unallocated-requires
     (λ c. search needs) (λ c. search needs) (λ c. search needs) (λ c. search needs))

@@ -17,8 +17,8 @@ cast-count c =
     let cleared = contents-cleared m (start .args .page .0) (length (start .args .contents .now)) (at-touched .touched .result) (omega (arith, start .good .1 .1 .1 .1 .0)) (start .pre) (at-touched .touched .ensures) in
     let h = count-small m (start .args .page .0) 0 (length (start .args .contents .now)) 0 (at-touched .touched .result) cleared in omega arith
 
-prepare-new-requires : tie.Need-prepare-new-requires
-prepare-new-requires c κs =
+prepare-unallocated-requires : tie.Need-prepare-unallocated-requires
+prepare-unallocated-requires c κs =
     let at-touched = c .before .before .before .before in
     let start = at-touched .before .before .before .before .before .before in
     let m = mem (start .args .bytes .now) (start .args .keys .now) (start .args .order .now) (start .args .words .now) in
@@ -27,22 +27,22 @@ prepare-new-requires c κs =
 
 write-from-requires : tie.Need-write-from-requires
 write-from-requires c κs =
-    let at-prepare-new = c .before .before .before .before .before .before .before .before .before .before in
-    let at-touched = at-prepare-new .before .before .before .before .before in
+    let at-prepare-unallocated = c .before .before .before .before .before .before .before .before .before .before in
+    let at-touched = at-prepare-unallocated .before .before .before .before .before in
     let start = at-touched .before .before .before .before .before .before in
     let m = mem (start .args .bytes .now) (start .args .keys .now) (start .args .order .now) (start .args .words .now) in
     let cleared = contents-cleared m (start .args .page .0) (length (start .args .contents .now)) (at-touched .touched .result) (omega (arith, start .good .1 .1 .1 .1 .0)) (start .pre) (at-touched .touched .ensures) in
-    plain-asks m (start .args .page .0) 0 (start .args .contents .now) 0 (at-touched .touched .result) cleared (mem (start .args .bytes .now) (at-prepare-new .prepare-new .last .1 .0) (at-prepare-new .prepare-new .last .1 .1 .0) (at-prepare-new .prepare-new .last .1 .1 .1 .0)) (at-prepare-new .prepare-new .ensures)
+    plain-asks m (start .args .page .0) 0 (start .args .contents .now) 0 (at-touched .touched .result) cleared (mem (start .args .bytes .now) (at-prepare-unallocated .prepare-unallocated .last .1 .0) (at-prepare-unallocated .prepare-unallocated .last .1 .1 .0) (at-prepare-unallocated .prepare-unallocated .last .1 .1 .1 .0)) (at-prepare-unallocated .prepare-unallocated .ensures)
 
 returns : tie.Need-returns
 returns c =
     let at-write-from = c .before .before in
-    let at-prepare-new = at-write-from .before .before .before .before .before .before .before .before .before .before .before in
-    let at-touched = at-prepare-new .before .before .before .before .before in
+    let at-prepare-unallocated = at-write-from .before .before .before .before .before .before .before .before .before .before .before in
+    let at-touched = at-prepare-unallocated .before .before .before .before .before in
     let start = at-touched .before .before .before .before .before .before in
     let m = mem (start .args .bytes .now) (start .args .keys .now) (start .args .order .now) (start .args .words .now) in
     let cleared = contents-cleared m (start .args .page .0) (length (start .args .contents .now)) (at-touched .touched .result) (omega (arith, start .good .1 .1 .1 .1 .0)) (start .pre) (at-touched .touched .ensures) in
-    plain-done m (start .args .page .0) 0 (start .args .contents .now) 0 (at-touched .touched .result) cleared (mem (start .args .bytes .now) (at-prepare-new .prepare-new .last .1 .0) (at-prepare-new .prepare-new .last .1 .1 .0) (at-prepare-new .prepare-new .last .1 .1 .1 .0)) (at-prepare-new .prepare-new .ensures) [] (contents-unjournalled m (start .args .page .0) (length (start .args .contents .now)) (start .pre)) _ (at-write-from .write-from .ensures)
+    plain-done m (start .args .page .0) 0 (start .args .contents .now) 0 (at-touched .touched .result) cleared (mem (start .args .bytes .now) (at-prepare-unallocated .prepare-unallocated .last .1 .0) (at-prepare-unallocated .prepare-unallocated .last .1 .1 .0) (at-prepare-unallocated .prepare-unallocated .last .1 .1 .1 .0)) (at-prepare-unallocated .prepare-unallocated .ensures) [] (contents-unjournalled m (start .args .page .0) (length (start .args .contents .now)) (start .pre)) _ (at-write-from .write-from .ensures)
 
 pub fill-spec : {M : Type 1} → statement M
-fill-spec = tie.close (tie.spec (λ c κs. search needs) cast-count prepare-new-requires write-from-requires (λ c. search needs) (λ c. search needs) (λ c. search needs) (λ c. search needs) returns)
+fill-spec = tie.close (tie.spec (λ c κs. search needs) cast-count prepare-unallocated-requires write-from-requires (λ c. search needs) (λ c. search needs) (λ c. search needs) (λ c. search needs) returns)

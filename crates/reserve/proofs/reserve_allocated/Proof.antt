@@ -5,8 +5,8 @@ use Rattle.store.specs.Mem.{mem}
 use Rattle.formed.proofs.Asks.{entry-few}
 use Rattle.formed.proofs.Hints.{find-asked}
 use Rattle.reserve.proofs.Reserving.{entry-listed, reserve-refused, reserve-prepare, reserve-done}
-use Rattle.reserve.proofs.reserve_more.Statement.{statement}
-use Rattle.reserve.proofs.reserve_more.Tie as tie
+use Rattle.reserve.proofs.reserve_allocated.Statement.{statement}
+use Rattle.reserve.proofs.reserve_allocated.Tie as tie
 
 locate-requires : tie.Need-locate-requires
 locate-requires c κs =
@@ -26,8 +26,8 @@ returns c =
     let start = at-allocated-refusal .before .before .before .before .before .before .before .before .before .before .before .before in
     reserve-refused (mem (start .args .bytes .now) (start .args .keys .now) (start .args .order .now) (start .args .words .now)) (start .args .page .0) (start .args .first) (start .args .count) (start .args .w) (start .pre .0) _ (at-allocated-refusal .allocated-refusal .ensures) (at-if1 .if1 .taken)
 
-prepare-more-requires : tie.Need-prepare-more-requires
-prepare-more-requires c κs =
+prepare-allocated-requires : tie.Need-prepare-allocated-requires
+prepare-allocated-requires c κs =
     let at-if1 = c .before .before .before in
     let at-allocated-refusal = at-if1 .before in
     let at-locate = at-allocated-refusal .before .before .before .before in
@@ -36,20 +36,20 @@ prepare-more-requires c κs =
 
 returns-2 : tie.Need-returns-2
 returns-2 c =
-    let at-prepare-more = c .before .before .before .before .before .before in
-    let at-if1 = at-prepare-more .before .before .before .before in
+    let at-prepare-allocated = c .before .before .before .before .before .before in
+    let at-if1 = at-prepare-allocated .before .before .before .before in
     let at-allocated-refusal = at-if1 .before in
     let start = at-allocated-refusal .before .before .before .before .before .before .before .before .before .before .before .before in
-    reserve-done (mem (start .args .bytes .now) (start .args .keys .now) (start .args .order .now) (start .args .words .now)) (start .args .page .0) (start .args .first) (start .args .count) (start .args .w) (start .pre .0) (sym (at-allocated-refusal .allocated-refusal .ensures) ∙ at-if1 .if1 .left) _ (at-prepare-more .prepare-more .ensures)
+    reserve-done (mem (start .args .bytes .now) (start .args .keys .now) (start .args .order .now) (start .args .words .now)) (start .args .page .0) (start .args .first) (start .args .count) (start .args .w) (start .pre .0) (sym (at-allocated-refusal .allocated-refusal .ensures) ∙ at-if1 .if1 .left) _ (at-prepare-allocated .prepare-allocated .ensures)
 
-pub reserve-more-spec : {M : Type 1} → statement M
-reserve-more-spec =
+pub reserve-allocated-spec : {M : Type 1} → statement M
+reserve-allocated-spec =
     tie.close
     (tie.spec
     locate-requires
     allocated-refusal-requires
     (λ c. search needs) (λ c. search needs) (λ c. search needs)
     returns
-    prepare-more-requires
+    prepare-allocated-requires
     (λ c. search needs) (λ c. search needs) (λ c. search needs)
     returns-2)

@@ -6,8 +6,8 @@ use Rattle.store.specs.Keys.{keyOf}
 use Rattle.store.specs.Mem.{mem}
 use Rattle.formed.proofs.Asks.{entry-few, slots-asked}
 use Rattle.reserve.proofs.Reserving.{list-asks, hold-asks, prepared}
-use Rattle.reserve.proofs.prepare_new.Statement.{statement}
-use Rattle.reserve.proofs.prepare_new.Tie as tie
+use Rattle.reserve.proofs.prepare_unallocated.Statement.{statement}
+use Rattle.reserve.proofs.prepare_unallocated.Tie as tie
 
 list-page-requires : tie.Need-list-page-requires
 list-page-requires c κs =
@@ -42,8 +42,8 @@ returns c =
     let start = at-list-page .before .before .before .before .before .before .before .before in
     prepared (mem (start .args .bytes .now) (start .args .keys .now) (start .args .order .now) (start .args .words .now)) (start .args .page .0) (start .args .first) (start .args .count) (start .pre .0) (mem (start .args .bytes .now) (at-list-page .list-page .last .1 .0) (at-list-page .list-page .last .1 .1 .0) (at-list-page .list-page .last .1 .1 .1 .0)) (at-list-page .list-page .ensures .0) _ (at-hold-chunks .hold-chunks .ensures)
 
-pub prepare-new-spec : {M : Type 1} → statement M
-prepare-new-spec =
+pub prepare-unallocated-spec : {M : Type 1} → statement M
+prepare-unallocated-spec =
     tie.close
     (tie.spec
     list-page-requires

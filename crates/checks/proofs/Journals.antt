@@ -1,7 +1,7 @@
 -- Whether the journal of a page has room.
 -- Assumes nothing.
 use mathlib.Core.Path.{_≡_, refl, sym, _∙_}
-use mathlib.Core.Bool.{Bool, true, false, _||_}
+use mathlib.Core.Bool.{Bool, true, false, _||_, false≢true}
 use Prim.Native.Nat.{ℕ, zero, suc, _+_, _<_}
 use native.Mathlib.Omega.{arith}
 use lib.Dec.{ltb}
@@ -9,9 +9,11 @@ use lib.ListN.{length}
 use borrow.Author.Tests.{lt-ltb, eq-eqb, ne-eqb}
 use Rattle.formed.proofs.Same.{tab-long}
 use Rattle.store.specs.Mem.{Mem, layoutOf, journalWords, journalLength}
-use Rattle.formed.specs.Pages.{journalCount, journalPage}
+use Rattle.formed.specs.Pages.{journalCount, journalPlace, journalPage}
 use Rattle.formed.specs.Parts.{journal}
 use Rattle.formed.specs.WellFormed.{WellFormed}
+use Rattle.formed.proofs.Pages.{is-fixed, place-lt}
+use Rattle.formed.proofs.Sense.{fixed-allocated}
 use Rattle.view.specs.View.{settingOf, viewOf}
 use Rattle.view.specs.Checks.{overfull}
 
@@ -38,3 +40,8 @@ module _ (m : Mem) (f : WellFormed m) (p x : ℕ) where
   pub full-none : ((i : ℕ) → i < journalCount → p ≡ journalPage (layoutOf (m .words)) i → ⊥) → overfull (settingOf m) (viewOf m) p x journalCount ≡ false
   unfolding overfull
   full-none n = rw (ne-eqb p _ (n 1 (omega arith)), ne-eqb p _ (n 0 (omega arith))) refl
+
+-- a page that is not allocated has none: the pages with a journal are fixed, and fixed pages are allocated
+pub full-unlisted : (m : Mem) → WellFormed m → (p x : ℕ) → viewOf m .allocated p ≡ false → overfull (settingOf m) (viewOf m) p x journalCount ≡ false
+full-unlisted m f p x new =
+    full-none m f p x (λ i l own. false≢true (sym new ∙ fixed-allocated m f p (is-fixed (layoutOf (m .words)) p (journalPlace i) (place-lt i l) own)))

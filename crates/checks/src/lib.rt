@@ -75,7 +75,7 @@ fn known_slot(
     store::hinted(keys, order, words, page, chunk)
 }
 
-// How many of the chunks first, .., first + count - 1 of the page at entry e are known to be held before the first that is not.
+// How many of the chunks first, .., first + count - 1 of the page at entry e are known to be held before the first that is not. The contract does not say that there are no more.
 fn known_run(
     keys: &[u64],
     order: &[u32],
@@ -217,7 +217,7 @@ pub fn short_of_words(
     words[head::JOURNAL_WORDS] < words[head::JOURNALS + j] + w
 }
 
-// 9, 10, 11 of a page that is not allocated. Such a page holds no chunk, so all of `count` are missing.
+// 9 and 10 of a page that is not allocated. Such a page holds no chunk, so all of `count` are missing. It has no journal, so it is never refused with 11.
 pub fn unallocated_refusal(
     bytes: &[u8],
     keys: &[u64],
@@ -225,19 +225,15 @@ pub fn unallocated_refusal(
     words: &[u64],
     page: PageId,
     count: u64,
-    w: u64,
 ) -> u32
-    requires { ⌜ (WellFormed (mem (now bytes) (now keys) (now order) (now words))) × (viewOf (mem (now bytes) (now keys) (now order) (now words)) .allocated (page .0) ≡ false) × (w ≤ 2 ^ 60) ⌝ }
-    ensures { λ r. ⌜ ((first : ℕ) → r ≡ firstRefusal (capacityChecks (settingOf (mem (now (bytes .entry)) (now (keys .entry)) (now (order .entry)) (now (words .entry)))) (viewOf (mem (now (bytes .entry)) (now (keys .entry)) (now (order .entry)) (now (words .entry)))) (page .0) first count w)) ⌝ }
+    requires { ⌜ (WellFormed (mem (now bytes) (now keys) (now order) (now words))) × (viewOf (mem (now bytes) (now keys) (now order) (now words)) .allocated (page .0) ≡ false) ⌝ }
+    ensures { λ r. ⌜ ((first w : ℕ) → r ≡ firstRefusal (capacityChecks (settingOf (mem (now (bytes .entry)) (now (keys .entry)) (now (order .entry)) (now (words .entry)))) (viewOf (mem (now (bytes .entry)) (now (keys .entry)) (now (order .entry)) (now (words .entry)))) (page .0) first count w)) ⌝ }
 {
     if words[head::ENTRIES] == words[head::PAGES] + head::FIXED_PAGES {
         return 9;
     }
     if pool::pool_count(keys, order, words) < count {
         return 10;
-    }
-    if short_of_words(bytes, keys, order, words, page, w) {
-        return 11;
     }
     0
 }
@@ -295,7 +291,7 @@ pub fn word_refusal(
     let count = touched(address, 32);
     let e = store::entry_of(keys, order, words, page);
     if (e as u64) >= words[head::PAGES] + head::FIXED_PAGES {
-        return unallocated_refusal(bytes, keys, order, words, page, count, 1);
+        return unallocated_refusal(bytes, keys, order, words, page, count);
     }
     let located = locate(keys, order, words, page, e, first, count as u32);
     allocated_refusal(
@@ -358,5 +354,5 @@ pub fn allocate_refusal(
         return 6;
     }
     let count = touched(Address(0), n);
-    unallocated_refusal(bytes, keys, order, words, page, count, 0)
+    unallocated_refusal(bytes, keys, order, words, page, count)
 }

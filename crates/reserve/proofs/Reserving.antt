@@ -20,7 +20,7 @@ use Rattle.view.proofs.Missing.{missing-same}
 use Rattle.view.proofs.Compose.{listed-held, listed-pool}
 use Rattle.bodies.proofs.Puts.{shows-then}
 use Rattle.checks.specs.Located.{Locates}
-use Rattle.checks.proofs.Passed.{Room, room-passed, decodable}
+use Rattle.checks.proofs.Passed.{room-passed, decodable}
 use Rattle.checks.proofs.Chosen.{touched-top}
 use Rattle.checks.proofs.Tables.{allocated-by}
 use Rattle.pages.proofs.Listing.{listed-already}
@@ -64,19 +64,19 @@ reserve-asks m f p a n k w page known end e small = record {
   words = small;
 }
 
-module _ (m : Mem) (p k n w : ℕ) (asks : ReserveAsks m p k n w) where
+-- what it leaves, refused or done
+module _ (m : Mem) (p k n w : ℕ) where
   pub reserve-refused : (r : ℕ) → r ≡ firstRefusal (capacityChecks (settingOf m) (viewOf m) p k n w) → (r ≡ 0 → ⊥) → Reserved m p k n w r m
   reserve-refused r e z = record { number = e; held = λ h. absurd (z h); kept = λ _. refl }
 
   module _ (free : firstRefusal (capacityChecks (settingOf m) (viewOf m) p k n w) ≡ 0) where
-    room : Room (settingOf m) (viewOf m) p k n w
-    room = room-passed (settingOf m) (viewOf m) p k n w free
-
-    pub reserve-prepare : PrepareAsks m p k n
-    reserve-prepare = record { formed = asks .formed; page = asks .page; decodable = asks .decodable; entry = room .entry; top = asks .top; room = room .chunks }
-
     pub reserve-done : (m' : Mem) → Shows (settingOf m) (holding p k n (listing m p)) m' → Reserved m p k n w 0 m'
     reserve-done m' shown = record { number = sym free; held = λ _. shown; kept = λ z. absurd (z refl) }
+
+    pub reserve-prepare : ReserveAsks m p k n w → PrepareAsks m p k n
+    reserve-prepare asks =
+        let room = room-passed (settingOf m) (viewOf m) p k n w free in
+        record { formed = asks .formed; page = asks .page; decodable = asks .decodable; entry = room .entry; top = asks .top; room = room .chunks }
 
 -- an allocated page, some of whose chunks are known to be held
 module _ (m : Mem) (p k n : ℕ) (asks : PrepareAsks m p k n) (e : ℕ) (is : e ≡ entryOf m p) (there : e < pageCount (m .words) + 4) (chunk rank : ℕ) (l : Locates (m .keys) (m .order) (m .words) p k n chunk rank) where

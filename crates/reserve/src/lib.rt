@@ -1,7 +1,7 @@
 // Makes a page hold chunks: allocates it, if it is not, and takes the chunks that are missing from the pool. The page's entry and one rank are handed on.
 ghost use mathlib.Core.Path.{_≡_};
 ghost use mathlib.Core.Bool.{false};
-ghost use Prim.Native.Nat.{_+_, _<_};
+ghost use Prim.Native.Nat.{ℕ, _+_, _<_};
 ghost use Rattle.store.specs.Mem.{mem, pageCount, fixedCount};
 ghost use Rattle.formed.specs.Parts.{entryOf};
 ghost use Rattle.view.specs.View.{settingOf, viewOf};
@@ -67,7 +67,7 @@ fn prepare_allocated(
     );
 }
 
-// `reserve` for a page that is not allocated.
+// `reserve` for a page that is not allocated. Such a page has no journal, so any number of words will do.
 fn reserve_unallocated(
     bytes: &[u8],
     keys: &mut [u64],
@@ -76,12 +76,11 @@ fn reserve_unallocated(
     page: PageId,
     first: u32,
     count: u32,
-    w: u64,
 ) -> u32
-    requires { ⌜ (ReserveAsks (mem (now bytes) (now keys) (now order) (now words)) (page .0) first count w) × (viewOf (mem (now bytes) (now keys) (now order) (now words)) .allocated (page .0) ≡ false) ⌝ }
-    ensures { λ r. ⌜ Reserved (mem (now (bytes .entry)) (now (keys .entry)) (now (order .entry)) (now (words .entry))) (page .0) first count w r (mem (now (bytes .entry)) (now (keys .exit)) (now (order .exit)) (now (words .exit))) ⌝ }
+    requires { ⌜ (ReserveAsks (mem (now bytes) (now keys) (now order) (now words)) (page .0) first count 0) × (viewOf (mem (now bytes) (now keys) (now order) (now words)) .allocated (page .0) ≡ false) ⌝ }
+    ensures { λ r. ⌜ ((w : ℕ) → Reserved (mem (now (bytes .entry)) (now (keys .entry)) (now (order .entry)) (now (words .entry))) (page .0) first count w r (mem (now (bytes .entry)) (now (keys .exit)) (now (order .exit)) (now (words .exit)))) ⌝ }
 {
-    let number = checks::unallocated_refusal(bytes, keys, order, words, page, count as u64, w);
+    let number = checks::unallocated_refusal(bytes, keys, order, words, page, count as u64);
     if number != 0 {
         return number;
     }
@@ -143,5 +142,5 @@ pub fn reserve(
     if (e as u64) < words[head::PAGES] + head::FIXED_PAGES {
         return reserve_allocated(bytes, keys, order, words, page, e, first, count, w);
     }
-    reserve_unallocated(bytes, keys, order, words, page, first, count, w)
+    reserve_unallocated(bytes, keys, order, words, page, first, count)
 }

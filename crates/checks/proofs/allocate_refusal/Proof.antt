@@ -49,7 +49,7 @@ unallocated-refusal-requires c κs =
     let at-if3 = c .before in
     let at-is-allocated = at-if3 .before in
     let start = at-is-allocated .before .before .before .before .before .before .before .before .before .before in
-    (start .pre, sym (at-is-allocated .is-allocated .ensures) ∙ at-if3 .if3 .left, omega arith)
+    (start .pre, sym (at-is-allocated .is-allocated .ensures) ∙ at-if3 .if3 .left)
 
 returns-4 : tie.Need-returns-4
 returns-4 c =
@@ -64,7 +64,7 @@ returns-4 c =
     let at-decode = at-is-undecodable .before in
     let start = at-decode .before .before .before .before .before in
     let m = mem (start .args .bytes .now) (start .args .keys .now) (start .args .order .now) (start .args .words .now) in
-    allocate-room (settingOf m) (viewOf m) (start .args .page .0) _ (at-decode .decode .ensures) (start .args .n) (sym (at-is-undecodable .is-undecodable .ensures) ∙ at-if1 .if1 .left) (sym (at-is-fixed .is-fixed .ensures) ∙ at-if2 .if2 .left) (sym (at-is-allocated .is-allocated .ensures) ∙ at-if3 .if3 .left) _ (room-chosen 0 (start .args .n) _ (at-touched .touched .ensures) (settingOf m) (viewOf m) (start .args .page .0) 0 0 _ refl (at-unallocated-refusal .unallocated-refusal .ensures 0))
+    allocate-room (settingOf m) (viewOf m) (start .args .page .0) _ (at-decode .decode .ensures) (start .args .n) (sym (at-is-undecodable .is-undecodable .ensures) ∙ at-if1 .if1 .left) (sym (at-is-fixed .is-fixed .ensures) ∙ at-if2 .if2 .left) (sym (at-is-allocated .is-allocated .ensures) ∙ at-if3 .if3 .left) _ (room-chosen 0 (start .args .n) _ (at-touched .touched .ensures) (settingOf m) (viewOf m) (start .args .page .0) 0 0 _ refl (at-unallocated-refusal .unallocated-refusal .ensures 0 0))
 
 pub allocate-refusal-spec : {M : Type 1} → statement M
 allocate-refusal-spec =

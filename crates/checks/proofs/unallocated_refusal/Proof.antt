@@ -1,14 +1,11 @@
-use mathlib.Core.Path.{_≡_, sym, _∙_}
-use mathlib.Core.Bool.{true, false, not, _&&_}
-use Prim.Native.Nat.{ℕ}
-use native.Mathlib.Omega.{arith}
-use lib.Dec.{ltb, eqb}
+use mathlib.Core.Path.{sym, _∙_}
 use borrow.Author.Needs.{needs}
 use borrow.Author.Tests.{eq-eqb, ne-eqb}
 use Rattle.store.specs.Mem.{mem}
 use Rattle.formed.proofs.Asks.{slots-asked}
 use Rattle.view.specs.View.{settingOf, viewOf}
-use Rattle.checks.proofs.Numbers.{room-9, room-10, room-11, room-0}
+use Rattle.checks.proofs.Journals.{full-unlisted}
+use Rattle.checks.proofs.Numbers.{room-9, room-10, room-0}
 use Rattle.checks.proofs.Tables.{entry-asked, pool-short, pool-enough}
 use Rattle.checks.proofs.unallocated_refusal.Statement.{statement}
 use Rattle.checks.proofs.unallocated_refusal.Tie as tie
@@ -17,7 +14,7 @@ returns : tie.Need-returns
 returns c =
     let at-if1 = c in
     let start = at-if1 .before .before .before .before .before .before .before in
-    λ first. let m = (mem (start .args .bytes .now) (start .args .keys .now) (start .args .order .now) (start .args .words .now)) in room-9 (settingOf m) (viewOf m) (start .args .page .0) first (start .args .count) (start .args .w) (sym (entry-asked m (start .pre .0) (start .args .page .0) (start .pre .1)) ∙ eq-eqb _ _ (at-if1 .if1 .taken))
+    λ first w. let m = (mem (start .args .bytes .now) (start .args .keys .now) (start .args .order .now) (start .args .words .now)) in room-9 (settingOf m) (viewOf m) (start .args .page .0) first (start .args .count) w (sym (entry-asked m (start .pre .0) (start .args .page .0) (start .pre .1)) ∙ eq-eqb _ _ (at-if1 .if1 .taken))
 
 pool-count-requires : tie.Need-pool-count-requires
 pool-count-requires c κs =
@@ -30,27 +27,15 @@ returns-2 c =
     let at-pool-count = at-if2 .before in
     let at-if1 = at-pool-count .before in
     let start = at-if1 .before .before .before .before .before .before .before in
-    λ first. let m = (mem (start .args .bytes .now) (start .args .keys .now) (start .args .order .now) (start .args .words .now)) in room-10 (settingOf m) (viewOf m) (start .args .page .0) first (start .args .count) (start .args .w) (sym (entry-asked m (start .pre .0) (start .args .page .0) (start .pre .1)) ∙ ne-eqb _ _ (at-if1 .if1 .left)) (pool-short m (start .pre .0) (start .args .page .0) (start .pre .1) first (start .args .count) _ (at-pool-count .pool-count .ensures) (at-if2 .if2 .taken))
+    λ first w. let m = (mem (start .args .bytes .now) (start .args .keys .now) (start .args .order .now) (start .args .words .now)) in room-10 (settingOf m) (viewOf m) (start .args .page .0) first (start .args .count) w (sym (entry-asked m (start .pre .0) (start .args .page .0) (start .pre .1)) ∙ ne-eqb _ _ (at-if1 .if1 .left)) (pool-short m (start .pre .0) (start .args .page .0) (start .pre .1) first (start .args .count) _ (at-pool-count .pool-count .ensures) (at-if2 .if2 .taken))
 
 returns-3 : tie.Need-returns-3
 returns-3 c =
-    let at-if3 = c in
-    let at-short-of-words = at-if3 .before in
-    let at-if2 = at-short-of-words .before in
+    let at-if2 = c in
     let at-pool-count = at-if2 .before in
     let at-if1 = at-pool-count .before in
     let start = at-if1 .before .before .before .before .before .before .before in
-    λ first. let m = (mem (start .args .bytes .now) (start .args .keys .now) (start .args .order .now) (start .args .words .now)) in room-11 (settingOf m) (viewOf m) (start .args .page .0) first (start .args .count) (start .args .w) (sym (entry-asked m (start .pre .0) (start .args .page .0) (start .pre .1)) ∙ ne-eqb _ _ (at-if1 .if1 .left)) (pool-enough m (start .pre .0) (start .args .page .0) (start .pre .1) first (start .args .count) _ (at-pool-count .pool-count .ensures) (at-if2 .if2 .left)) (sym (at-short-of-words .short-of-words .ensures) ∙ at-if3 .if3 .taken)
-
-returns-4 : tie.Need-returns-4
-returns-4 c =
-    let at-if3 = c in
-    let at-short-of-words = at-if3 .before in
-    let at-if2 = at-short-of-words .before in
-    let at-pool-count = at-if2 .before in
-    let at-if1 = at-pool-count .before in
-    let start = at-if1 .before .before .before .before .before .before .before in
-    λ first. let m = (mem (start .args .bytes .now) (start .args .keys .now) (start .args .order .now) (start .args .words .now)) in room-0 (settingOf m) (viewOf m) (start .args .page .0) first (start .args .count) (start .args .w) (sym (entry-asked m (start .pre .0) (start .args .page .0) (start .pre .1)) ∙ ne-eqb _ _ (at-if1 .if1 .left)) (pool-enough m (start .pre .0) (start .args .page .0) (start .pre .1) first (start .args .count) _ (at-pool-count .pool-count .ensures) (at-if2 .if2 .left)) (sym (at-short-of-words .short-of-words .ensures) ∙ at-if3 .if3 .left)
+    λ first w. let m = (mem (start .args .bytes .now) (start .args .keys .now) (start .args .order .now) (start .args .words .now)) in room-0 (settingOf m) (viewOf m) (start .args .page .0) first (start .args .count) w (sym (entry-asked m (start .pre .0) (start .args .page .0) (start .pre .1)) ∙ ne-eqb _ _ (at-if1 .if1 .left)) (pool-enough m (start .pre .0) (start .args .page .0) (start .pre .1) first (start .args .count) _ (at-pool-count .pool-count .ensures) (at-if2 .if2 .left)) (full-unlisted m (start .pre .0) (start .args .page .0) w (start .pre .1))
 
 pub unallocated-refusal-spec : {M : Type 1} → statement M
 unallocated-refusal-spec =
@@ -60,6 +45,4 @@ unallocated-refusal-spec =
     returns
     pool-count-requires
     returns-2
-    (λ c κs. search needs)
-    returns-3
-    returns-4)
+    returns-3)

@@ -32,7 +32,7 @@ unallocated-refusal-requires c κs =
     let at-if2 = c in
     let at-entry-of = at-if2 .before .before in
     let start = at-entry-of .before .before .before .before .before .before .before .before .before .before in
-    (start .pre, sym (allocated-by (mem (start .args .bytes .now) (start .args .keys .now) (start .args .order .now) (start .args .words .now)) (start .pre) (start .args .page .0) (at-entry-of .entry-of .result) (at-entry-of .entry-of .ensures)) ∙ le-ltb _ _ (at-if2 .if2 .taken), omega arith)
+    (start .pre, sym (allocated-by (mem (start .args .bytes .now) (start .args .keys .now) (start .args .order .now) (start .args .words .now)) (start .pre) (start .args .page .0) (at-entry-of .entry-of .result) (at-entry-of .entry-of .ensures)) ∙ le-ltb _ _ (at-if2 .if2 .taken))
 
 returns-2 : tie.Need-returns-2
 returns-2 c =
@@ -43,7 +43,7 @@ returns-2 c =
     let at-decode = at-is-undecodable .before in
     let start = at-decode .before .before .before .before .before in
     let m = (mem (start .args .bytes .now) (start .args .keys .now) (start .args .order .now) (start .args .words .now)) in
-    past-4 (settingOf m) (viewOf m) (start .args .page .0) _ (at-decode .decode .ensures) (capacityChecksAt (settingOf m) (viewOf m) (start .args .page .0) (start .args .address .0) 32 1) (sym (at-is-undecodable .is-undecodable .ensures) ∙ at-if1 .if1 .left) _ (room-chosen (start .args .address .0) 32 _ (at-touched .touched .ensures) (settingOf m) (viewOf m) (start .args .page .0) 1 1 _ refl (at-unallocated-refusal .unallocated-refusal .ensures (start .args .address .0 / 256)))
+    past-4 (settingOf m) (viewOf m) (start .args .page .0) _ (at-decode .decode .ensures) (capacityChecksAt (settingOf m) (viewOf m) (start .args .page .0) (start .args .address .0) 32 1) (sym (at-is-undecodable .is-undecodable .ensures) ∙ at-if1 .if1 .left) _ (room-chosen (start .args .address .0) 32 _ (at-touched .touched .ensures) (settingOf m) (viewOf m) (start .args .page .0) 1 1 _ refl (at-unallocated-refusal .unallocated-refusal .ensures (start .args .address .0 / 256) 1))
 
 locate-requires : tie.Need-locate-requires
 locate-requires c κs =

@@ -24,7 +24,7 @@ returns c =
     let at-if1 = c in
     let at-allocated-refusal = at-if1 .before in
     let start = at-allocated-refusal .before .before .before .before .before .before .before .before .before .before .before .before in
-    reserve-refused (mem (start .args .bytes .now) (start .args .keys .now) (start .args .order .now) (start .args .words .now)) (start .args .page .0) (start .args .first) (start .args .count) (start .args .w) (start .pre .0) _ (at-allocated-refusal .allocated-refusal .ensures) (at-if1 .if1 .taken)
+    reserve-refused (mem (start .args .bytes .now) (start .args .keys .now) (start .args .order .now) (start .args .words .now)) (start .args .page .0) (start .args .first) (start .args .count) (start .args .w) _ (at-allocated-refusal .allocated-refusal .ensures) (at-if1 .if1 .taken)
 
 prepare-allocated-requires : tie.Need-prepare-allocated-requires
 prepare-allocated-requires c κs =
@@ -32,7 +32,7 @@ prepare-allocated-requires c κs =
     let at-allocated-refusal = at-if1 .before in
     let at-locate = at-allocated-refusal .before .before .before .before in
     let start = at-locate .before .before .before .before .before .before .before .before in
-    ((reserve-prepare (mem (start .args .bytes .now) (start .args .keys .now) (start .args .order .now) (start .args .words .now)) (start .args .page .0) (start .args .first) (start .args .count) (start .args .w) (start .pre .0) (sym (at-allocated-refusal .allocated-refusal .ensures) ∙ at-if1 .if1 .left), start .pre .1, start .pre .2), at-locate .locate .ensures)
+    ((reserve-prepare (mem (start .args .bytes .now) (start .args .keys .now) (start .args .order .now) (start .args .words .now)) (start .args .page .0) (start .args .first) (start .args .count) (start .args .w) (sym (at-allocated-refusal .allocated-refusal .ensures) ∙ at-if1 .if1 .left) (start .pre .0), start .pre .1, start .pre .2), at-locate .locate .ensures)
 
 returns-2 : tie.Need-returns-2
 returns-2 c =
@@ -40,7 +40,7 @@ returns-2 c =
     let at-if1 = at-prepare-allocated .before .before .before .before in
     let at-allocated-refusal = at-if1 .before in
     let start = at-allocated-refusal .before .before .before .before .before .before .before .before .before .before .before .before in
-    reserve-done (mem (start .args .bytes .now) (start .args .keys .now) (start .args .order .now) (start .args .words .now)) (start .args .page .0) (start .args .first) (start .args .count) (start .args .w) (start .pre .0) (sym (at-allocated-refusal .allocated-refusal .ensures) ∙ at-if1 .if1 .left) _ (at-prepare-allocated .prepare-allocated .ensures)
+    reserve-done (mem (start .args .bytes .now) (start .args .keys .now) (start .args .order .now) (start .args .words .now)) (start .args .page .0) (start .args .first) (start .args .count) (start .args .w) (sym (at-allocated-refusal .allocated-refusal .ensures) ∙ at-if1 .if1 .left) _ (at-prepare-allocated .prepare-allocated .ensures)
 
 pub reserve-allocated-spec : {M : Type 1} → statement M
 reserve-allocated-spec =

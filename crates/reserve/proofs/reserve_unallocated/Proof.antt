@@ -10,14 +10,14 @@ returns c =
     let at-if1 = c in
     let at-unallocated-refusal = at-if1 .before in
     let start = at-unallocated-refusal .before .before .before .before .before .before .before .before in
-    reserve-refused (mem (start .args .bytes .now) (start .args .keys .now) (start .args .order .now) (start .args .words .now)) (start .args .page .0) (start .args .first) (start .args .count) (start .args .w) (start .pre .0) _ (at-unallocated-refusal .unallocated-refusal .ensures (start .args .first)) (at-if1 .if1 .taken)
+    λ w. reserve-refused (mem (start .args .bytes .now) (start .args .keys .now) (start .args .order .now) (start .args .words .now)) (start .args .page .0) (start .args .first) (start .args .count) w _ (at-unallocated-refusal .unallocated-refusal .ensures (start .args .first) w) (at-if1 .if1 .taken)
 
 prepare-unallocated-requires : tie.Need-prepare-unallocated-requires
 prepare-unallocated-requires c κs =
     let at-if1 = c .before .before .before in
     let at-unallocated-refusal = at-if1 .before in
     let start = at-unallocated-refusal .before .before .before .before .before .before .before .before in
-    (reserve-prepare (mem (start .args .bytes .now) (start .args .keys .now) (start .args .order .now) (start .args .words .now)) (start .args .page .0) (start .args .first) (start .args .count) (start .args .w) (start .pre .0) (sym (at-unallocated-refusal .unallocated-refusal .ensures (start .args .first)) ∙ at-if1 .if1 .left), start .pre .1)
+    (reserve-prepare (mem (start .args .bytes .now) (start .args .keys .now) (start .args .order .now) (start .args .words .now)) (start .args .page .0) (start .args .first) (start .args .count) 0 (sym (at-unallocated-refusal .unallocated-refusal .ensures (start .args .first) 0) ∙ at-if1 .if1 .left) (start .pre .0), start .pre .1)
 
 returns-2 : tie.Need-returns-2
 returns-2 c =
@@ -25,7 +25,7 @@ returns-2 c =
     let at-if1 = at-prepare-unallocated .before .before .before .before in
     let at-unallocated-refusal = at-if1 .before in
     let start = at-unallocated-refusal .before .before .before .before .before .before .before .before in
-    reserve-done (mem (start .args .bytes .now) (start .args .keys .now) (start .args .order .now) (start .args .words .now)) (start .args .page .0) (start .args .first) (start .args .count) (start .args .w) (start .pre .0) (sym (at-unallocated-refusal .unallocated-refusal .ensures (start .args .first)) ∙ at-if1 .if1 .left) _ (at-prepare-unallocated .prepare-unallocated .ensures)
+    λ w. reserve-done (mem (start .args .bytes .now) (start .args .keys .now) (start .args .order .now) (start .args .words .now)) (start .args .page .0) (start .args .first) (start .args .count) w (sym (at-unallocated-refusal .unallocated-refusal .ensures (start .args .first) w) ∙ at-if1 .if1 .left) _ (at-prepare-unallocated .prepare-unallocated .ensures)
 
 pub reserve-unallocated-spec : {M : Type 1} → statement M
 reserve-unallocated-spec =

@@ -1,4 +1,5 @@
 // Which refusal a write to a well-formed memory or an allocation in it gets, or 0: the tests in the order of 01's table.
+// How much of a range of chunks is known to be held, and the rank of the next one.
 ghost use mathlib.Core.Path.{_≡_};
 ghost use mathlib.Core.Bool.{true, false};
 ghost use Prim.Native.Nat.{ℕ, _+_, _/_, _%_, _<_, _≤_, _^_};
@@ -272,7 +273,7 @@ pub fn decode(words: &[u64], page: PageId) -> DecodedPage
     page_ids::decode_page(formed::head::layout_of(words), page)
 }
 
-// A word write that is not made: a store whose value is too wide for the hook is refused with this, or else with 15.
+// The refusal that a word write would get, or 0. Nothing is written: a store whose value is too wide for the hook is refused with this number, or with 15 where it is 0.
 pub fn word_refusal(
     bytes: &[u8],
     keys: &[u64],

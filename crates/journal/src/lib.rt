@@ -81,7 +81,7 @@ fn slot_near(
     store::slot_at_entry(keys, order, words, e, chunk)
 }
 
-// Notes the aligned word number n, which lies in one chunk. The answer is the chunk's slot; of that the contract says only that it is a slot.
+// Notes the aligned word number n, which lies in one chunk. `guess` is the slot that is looked at first. The answer is the chunk's slot, as the next guess; the contract says only that it is at most 65,536.
 fn note(
     bytes: &mut [u8],
     keys: &[u64],

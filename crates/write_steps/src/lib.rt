@@ -1,5 +1,5 @@
-// Word writes to a well-formed memory.
-// Byte writes, and what an allocation with contents does once it is not refused.
+// Word writes and byte writes to a well-formed memory, refused or done.
+// An allocation with contents, once it is not refused.
 ghost use mathlib.Core.Path.{_≡_};
 ghost use Prim.Native.Nat.{_+_, _%_, _<_, _≤_, _^_};
 ghost use lib.ListN.{length};

@@ -65,11 +65,12 @@ int main(void) {
     show_quote(10);
     show_quote(5);
 
-    /* A load one byte past the bound of 4096 pays 1 gas. */
+    /* A load one byte past the bound of 4096 pays 1 gas. The address is in register 1, the word goes to register 2. */
     uint32_t frame[6] = {10, BOOTLOADER_HEAP, BOOTLOADER_AUX, 4096, 4096, 0};
-    uint64_t out[10];
-    done("zp_load", zp_load(MEMORY, frame, 6, false, 4065, 0, 0, 0, false, out, 10));
-    printf("loaded %" PRIu64 ", %" PRIu32 " gas left\n", out[0], frame[0]);
+    uint64_t registers[65] = {0};
+    registers[4 * 1] = 4065;
+    done("zp_load", zp_load(MEMORY, frame, 6, registers, 65, false, 1, 2, 0, false));
+    printf("loaded %" PRIu64 ", %" PRIu32 " gas left\n", registers[4 * 2], frame[0]);
 
     /* A word over the first one, and back. */
     done("zp_write_u256", zp_write_u256(MEMORY, BOOTLOADER_HEAP, 4066, 8, 0, 0, 0));

@@ -12,12 +12,12 @@
  * A SLICE is a pointer and a number of elements, and so two arguments. The pointer of an empty slice
  * must not be null, only aligned. Two slices of one call may not overlap, unless the call only reads both.
  *
- * A CALL RETURNS 0 where it was carried out. 1 to 15 are refusals, and ZP_UNFIT comes before any of them:
+ * A CALL RETURNS 0 where it was carried out. 1 to 16 are refusals, and ZP_UNFIT comes before any of them:
  * then no lent element has changed. ZP_PANICKED and ZP_SUSPENDED are outcomes of instructions (below).
  *
  * WHAT A CALL IS REFUSED WITH stands before it, in the order in which it is tested. Two are not repeated:
  * every call that is lent a memory, but zp_open, tests it and returns ZP_NOT_FORMED first; and every call
- * with an `out` or a `frame` may return ZP_UNFIT.
+ * with an `out`, a `frame` or `registers` may return ZP_UNFIT.
  *
  * A WORD is four limbs of 64 bits, the lowest first. A bool must be 0 or 1.
  * A RANGE goes from `start` up to, but without, `end`; where `end` is not above `start` it is empty.
@@ -39,7 +39,7 @@ extern "C" {
 #define ZP_ORDER_LEN(C, P, J) (3 * (size_t)(C) + (size_t)(P) + 4)
 #define ZP_WORDS_LEN(C, P, J) (16 + 6 * (size_t)(J))
 
-/* What a call returns besides 0. The numbers 1 to 15 are those of the project's scope paper, document 01. */
+/* What a call returns besides 0. The numbers 1 to 16 are those of the project's scope papers. */
 #define ZP_LAYOUT 1        /* two fixed ids are equal, or the stride is below 4; or two compared memories have different layouts */
 #define ZP_SIZES 2         /* a count is out of its bounds, or a buffer has another length */
 #define ZP_NOT_FORMED 3    /* a lent memory is not well formed: somebody else has written to it, or it was never opened */
@@ -56,9 +56,17 @@ extern "C" {
 #define ZP_BAD_LENGTH 13   /* a truncation to more than the dynamic length */
 #define ZP_POINTER 14      /* start + length of a pointer is above 4,294,967,295 */
 #define ZP_HOOK_VALUE 15   /* the hook address is hit by a value above 4,294,967,295 */
-#define ZP_PANICKED 100    /* the instruction panicked as the EraVM does: the frame tells, the memory is as it was */
-#define ZP_SUSPENDED 101   /* the store was carried out and the hook stops the run: out[9] is the value */
-#define ZP_UNFIT 102       /* `out`, `frame` or the chunk lookup's `output` has another length than this file asks for */
+#define ZP_OPERAND 16      /* an instruction does not take one of its places */
+#define ZP_PANICKED 100    /* the instruction panicked as the EraVM does: the frame tells, dst1 is cleared, the memory is as it
+                              was */
+#define ZP_SUSPENDED 101   /* the store was carried out and the hook stops the run: out[0] is the value */
+#define ZP_UNFIT 102       /* `out`, `frame`, `registers` or the chunk lookup's `output` has another length than this file asks
+                              for */
+
+/* Places: source, value, dst0 and dst1 of the instructions. A register is its number, 0 to 15. */
+#define ZP_OTHER_FORM 131072 /* this number, and any above it, is a form that no instruction here takes */
+/* The immediate i, 0 to 65,535. Any other i is a form that is refused. The macro evaluates i twice. */
+#define ZP_IMMEDIATE(i) ((uint64_t)(i) <= 65535 ? 65536 + (uint32_t)(i) : ZP_OTHER_FORM)
 
 /* The kinds of a page, as zp_decode gives them. */
 #define ZP_CODE 0
@@ -150,31 +158,61 @@ uint32_t zp_compare(ZP_CONST_MEMORY, const uint8_t *other_bytes, size_t other_by
                     uint64_t *out, size_t out_len);
 
 /* ---- the five instructions
+ * An instruction reads its operands from the registers and writes its results to them.
+ *
  * frame: 6 numbers: gas, heap page, aux page, heap bound, aux bound, panicked (0 or 1)
- * out: 10 numbers: the word read (4 limbs), the operand plus 32 (4 limbs), its tag (0 or 1), the hook's value
- * aux: whether the aux heap is meant; x0 to x3: the operand, with its tag; limb0 to limb3: the value
- * A refused instruction leaves frame and out as they were; a panic sets frame alone. A panic is decided after
- * ZP_NOT_FORMED and before the refusals named here.
+ * registers: 65 numbers: the 4 limbs of register 0, of register 1, and so on up to 15; then the set of pointer flags.
+ *   Bit n of the set is the flag of register n. The bits above 15 are neither read nor changed.
+ * aux: whether the aux heap is meant
+ * source: the place of the operand, which is read with its flag. An immediate has no flag.
+ * value: the register that is stored. Where its flag is set, it is a pointer: its page and its start, bits 32 to 95,
+ *   are stored as 0, except in kernel mode. The register stays as it is.
+ * dst0, dst1: the registers that are written. dst0 is written first, so dst1 decides where both are the same.
+ * increment: whether the operand plus 32 is written
+ * kernel: whether the run is in kernel mode
+ *
+ * Register 0 is never written. It is read as it is. To clear a register is to write 0 to it and to clear its flag.
+ *
+ * AFTER          the frame                  dst0                                dst1
+ * a load         has paid for the growth    the word, no flag                   with increment the operand plus 32, else
+ *                                                                               it is cleared
+ * a store        has paid for the growth    with increment the operand plus     it is cleared
+ *                                           32, no flag; else as it was
+ * ZP_SUSPENDED   as after a store           as after a store                    as after a store
+ * ZP_PANICKED    has panicked = 1, and the  as it was                           it is cleared
+ *                gas may be 0
+ * a refusal      as it was                  as it was                           as it was
+ *
+ * Only zp_load and zp_store pay for growth. `out` of zp_store has one number: ZP_SUSPENDED writes the hook's value to it, and
+ * nothing else writes it. All other registers and flags stay as they were. A panic leaves the memory as it was.
+ *
+ * WHAT IS TESTED, in this order: ZP_UNFIT, ZP_NOT_FORMED, ZP_OPERAND, the panic, the refusals named here. ZP_OPERAND is
+ * returned for a register above 15, for a form from ZP_OTHER_FORM on, and for an immediate as value, dst0 or dst1, or as the
+ * source of zp_load_pointer. Every place is tested, even one that would not be written.
  */
-/* ZP_PANICKED; no further refusal */
-uint32_t zp_load(ZP_CONST_MEMORY, uint32_t *frame, size_t frame_len, bool aux, uint64_t x0,
-                 uint64_t x1, uint64_t x2, uint64_t x3, bool tagged, uint64_t *out, size_t out_len);
-/* ZP_PANICKED; ZP_UNDECODABLE, ZP_NO_PAGE, ZP_NO_CHUNK, ZP_NO_JOURNAL, ZP_HOOK_VALUE; or ZP_SUSPENDED, where
- * `hook` is set and the address is hook_address */
-uint32_t zp_store(ZP_MEMORY, uint32_t *frame, size_t frame_len, bool aux, uint64_t x0, uint64_t x1,
-                  uint64_t x2, uint64_t x3, bool tagged, uint64_t limb0, uint64_t limb1,
-                  uint64_t limb2, uint64_t limb3, bool hook, uint32_t hook_address, uint64_t *out,
-                  size_t out_len);
-/* ZP_PANICKED; ZP_POINTER */
-uint32_t zp_load_pointer(ZP_CONST_MEMORY, uint32_t *frame, size_t frame_len, uint64_t x0, uint64_t x1,
-                         uint64_t x2, uint64_t x3, bool tagged, uint64_t *out, size_t out_len);
-/* ZP_PANICKED; no further refusal */
-uint32_t zp_load_static(ZP_CONST_MEMORY, uint32_t *frame, size_t frame_len, uint64_t x0, uint64_t x1,
-                        uint64_t x2, uint64_t x3, bool tagged, uint64_t *out, size_t out_len);
-/* ZP_PANICKED; ZP_NO_CHUNK */
-uint32_t zp_store_static(ZP_MEMORY, uint32_t *frame, size_t frame_len, uint64_t x0, uint64_t x1,
-                         uint64_t x2, uint64_t x3, bool tagged, uint64_t limb0, uint64_t limb1,
-                         uint64_t limb2, uint64_t limb3, uint64_t *out, size_t out_len);
+/* With increment dst1 gets the flag of the operand. ZP_OPERAND; ZP_PANICKED; no further refusal */
+uint32_t zp_load(ZP_CONST_MEMORY, uint32_t *frame, size_t frame_len, uint64_t *registers,
+                 size_t registers_len, bool aux, uint32_t source, uint32_t dst0, uint32_t dst1,
+                 bool increment);
+/* ZP_OPERAND; ZP_PANICKED; ZP_UNDECODABLE, ZP_NO_PAGE, ZP_NO_CHUNK, ZP_NO_JOURNAL, ZP_HOOK_VALUE; or ZP_SUSPENDED, where
+ * `hook` is set and the address is hook_address. out: 1 number */
+uint32_t zp_store(ZP_MEMORY, uint32_t *frame, size_t frame_len, uint64_t *registers,
+                  size_t registers_len, bool aux, uint32_t source, uint32_t value, uint32_t dst0,
+                  uint32_t dst1, bool increment, bool kernel, bool hook, uint32_t hook_address,
+                  uint64_t *out, size_t out_len);
+/* The operand is a pointer, and its flag must be set, else it panics. With increment dst1 gets the flag too.
+ * ZP_OPERAND; ZP_PANICKED; ZP_POINTER */
+uint32_t zp_load_pointer(ZP_CONST_MEMORY, uint32_t *frame, size_t frame_len, uint64_t *registers,
+                         size_t registers_len, uint32_t source, uint32_t dst0, uint32_t dst1,
+                         bool increment);
+/* With increment dst1 gets the flag of the operand. ZP_OPERAND; ZP_PANICKED; no further refusal */
+uint32_t zp_load_static(ZP_CONST_MEMORY, uint32_t *frame, size_t frame_len, uint64_t *registers,
+                        size_t registers_len, uint32_t source, uint32_t dst0, uint32_t dst1,
+                        bool increment);
+/* ZP_OPERAND; ZP_PANICKED; ZP_NO_CHUNK */
+uint32_t zp_store_static(ZP_MEMORY, uint32_t *frame, size_t frame_len, uint64_t *registers,
+                         size_t registers_len, uint32_t source, uint32_t value, uint32_t dst0,
+                         uint32_t dst1, bool increment, bool kernel);
 
 /* ---- page ids */
 /* out: 2 numbers, kind and group (0 where the page has none). ZP_LAYOUT; an undecodable id is no refusal here, but

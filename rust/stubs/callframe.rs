@@ -59,7 +59,7 @@ impl<T, W> Callframe<T, W> {
             exception_handler,
             context_u128,
             is_static,
-            // So that no word is erased: that function's text is not at hand.
+            // Each instruction sets it.
             is_kernel: true,
             stack,
             sp: 0,

@@ -29,6 +29,9 @@ const LAYOUT: Layout = Layout {
     stride: NEW_MEMORY_PAGES_PER_FAR_CALL,
 };
 
+/// The function that the shim does not have, by its name: it ends with that when it is reached.
+const ERASES: &str = "erase_fat_pointer_metadata";
+
 /// A tracer that sees nothing and stops nothing.
 #[derive(Debug)]
 struct Quiet;
@@ -128,7 +131,11 @@ impl Memories {
             Err(panic) => {
                 let mut restored = open(&[]);
                 restored.state = memory.second.state.clone();
-                self.broken = Some(std::mem::replace(&mut memory.first, restored));
+                let broken = std::mem::replace(&mut memory.first, restored);
+                if panic.message.contains(ERASES) {
+                    return Answer::NotRun("the function that erases a pointer is not at hand");
+                }
+                self.broken = Some(broken);
                 Answer::RustPanic(RustPanic { refusal: number(call, &panic), ..panic })
             }
         }

@@ -7,11 +7,13 @@ use mathlib.Core.Logic.{_⊎_, ⊎-elim}
 use Prim.Native.Nat.{ℕ, zero, suc, _<_}
 use native.Mathlib.Omega.{arith}
 use lib.Dec.{eqb, ltb}
-use lib.ListN.{length, getD, take, drop}
+use lib.ListN.{length, getD}
 use borrow.Author.Tests.{ne-eqb, eqb-true, ltb-true}
 use Rattle.index.proofs.Logic.{and-left, and-right}
 use Rattle.outcome.specs.Outcome.{Outcome, refused, panicked, done, firstOf, answered}
-use Rattle.word.specs.Value.{value}
+use Rattle.registers.specs.declared.LoadPlaces.{LoadPlaces}
+use Rattle.registers.specs.declared.StorePlaces.{StorePlaces}
+use Rattle.registers.specs.Registers.{Registers, registersFrom, registerNumber, sourceOf, valueOf, loadTakes, pointerTakes, storeTakes}
 use Rattle.state.specs.declared.Frame.{Frame}
 use Rattle.state.specs.declared.Area.{Area}
 use Rattle.state.specs.declared.FrameStep.{FrameStep}
@@ -19,93 +21,127 @@ use Rattle.store.specs.Mem.{Mem}
 use Rattle.formed.specs.Formed.{wellFormed}
 use Rattle.view.specs.View.{settingOf, viewOf}
 use Rattle.view.specs.Checks.{Check, wordWriteChecks}
-use Rattle.view.specs.Instructions.{Operand, Hook, InstructionResult, Stop, running, onHook, heapOf, frameAlone, hooked, accessChecks, loaded, storeChecks, stored, pointerChecks, pointed, staticChecks, staticLoaded, staticStoreChecks, staticStored}
-use Rattle.view.specs.Calls.{Call, Value, Load, Store, LoadPointer, LoadStatic, StoreStatic, instructionResult, answerOf, CallDoes}
-use Rattle.execution.specs.Executions as executions
-use Rattle.execution.specs.Executions.{statusOutcome, executionOutcome}
-use Rattle.execution.specs.declared.Execution.{Execution}
+use Rattle.view.specs.Instructions.{Hook, InstructionResult, Executed, Stop, running, onHook, heapOf, hooked, placeChecks, panickedInto, loadedInto, storedInto, accessChecks, loaded, storeChecks, stored, pointerChecks, pointed, staticChecks, staticLoaded, staticStoreChecks, staticStored}
+use Rattle.view.specs.Calls.{Call, Value, Load, Store, LoadPointer, LoadStatic, StoreStatic, executed, answerOf, CallDoes}
+use Rattle.view.proofs.Refused.{ill-does}
 use Rattle.execution.specs.declared.ExecutionStatus.{ExecutionStatus}
 use Rattle.execution.specs.declared.ExecutionStatus.the-variants.{Running, SuspendedOnHook, Panicked, Refused}
+use Rattle.write_back.specs.declared.Executed as code
+use Rattle.write_back.specs.Runs.{endedWith, executedOutcome, Runs}
 use Rattle.frames.specs.Frames.{bit, flag, frameFrom, frameNumbers, grownNumbers}
-use Rattle.abi.specs.Executing.{fit, outcomeFrom, outNumbers, resultNumbers, executionStatus, frameAfter, outAfter, ReportsExecution, Executes}
+use Rattle.abi.specs.Executing.{fit, outcomeFrom, executedStatus, frameAfter, stopValue, ReportsExecuted, Executes}
 use Rattle.abi.specs.Interface.{Gives}
 use Rattle.abi.specs.Numbers.{asTheyAre, Grows}
 
--- ---- an outcome that a status is enough for: a refusal's number is none of 0, 100, 101, and a panic has the frame alone
-data Reportable : Outcome Value → Type 0 where
-  refuses : {n : ℕ} → (ltb 0 n && ltb n 100) ≡ true → Reportable (refused n)
-  panics : {f : Frame} → Reportable (panicked (instructionResult (frameAlone f)))
-  gives : {g : InstructionResult} → Reportable (done (instructionResult g))
+-- ---- an outcome that a status is enough for: a refusal's number is none of 0, 100, 101; P says which stops there are
+data Reportable (P : Stop → Type 0) : Outcome Value → Type 0 where
+  refuses : {n : ℕ} → (ltb 0 n && ltb n 100) ≡ true → Reportable P (refused n)
+  panics : {e : Executed} → Reportable P (panicked (executed e))
+  gives : {e : Executed} → P (e .stop) → Reportable P (done (executed e))
 
-data All : List (Check Value) → Type 0 where
-  end : All []
-  next : {b : Bool} {o : Outcome Value} {rest : List (Check Value)} → Reportable o → All rest → All ((b, o) ∷ rest)
+data All (P : Stop → Type 0) : List (Check Value) → Type 0 where
+  end : All P []
+  next : {b : Bool} {o : Outcome Value} {rest : List (Check Value)} → Reportable P o → All P rest → All P ((b, o) ∷ rest)
 
-first : (checks : List (Check Value)) → All checks → {o : Outcome Value} → Reportable o → Reportable (firstOf checks o)
+first : {P : Stop → Type 0} (checks : List (Check Value)) → All P checks → {o : Outcome Value} → Reportable P o → Reportable P (firstOf checks o)
 first [] end p = p
 first ((true, o) ∷ rest) (next q h) p = q
 first ((false, o) ∷ rest) (next q h) p = first rest h p
 
+-- a store may stop; no other instruction does
+abbrev Any : Stop → Type 0
+Any s = Unit {0}
+
+abbrev Never : Stop → Type 0
+Never s = s ≡ running
+
 -- the instructions have such outcomes
-module _ (m : Mem) (f : Frame) (x : Operand) where
-  formed : {o : Outcome Value} → Reportable o → Reportable (firstOf ((not (wellFormed m), refused 3) ∷ []) o)
+module _ (m : Mem) (f : Frame) (g : Registers) where
+  formed : {P : Stop → Type 0} {o : Outcome Value} → Reportable P o → Reportable P (firstOf ((not (wellFormed m), refused 3) ∷ []) o)
   formed p = first ((not (wellFormed m), refused 3) ∷ []) (next (refuses refl) end) p
 
-  writes : (p a : ℕ) (rest : List (Check Value)) → All rest → All (wordWriteChecks (settingOf m) (viewOf m) p a ++ rest)
-  writes p a rest h = next (refuses refl) (next (refuses refl) (next (refuses refl) (next (refuses refl) h)))
+  module _ (p : LoadPlaces) where
+    abbrev gone : InstructionResult → Value
+    gone r = executed (panickedInto g (p .dst1) r)
 
-  load-reportable : (area : Area) → Reportable (answerOf m (Load area f x))
-  load-reportable area = formed (first (accessChecks instructionResult area f (x .word)) (next panics end) (gives {g = loaded (viewOf m) area f x}))
+    load-reportable : (area : Area) → Reportable Never (answerOf m (Load area f g p))
+    load-reportable area =
+        formed
+        (first (placeChecks (loadTakes p) ++ accessChecks gone area f (sourceOf g (p .source) .word)) (next (refuses refl) (next panics end))
+        (gives {e = loadedInto g p (loaded (viewOf m) area f (sourceOf g (p .source)))} refl))
 
-  store-reportable : (area : Area) (n : ℕ) (h : Hook) → Reportable (answerOf m (Store area f x n h))
-  store-reportable area n h =
-      formed
-      (first (storeChecks instructionResult (settingOf m) (viewOf m) area f (x .word) n h)
-      (next panics (writes (heapOf f area) (x .word) ((hooked h (x .word) && ltb 4294967295 n, refused 15) ∷ []) (next (refuses refl) end)))
-      (gives {g = stored area f x n h}))
+    pointer-reportable : Reportable Never (answerOf m (LoadPointer f g p))
+    pointer-reportable =
+        formed
+        (first (placeChecks (pointerTakes p) ++ pointerChecks gone f (sourceOf g (p .source))) (next (refuses refl) (next panics (next panics (next (refuses refl) end))))
+        (gives {e = loadedInto g p (pointed (viewOf m) f (sourceOf g (p .source)))} refl))
 
-  pointer-reportable : Reportable (answerOf m (LoadPointer f x))
-  pointer-reportable = formed (first (pointerChecks instructionResult f x) (next panics (next panics (next (refuses refl) end))) (gives {g = pointed (viewOf m) f x}))
+    static-reportable : Reportable Never (answerOf m (LoadStatic f g p))
+    static-reportable =
+        formed
+        (first (placeChecks (loadTakes p) ++ staticChecks gone f (sourceOf g (p .source) .word)) (next (refuses refl) (next panics end))
+        (gives {e = loadedInto g p (staticLoaded (settingOf m) (viewOf m) f (sourceOf g (p .source)))} refl))
 
-  static-reportable : Reportable (answerOf m (LoadStatic f x))
-  static-reportable = formed (first (staticChecks instructionResult f (x .word)) (next panics end) (gives {g = staticLoaded (settingOf m) (viewOf m) f x}))
+  module _ (p : StorePlaces) (kernel : Bool) where
+    abbrev broken : InstructionResult → Value
+    broken r = executed (panickedInto g (p .dst1) r)
 
-  static-store-reportable : (n : ℕ) → Reportable (answerOf m (StoreStatic f x n))
-  static-store-reportable n =
-      formed
-      (first (staticStoreChecks instructionResult (settingOf m) (viewOf m) f (x .word))
-      (next panics (next (refuses refl) (next (refuses refl) (next (refuses refl) (next (refuses refl) end)))))
-      (gives {g = staticStored f x}))
+    writes : {P : Stop → Type 0} (q a : ℕ) (rest : List (Check Value)) → All P rest → All P (wordWriteChecks (settingOf m) (viewOf m) q a ++ rest)
+    writes q a rest h = next (refuses refl) (next (refuses refl) (next (refuses refl) (next (refuses refl) h)))
+
+    store-reportable : (area : Area) (h : Hook) → Reportable Any (answerOf m (Store area f g p kernel h))
+    store-reportable area h =
+        let x = sourceOf g (p .source) in
+        let n = valueOf kernel g (registerNumber (p .value)) in
+        formed
+        (first (placeChecks (storeTakes p) ++ storeChecks broken (settingOf m) (viewOf m) area f (x .word) n h)
+        (next (refuses refl) (next panics (writes (heapOf f area) (x .word) ((hooked h (x .word) && ltb 4294967295 n, refused 15) ∷ []) (next (refuses refl) end))))
+        (gives {e = storedInto g p (stored area f x n h)} tt))
+
+    static-store-reportable : Reportable Never (answerOf m (StoreStatic f g p kernel))
+    static-store-reportable =
+        formed
+        (first (placeChecks (storeTakes p) ++ staticStoreChecks broken (settingOf m) (viewOf m) f (sourceOf g (p .source) .word))
+        (next (refuses refl) (next panics (next (refuses refl) (next (refuses refl) (next (refuses refl) (next (refuses refl) end))))))
+        (gives {e = storedInto g p (staticStored f (sourceOf g (p .source)))} refl))
 
 -- the calls that are instructions
 pub data Instruction : Call → Type 0 where
-  load : {area : Area} {f : Frame} {x : Operand} → Instruction (Load area f x)
-  store : {area : Area} {f : Frame} {x : Operand} {n : ℕ} {h : Hook} → Instruction (Store area f x n h)
-  load-pointer : {f : Frame} {x : Operand} → Instruction (LoadPointer f x)
-  load-static : {f : Frame} {x : Operand} → Instruction (LoadStatic f x)
-  store-static : {f : Frame} {x : Operand} {n : ℕ} → Instruction (StoreStatic f x n)
+  load : {area : Area} {f : Frame} {g : Registers} {p : LoadPlaces} → Instruction (Load area f g p)
+  store : {area : Area} {f : Frame} {g : Registers} {p : StorePlaces} {kernel : Bool} {h : Hook} → Instruction (Store area f g p kernel h)
+  load-pointer : {f : Frame} {g : Registers} {p : LoadPlaces} → Instruction (LoadPointer f g p)
+  load-static : {f : Frame} {g : Registers} {p : LoadPlaces} → Instruction (LoadStatic f g p)
+  store-static : {f : Frame} {g : Registers} {p : StorePlaces} {kernel : Bool} → Instruction (StoreStatic f g p kernel)
 
-reportable : (m : Mem) {c : Call} → Instruction c → Reportable (answerOf m c)
-reportable m (load {area} {f} {x}) = load-reportable m f x area
-reportable m (store {area} {f} {x} {n} {h}) = store-reportable m f x area n h
-reportable m (load-pointer {f} {x}) = pointer-reportable m f x
-reportable m (load-static {f} {x}) = static-reportable m f x
-reportable m (store-static {f} {x} {n}) = static-store-reportable m f x n
+-- the stops of each
+abbrev pub Stops : {c : Call} → Instruction c → Stop → Type 0
+Stops load = Never
+Stops store = Any
+Stops load-pointer = Never
+Stops load-static = Never
+Stops store-static = Never
+
+reportable : (m : Mem) {c : Call} (i : Instruction c) → Reportable (Stops i) (answerOf m c)
+reportable m (load {area} {f} {g} {p}) = load-reportable m f g p area
+reportable m (store {area} {f} {g} {p} {kernel} {h}) = store-reportable m f g p kernel area h
+reportable m (load-pointer {f} {g} {p}) = pointer-reportable m f g p
+reportable m (load-static {f} {g} {p}) = static-reportable m f g p
+reportable m (store-static {f} {g} {p} {kernel}) = static-store-reportable m f g p kernel
 
 -- what is known of each
-refusal-is : {o : Outcome Value} → Reportable o → (n : ℕ) → o ≡ refused n → (0 < n) × (n < 100)
+refusal-is : {P : Stop → Type 0} {o : Outcome Value} → Reportable P o → (n : ℕ) → o ≡ refused n → (0 < n) × (n < 100)
 refusal-is (refuses {n = k} h) n q =
     let e : k ≡ n = cc in
     subst (λ (j : ℕ). (0 < j) × (j < 100)) e (ltb-true 0 k (and-left (ltb 0 k) (ltb k 100) h), ltb-true k 100 (and-right (ltb 0 k) (ltb k 100) h))
 refusal-is panics n q = absurd (let z : _≡_ {A = ℕ} 0 1 = cc in omega arith)
-refusal-is gives n q = absurd (let z : _≡_ {A = ℕ} 0 1 = cc in omega arith)
+refusal-is (gives p) n q = absurd (let z : _≡_ {A = ℕ} 0 1 = cc in omega arith)
 
-panic-is : {o : Outcome Value} → Reportable o → (g : InstructionResult) → o ≡ panicked (instructionResult g) → frameAlone (g .frame) ≡ g
-panic-is (refuses h) g q = absurd (let z : _≡_ {A = ℕ} 0 1 = cc in omega arith)
-panic-is (panics {f = f}) g q =
-    let e : frameAlone f ≡ g = cc in
-    sym (ap (λ (x : InstructionResult). frameAlone (x .frame)) e) ∙ e
-panic-is gives g q = absurd (let z : _≡_ {A = ℕ} 0 1 = cc in omega arith)
+stop-is : {P : Stop → Type 0} {o : Outcome Value} → Reportable P o → (e : Executed) → o ≡ done (executed e) → P (e .stop)
+stop-is (refuses h) e q = absurd (let z : _≡_ {A = ℕ} 0 1 = cc in omega arith)
+stop-is panics e q = absurd (let z : _≡_ {A = ℕ} 0 1 = cc in omega arith)
+stop-is {P} (gives {e = d} p) e q =
+    let same : d ≡ e = cc in
+    subst (λ (x : Executed). P (x .stop)) same p
 
 -- ---- numbers and back
 flag-bit : (b : Bool) → flag (bit b) ≡ b
@@ -116,120 +152,99 @@ frame-back : (f : Frame) → frameFrom (frameNumbers f) ≡ f
 frame-back f = λ i. record { gas = f .gas; heap = f .heap; aux = f .aux; «heap_bound» = f .«heap_bound»; «aux_bound» = f .«aux_bound»; panicked = flag-bit (f .panicked) i }
 
 -- the numbers are those of what they mean
-frame-numbers : (f : Frame) → frameNumbers f ≡ frameNumbers (frameFrom (frameNumbers f))
-frame-numbers f = sym (ap frameNumbers (frame-back f))
+numbers-back : (f : Frame) → frameNumbers f ≡ frameNumbers (frameFrom (frameNumbers f))
+numbers-back f = sym (ap frameNumbers (frame-back f))
 
-out-numbers : (x : Execution) (h : ℕ) → resultNumbers x h ≡ outNumbers (resultNumbers x h)
-out-numbers x h = ap (λ (b : Bool). take 8 (resultNumbers x h) ++ bit b ∷ h ∷ []) (sym (flag-bit (x .operand .tagged)))
+-- a status of a refusal is none of the others
+none : {r : ℕ} → (r ≡ 0 → ⊥) → (r ≡ 100 → ⊥) → (r ≡ 101 → ⊥) → (r ≡ 0) ⊎ ((r ≡ 100) ⊎ (r ≡ 101)) → ⊥
+none a b c = ⊎-elim a (⊎-elim b c)
 
--- a status of a refusal is none of those that are carried out
-none : {r : ℕ} → (r ≡ 0 → ⊥) → (r ≡ 100 → ⊥) → (r ≡ 101 → ⊥) → ((r ≡ 0) ⊎ ((r ≡ 100) ⊎ (r ≡ 101)) → ⊥) × ((r ≡ 0) ⊎ (r ≡ 101) → ⊥)
-none a b c = (⊎-elim a (⊎-elim b c), ⊎-elim a c)
-
-abbrev back : Execution → ℕ → Stop → InstructionResult
-back x h s = record {
-  word = value (resultNumbers x h);
-  operand = record { word = value (drop 4 (resultNumbers x h)); tag = flag (bit (x .operand .tagged)) };
-  frame = frameFrom (frameNumbers (x .frame));
-  stop = s;
-}
-
-given-back : (x : Execution) (h : ℕ) (s : Stop) → back x h s ≡ record { word = value (x .word .limbs); operand = executions.operandOf (x .operand); frame = x .frame; stop = s }
-unfolding value
-given-back x h s = λ i. record {
-  word = value (x .word .limbs);
-  operand = record { word = value (x .operand .word .limbs); tag = flag-bit (x .operand .tagged) i };
-  frame = frame-back (x .frame) i;
-  stop = s;
-}
-
--- ---- what is left by an execution x of the status s
-record Left (s : ExecutionStatus) (x : Execution) (frame out : List ℕ) (r : ℕ) (frame' out' : List ℕ) : Type 0 where
-  same : outcomeFrom r frame' out' ≡ statusOutcome s (record { word = value (x .word .limbs); operand = executions.operandOf (x .operand); frame = x .frame; stop = executions.stopOf s })
-  kept-out : (r ≡ 0 → ⊥) → (r ≡ 101 → ⊥) → out' ≡ out
-  kept-frame : (r ≡ 0 → ⊥) → (r ≡ 100 → ⊥) → (r ≡ 101 → ⊥) → frame' ≡ frame
+-- ---- what is left by an instruction that ended so, with registers of the numbers l; h is the hook's value
+record Left (s : ExecutionStatus) (x : code.Executed) (frame l : List ℕ) (r h : ℕ) (frame' : List ℕ) : Type 0 where
+  same : outcomeFrom r h frame' l ≡ endedWith s (x .frame) (registersFrom l)
+  kept : (r ≡ 0 → ⊥) → (r ≡ 100 → ⊥) → (r ≡ 101 → ⊥) → (frame' ≡ frame) × (s ≡ Refused r)
   frame-numbers : (r ≡ 0) ⊎ ((r ≡ 100) ⊎ (r ≡ 101)) → frame' ≡ frameNumbers (frameFrom frame')
-  out-numbers : (r ≡ 0) ⊎ (r ≡ 101) → out' ≡ outNumbers out'
-  no-stop : r ≡ 0 → getD out' 9 0 ≡ 0
 
-module _ (x : Execution) (frame out : List ℕ) where
-  abbrev outcome-at : ExecutionStatus → Outcome Value
-  outcome-at s = statusOutcome s (record { word = value (x .word .limbs); operand = executions.operandOf (x .operand); frame = x .frame; stop = executions.stopOf s })
-
-  left : (s : ExecutionStatus) → Reportable (outcome-at s) → Left s x frame out (executionStatus s) (frameAfter s x frame) (outAfter s x out)
-  left Running p = record {
-    same = ap (λ (g : InstructionResult). done (instructionResult g)) (given-back x 0 running);
-    kept-out = λ a b. absurd (a refl);
-    kept-frame = λ a b c. absurd (a refl);
-    frame-numbers = λ _. frame-numbers (x .frame);
-    out-numbers = λ _. out-numbers x 0;
-    no-stop = λ _. refl;
+module _ (P : Stop → Type 0) (x : code.Executed) (frame l : List ℕ) (h : ℕ) where
+  left : (s : ExecutionStatus) → Reportable P (endedWith s (x .frame) (registersFrom l)) → ((k : ℕ) → s ≡ SuspendedOnHook k → P (onHook k) → h ≡ k)
+      → Left s x frame l (executedStatus s) h (frameAfter s x frame)
+  left Running p q = record {
+    same = ap (λ (f : Frame). done (executed (record { frame = f; registers = registersFrom l; stop = running }))) (frame-back (x .frame));
+    kept = λ a b c. absurd (a refl);
+    frame-numbers = λ _. numbers-back (x .frame);
   }
-  left (SuspendedOnHook h) p = record {
-    same = ap (λ (g : InstructionResult). done (instructionResult g)) (given-back x h (onHook h));
-    kept-out = λ a b. absurd (b refl);
-    kept-frame = λ a b c. absurd (c refl);
-    frame-numbers = λ _. frame-numbers (x .frame);
-    out-numbers = λ _. out-numbers x h;
-    no-stop = λ e. absurd (omega arith);
+  left (SuspendedOnHook k) p q =
+      let e = q k refl (stop-is p _ refl) in
+      record {
+        same = λ i. done (executed (record { frame = frame-back (x .frame) i; registers = registersFrom l; stop = onHook (e i) }));
+        kept = λ a b c. absurd (c refl);
+        frame-numbers = λ _. numbers-back (x .frame);
+      }
+  left Panicked p q = record {
+    same = ap (λ (f : Frame). panicked (executed (record { frame = f; registers = registersFrom l; stop = running }))) (frame-back (x .frame));
+    kept = λ a b c. absurd (b refl);
+    frame-numbers = λ _. numbers-back (x .frame);
   }
-  left Panicked p = record {
-    same =
-        ap (λ (f : Frame). panicked (instructionResult (frameAlone f))) (frame-back (x .frame))
-        ∙ ap (λ (g : InstructionResult). panicked (instructionResult g)) (panic-is p _ refl);
-    kept-out = λ a b. refl;
-    kept-frame = λ a b c. absurd (b refl);
-    frame-numbers = λ _. frame-numbers (x .frame);
-    out-numbers = λ e. absurd (⊎-elim (λ z. omega arith) (λ z. omega arith) e);
-    no-stop = λ e. absurd (omega arith);
-  }
-  left (Refused n) p =
-      let h = refusal-is p n refl in
+  left (Refused n) p q =
+      let k = refusal-is p n refl in
       record {
         same = rw (ne-eqb n 0 (λ e. omega arith), ne-eqb n 100 (λ e. omega arith), ne-eqb n 101 (λ e. omega arith)) refl;
-        kept-out = λ a b. refl;
-        kept-frame = λ a b c. refl;
-        frame-numbers = λ e. absurd (none (λ z. omega arith) (λ z. omega arith) (λ z. omega arith) .0 e);
-        out-numbers = λ e. absurd (none (λ z. omega arith) (λ z. omega arith) (λ z. omega arith) .1 e);
-        no-stop = λ e. absurd (omega arith);
+        kept = λ a b c. (refl, refl);
+        frame-numbers = λ e. absurd (none (λ z. omega arith) (λ z. omega arith) (λ z. omega arith) e);
       }
 
 -- ---- the contract
--- the lengths that a fit frame and `out` have
-pub lengths : (frame out : List ℕ) {n : ℕ} → fit frame out n ≡ true → (length frame ≡ 6) × (length out ≡ n)
-lengths frame out {n} e = (eqb-true (length frame) 6 (and-left _ _ e), eqb-true (length out) n (and-right (eqb (length frame) 6) _ e))
+-- the lengths that a fit frame and other numbers have
+pub lengths : (frame others : List ℕ) {n : ℕ} → fit frame others n ≡ true → (length frame ≡ 6) × (length others ≡ n)
+lengths frame others {n} e = (eqb-true (length frame) 6 (and-left _ _ e), eqb-true (length others) n (and-right (eqb (length frame) 6) _ e))
 
-module _ {m : Mem} {c : Call} {frame out : List ℕ} where
-  pub unfit : fit frame out 10 ≡ false → Executes m c frame out 102 m frame out
-  unfit h = record {
+module _ {m : Mem} {c : Call} {frame l : List ℕ} {fits : Bool} {h : ℕ} where
+  pub unfit : fits ≡ false → Executes m c frame l fits 102 h m frame l
+  unfit e = record {
     unfit = λ _. (refl, (refl, (refl, refl)));
-    does = λ e. absurd (false≢true (sym h ∙ e));
-    kept-out = λ a b. refl;
-    kept-frame = λ a b d. refl;
-    frame-numbers = λ e. absurd (none (λ z. omega arith) (λ z. omega arith) (λ z. omega arith) .0 e);
-    out-numbers = λ e. absurd (none (λ z. omega arith) (λ z. omega arith) (λ z. omega arith) .1 e);
-    no-stop = λ e. absurd (omega arith);
+    does = λ q. absurd (false≢true (sym e ∙ q));
+    kept = λ _ _ _. (refl, refl);
+    frame-numbers = λ q. absurd (none (λ z. omega arith) (λ z. omega arith) (λ z. omega arith) q);
   }
 
-  -- d is the call as it was made
-  pub executes : fit frame out 10 ≡ true → Instruction c → {d : Call} → d ≡ c → {m' : Mem} (x : Execution) → CallDoes m d (executionOutcome x) m' → {r : ℕ} {frame' out' : List ℕ} → ReportsExecution x frame out r frame' out'
-      → Executes m c frame out r m' frame' out'
-  executes fits instruction q {m'} x does {r} {frame'} {out'} t =
-      let done : CallDoes m c (executionOutcome x) m' = subst (λ (y : Call). CallDoes m y (executionOutcome x) m') q does in
-      let h : Left (x .status) x frame out r frame' out' =
-      subst (λ (z : ℕ). Left (x .status) x frame out z frame' out') (sym (t .status))
-      (subst (λ (z : List ℕ). Left (x .status) x frame out (executionStatus (x .status)) z out') (sym (t .frame-is))
-      (subst (λ (z : List ℕ). Left (x .status) x frame out (executionStatus (x .status)) (frameAfter (x .status) x frame) z) (sym (t .out-is))
-      (left x frame out (x .status) (subst Reportable (sym (done .answer)) (reportable m instruction))))) in
+  -- on a memory that is not well formed
+  pub ill : fits ≡ true → wellFormed m ≡ false → Executes m c frame l fits 3 h m frame l
+  ill e w = record {
+    unfit = λ q. absurd (false≢true (sym q ∙ e));
+    does = λ _. ill-does m c w;
+    kept = λ _ _ _. (refl, refl);
+    frame-numbers = λ q. absurd (none (λ z. omega arith) (λ z. omega arith) (λ z. omega arith) q);
+  }
+
+  -- d is the call as it was made, with the frame f
+  pub executes : fits ≡ true → (i : Instruction c) → {d : Call} → d ≡ c → {f : Frame} {m' : Mem} {l' : List ℕ} (x : code.Executed) → Runs m d f l x m' l'
+      → {r : ℕ} {frame' : List ℕ} → ReportsExecuted x frame r frame' → ((k : ℕ) → x .status ≡ SuspendedOnHook k → Stops i (onHook k) → h ≡ k) → Executes m c frame l fits r h m' frame' l'
+  executes fit i q {f} {m'} {l'} x runs {r} {frame'} t stop =
+      let done : CallDoes m c (executedOutcome x l') m' = subst (λ (y : Call). CallDoes m y (executedOutcome x l') m') q (runs .does) in
+      let left-is : Left (x .status) x frame l' r h frame' =
+      subst (λ (z : ℕ). Left (x .status) x frame l' z h frame') (sym (t .status))
+      (subst (λ (z : List ℕ). Left (x .status) x frame l' (executedStatus (x .status)) h z) (sym (t .frame-is))
+      (left (Stops i) x frame l' h (x .status) (subst (Reportable (Stops i)) (sym (done .answer)) (reportable m i)) stop)) in
       record {
-        unfit = λ e. absurd (false≢true (sym e ∙ fits));
-        does = λ _. record { answer = h .same ∙ done .answer; kept = done .kept; changed = done .changed };
-        kept-out = h .kept-out;
-        kept-frame = h .kept-frame;
-        frame-numbers = h .frame-numbers;
-        out-numbers = h .out-numbers;
-        no-stop = h .no-stop;
+        unfit = λ e. absurd (false≢true (sym e ∙ fit));
+        does = λ _. record { answer = left-is .same ∙ done .answer; kept = done .kept; changed = done .changed };
+        kept = λ a b e. let k = left-is .kept a b e in (k .0, runs .refusal r (k .1) .1);
+        frame-numbers = left-is .frame-numbers;
       }
+
+-- no instruction but a store stops
+pub no-stop : {h k : ℕ} → onHook k ≡ running → h ≡ k
+no-stop e = absurd (let z : _≡_ {A = ℕ} 0 1 = cc in omega arith)
+
+-- a stop's value is the output's number, and without a stop the output is as it was
+pub stop-told : (s : ExecutionStatus) (out : List ℕ) {out' : List ℕ} → out' ≡ stopValue s out → (k : ℕ) → s ≡ SuspendedOnHook k → getD out' 0 0 ≡ k
+stop-told s out e k q = ap (λ (l : List ℕ). getD l 0 0) (e ∙ ap (λ (z : ExecutionStatus). stopValue z out) q)
+
+pub stop-kept : (s : ExecutionStatus) (out : List ℕ) {out' : List ℕ} {r : ℕ} → out' ≡ stopValue s out → r ≡ executedStatus s → (r ≡ 101 → ⊥) → out' ≡ out
+stop-kept Running out e q n = e
+stop-kept (SuspendedOnHook k) out e q n = absurd (n q)
+stop-kept Panicked out e q n = e
+stop-kept (Refused k) out e q n = e
 
 -- ---- a growth
 module _ {frame out : List ℕ} {step : FrameStep} where
@@ -249,31 +264,32 @@ module _ {frame out : List ℕ} {step : FrameStep} where
       answered-is (suc k) w = absurd (let z : _≡_ {A = ℕ} 0 1 = cc in omega arith)
 
 -- ---- the calls as they are made
-pub load-is : {area area' : Area} {f f' : Frame} {x x' : Operand} → area ≡ area' → f ≡ f' → x ≡ x' → Load area f x ≡ Load area' f' x'
-load-is d e q = λ i. Load (d i) (e i) (q i)
+pub load-is : {area area' : Area} {f f' : Frame} {g : Registers} {p p' : LoadPlaces} → area ≡ area' → f ≡ f' → p ≡ p' → Load area f g p ≡ Load area' f' g p'
+load-is {g = g} d e q = λ i. Load (d i) (e i) g (q i)
 
-pub store-is : {area area' : Area} {f f' : Frame} {x x' : Operand} {n n' : ℕ} {h h' : Hook} → area ≡ area' → f ≡ f' → x ≡ x' → n ≡ n' → h ≡ h' → Store area f x n h ≡ Store area' f' x' n' h'
-store-is d e q w k = λ i. Store (d i) (e i) (q i) (w i) (k i)
+pub store-is : {area area' : Area} {f f' : Frame} {g : Registers} {p p' : StorePlaces} {kernel : Bool} {h h' : Hook} → area ≡ area' → f ≡ f' → p ≡ p' → h ≡ h' → Store area f g p kernel h ≡ Store area' f' g p' kernel h'
+store-is {g = g} {kernel = kernel} d e q k = λ i. Store (d i) (e i) g (q i) kernel (k i)
 
-pub pointer-is : {f f' : Frame} {x x' : Operand} → f ≡ f' → x ≡ x' → LoadPointer f x ≡ LoadPointer f' x'
-pointer-is e q = λ i. LoadPointer (e i) (q i)
+pub pointer-is : {f f' : Frame} {g : Registers} {p p' : LoadPlaces} → f ≡ f' → p ≡ p' → LoadPointer f g p ≡ LoadPointer f' g p'
+pointer-is {g = g} e q = λ i. LoadPointer (e i) g (q i)
 
-pub static-is : {f f' : Frame} {x x' : Operand} → f ≡ f' → x ≡ x' → LoadStatic f x ≡ LoadStatic f' x'
-static-is e q = λ i. LoadStatic (e i) (q i)
+pub static-is : {f f' : Frame} {g : Registers} {p p' : LoadPlaces} → f ≡ f' → p ≡ p' → LoadStatic f g p ≡ LoadStatic f' g p'
+static-is {g = g} e q = λ i. LoadStatic (e i) g (q i)
 
-pub static-store-is : {f f' : Frame} {x x' : Operand} {n n' : ℕ} → f ≡ f' → x ≡ x' → n ≡ n' → StoreStatic f x n ≡ StoreStatic f' x' n'
-static-store-is e q w = λ i. StoreStatic (e i) (q i) (w i)
+pub static-store-is : {f f' : Frame} {g : Registers} {p p' : StorePlaces} {kernel : Bool} → f ≡ f' → p ≡ p' → StoreStatic f g p kernel ≡ StoreStatic f' g p' kernel
+static-store-is {g = g} {kernel = kernel} e q = λ i. StoreStatic (e i) g (q i) kernel
 
 -- ---- the parts
-module _ (x : Execution) {frame out frame' : List ℕ} (e : frame' ≡ frameNumbers (x .frame)) where
-  pub panic-reported : x .status ≡ Panicked → ReportsExecution x frame out 100 frame' out
-  panic-reported q = record { status = sym (ap executionStatus q); frame-is = e ∙ sym (ap (λ (s : ExecutionStatus). frameAfter s x frame) q); out-is = sym (ap (λ (s : ExecutionStatus). outAfter s x out) q) }
+module _ (x : code.Executed) {frame : List ℕ} where
+  pub refusal-reported : {n : ℕ} → x .status ≡ Refused n → ReportsExecuted x frame n frame
+  refusal-reported q = record { status = sym (ap executedStatus q); frame-is = sym (ap (λ (s : ExecutionStatus). frameAfter s x frame) q) }
 
-  pub run-reported : x .status ≡ Running → {out' : List ℕ} → out' ≡ resultNumbers x 0 → ReportsExecution x frame out 0 frame' out'
-  run-reported q d = record { status = sym (ap executionStatus q); frame-is = e ∙ sym (ap (λ (s : ExecutionStatus). frameAfter s x frame) q); out-is = d ∙ sym (ap (λ (s : ExecutionStatus). outAfter s x out) q) }
+  module _ {frame' : List ℕ} (e : frame' ≡ frameNumbers (x .frame)) where
+    pub panic-reported : x .status ≡ Panicked → ReportsExecuted x frame 100 frame'
+    panic-reported q = record { status = sym (ap executedStatus q); frame-is = e ∙ sym (ap (λ (s : ExecutionStatus). frameAfter s x frame) q) }
 
-  pub stop-reported : {h : ℕ} → x .status ≡ SuspendedOnHook h → {out' : List ℕ} → out' ≡ resultNumbers x h → ReportsExecution x frame out 101 frame' out'
-  stop-reported q d = record { status = sym (ap executionStatus q); frame-is = e ∙ sym (ap (λ (s : ExecutionStatus). frameAfter s x frame) q); out-is = d ∙ sym (ap (λ (s : ExecutionStatus). outAfter s x out) q) }
+    pub run-reported : x .status ≡ Running → ReportsExecuted x frame 0 frame'
+    run-reported q = record { status = sym (ap executedStatus q); frame-is = e ∙ sym (ap (λ (s : ExecutionStatus). frameAfter s x frame) q) }
 
-pub operand-made : (tagged : Bool) {w n : ℕ} → w ≡ n → _≡_ {A = Operand} (record { word = w; tag = tagged }) (record { word = n; tag = tagged })
-operand-made tagged e = λ i. record { word = e i; tag = tagged }
+    pub stop-reported : {h : ℕ} → x .status ≡ SuspendedOnHook h → ReportsExecuted x frame 101 frame'
+    stop-reported q = record { status = sym (ap executedStatus q); frame-is = e ∙ sym (ap (λ (s : ExecutionStatus). frameAfter s x frame) q) }

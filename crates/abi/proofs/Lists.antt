@@ -6,21 +6,12 @@ use Prim.Native.Nat.{ℕ}
 use lib.ListN.{length, getD, set}
 use Rattle.word.specs.Value.{value}
 use Rattle.fat_pointer.specs.declared.FatPointer.{FatPointer}
-use Rattle.execution.specs.declared.Execution.{Execution}
-use Rattle.frames.specs.Frames.{bit, limbsPut}
+use Rattle.frames.specs.Frames.{limbsPut}
 use Rattle.frames.proofs.Lists.{overwritten}
-use Rattle.abi.specs.Executing.{resultNumbers}
 use Rattle.abi.specs.Numbers.{pointerAt}
 
 pub pair-is : {a a' b b' : ℕ} → a ≡ a' → b ≡ b' → a ∷ b ∷ [] ≡ a' ∷ b' ∷ []
 pair-is d e = λ i. d i ∷ e i ∷ []
-
-pub given-put : (x : Execution) (h : ℕ) (l : List ℕ) → length l ≡ 10 → {l₁ l₂ : List ℕ} {t u : ℕ} → l₁ ≡ limbsPut l 0 (x .word .limbs) → l₂ ≡ limbsPut l₁ 4 (x .operand .word .limbs)
-    → t ≡ bit (x .operand .tagged) → u ≡ h → set (set l₂ 8 t) 9 u ≡ resultNumbers x h
-given-put x h l e d g p q =
-    (λ i. set (set (g i) 8 (p i)) 9 (q i))
-    ∙ ap (λ (y : List ℕ). set (set (limbsPut y 4 (x .operand .word .limbs)) 8 (bit (x .operand .tagged))) 9 h) d
-    ∙ overwritten (resultNumbers x h) l e
 
 pub pointer-put : (l : List ℕ) → length l ≡ 4 → (p : FatPointer) {a b c d : ℕ} → a ≡ p .offset → b ≡ p .«memory_page» .0 → c ≡ p .start → d ≡ p .length
     → pointerAt (set (set (set (set l 0 a) 1 b) 2 c) 3 d) ≡ p

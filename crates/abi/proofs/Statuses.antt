@@ -2,7 +2,7 @@
 -- Assumes nothing.
 use mathlib.Core.Path.{_≡_, refl, sym, ap, _∙_, subst}
 use mathlib.Core.Bool.{Bool, true, false, cond, not, _&&_, false≢true}
-use mathlib.Core.List.{List, [], _∷_}
+use mathlib.Core.List.{List, [], _∷_, _++_}
 use Prim.Native.Nat.{ℕ, zero, suc, _+_, _*_, _-_, _^_}
 use native.Mathlib.Omega.{arith}
 use lib.Dec.{eqb, leb, ltb}
@@ -23,8 +23,9 @@ use Rattle.formed.proofs.Same.{tab-long}
 use Rattle.view.specs.View.{View, Setting, settingOf, viewOf}
 use Rattle.view.specs.Steps.{run, alike}
 use Rattle.view.specs.Checks.{Check, lengthsRight, openingChecks, allocateChecks, partialChecks, rangeChecks, lookupChecks, wordWriteChecks, byteWriteChecks, freeChecks, truncateChecks, compareChecks, rollbackChecks, onMemory}
-use Rattle.view.specs.Instructions.{accessChecks, loaded, storeChecks, stored, pointerChecks, pointed, staticChecks, staticLoaded, staticStoreChecks, staticStored}
-use Rattle.view.specs.Calls.{Call, Value, Open, Allocate, ReadWord, ReadPartial, ReadRange, ReadByte, DynamicLength, WriteWord, WriteBytes, Lookup, LookupCheck, Free, Window, Truncate, CompareLeft, CompareRight, CompareBoth, Snapshot, Rollback, DeleteHistory, Load, Store, LoadPointer, LoadStatic, StoreStatic, nothing, instructionResult, bytes, verdict, sameLengths, outcomeOf, answerOf, comparisonOf, CallDoes, OpenDoes}
+use Rattle.registers.specs.Registers.{registerNumber, sourceOf, valueOf, loadTakes, pointerTakes, storeTakes}
+use Rattle.view.specs.Instructions.{placeChecks, panickedInto, loadedInto, storedInto, accessChecks, loaded, storeChecks, stored, pointerChecks, pointed, staticChecks, staticLoaded, staticStoreChecks, staticStored}
+use Rattle.view.specs.Calls.{Call, Value, Open, Allocate, ReadWord, ReadPartial, ReadRange, ReadByte, DynamicLength, WriteWord, WriteBytes, Lookup, LookupCheck, Free, Window, Truncate, CompareLeft, CompareRight, CompareBoth, Snapshot, Rollback, DeleteHistory, Load, Store, LoadPointer, LoadStatic, StoreStatic, nothing, executed, bytes, verdict, sameLengths, outcomeOf, answerOf, comparisonOf, CallDoes, OpenDoes}
 use Rattle.view.specs.Does.{Does}
 use Rattle.reads.specs.Calls.{RangeDoes}
 use Rattle.reads.proofs.Answers.{well, lookup-good, block-long, block-zero}
@@ -76,11 +77,22 @@ module _ (s : Setting) (v : View) where
   outcome-sound Snapshot = refl
   outcome-sound (Rollback heap aux) = first-sound (rollbackChecks v heap aux) (done nothing) refl refl
   outcome-sound DeleteHistory = refl
-  outcome-sound (Load area f x) = first-sound (accessChecks instructionResult area f (x .word)) (done (instructionResult (loaded v area f x))) refl refl
-  outcome-sound (Store area f x n h) = first-sound (storeChecks instructionResult s v area f (x .word) n h) (done (instructionResult (stored area f x n h))) refl refl
-  outcome-sound (LoadPointer f x) = first-sound (pointerChecks instructionResult f x) (done (instructionResult (pointed v f x))) refl refl
-  outcome-sound (LoadStatic f x) = first-sound (staticChecks instructionResult f (x .word)) (done (instructionResult (staticLoaded s v f x))) refl refl
-  outcome-sound (StoreStatic f x n) = first-sound (staticStoreChecks instructionResult s v f (x .word)) (done (instructionResult (staticStored f x))) refl refl
+  outcome-sound (Load area f g p) =
+      let x = sourceOf g (p .source) in
+      first-sound (placeChecks (loadTakes p) ++ accessChecks (λ r. executed (panickedInto g (p .dst1) r)) area f (x .word)) (done (executed (loadedInto g p (loaded v area f x)))) refl refl
+  outcome-sound (Store area f g p kernel h) =
+      let x = sourceOf g (p .source) in
+      let n = valueOf kernel g (registerNumber (p .value)) in
+      first-sound (placeChecks (storeTakes p) ++ storeChecks (λ r. executed (panickedInto g (p .dst1) r)) s v area f (x .word) n h) (done (executed (storedInto g p (stored area f x n h)))) refl refl
+  outcome-sound (LoadPointer f g p) =
+      let x = sourceOf g (p .source) in
+      first-sound (placeChecks (pointerTakes p) ++ pointerChecks (λ r. executed (panickedInto g (p .dst1) r)) f x) (done (executed (loadedInto g p (pointed v f x)))) refl refl
+  outcome-sound (LoadStatic f g p) =
+      let x = sourceOf g (p .source) in
+      first-sound (placeChecks (loadTakes p) ++ staticChecks (λ r. executed (panickedInto g (p .dst1) r)) f (x .word)) (done (executed (loadedInto g p (staticLoaded s v f x)))) refl refl
+  outcome-sound (StoreStatic f g p kernel) =
+      let x = sourceOf g (p .source) in
+      first-sound (placeChecks (storeTakes p) ++ staticStoreChecks (λ r. executed (panickedInto g (p .dst1) r)) s v f (x .word)) (done (executed (storedInto g p (staticStored f x)))) refl refl
 
 -- every call that is lent a memory
 pub answer-sound : (m : Mem) (c : Call) → sound (answerOf m c) ≡ true

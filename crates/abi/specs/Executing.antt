@@ -1,100 +1,78 @@
 -- What the numbers of an instruction mean, and its contract.
 -- Assumes nothing.
 use mathlib.Core.Path.{_≡_}
-use mathlib.Core.Bool.{Bool, true, false, cond, _&&_}
-use mathlib.Core.List.{List, [], _∷_, _++_}
+use mathlib.Core.Bool.{Bool, true, false, _&&_}
+use mathlib.Core.List.{List, [], _∷_}
 use mathlib.Core.Logic.{_⊎_}
 use Prim.Native.Nat.{ℕ}
 use lib.Dec.{eqb}
-use lib.ListN.{length, getD, take, drop}
+use lib.ListN.{length}
 use Rattle.outcome.specs.Outcome.{Outcome, refused, panicked, done, firstOf}
-use Rattle.word.specs.Value.{value, limbsValue}
+use Rattle.registers.specs.Registers.{registersFrom}
 use Rattle.store.specs.Mem.{Mem}
-use Rattle.view.specs.Instructions.{Operand, Hook, InstructionResult, running, onHook, frameAlone}
-use Rattle.view.specs.Calls.{Call, Value, instructionResult, CallDoes}
-use Rattle.execution.specs.declared.Execution.{Execution}
+use Rattle.view.specs.Instructions.{Hook, Stop, Executed, running, onHook}
+use Rattle.view.specs.Calls.{Call, Value, executed, CallDoes}
 use Rattle.execution.specs.declared.ExecutionStatus.{ExecutionStatus}
 use Rattle.execution.specs.declared.ExecutionStatus.the-variants.{Running, SuspendedOnHook, Panicked, Refused}
-use Rattle.frames.specs.Frames.{flag, bit, frameFrom, frameNumbers}
+use Rattle.write_back.specs.declared.Executed as code
+use Rattle.frames.specs.Frames.{frameFrom, frameNumbers}
 
 -- ---- arguments
--- a frame has six numbers, and `out` has n
-abbrev pub fit : (frame out : List ℕ) → ℕ → Bool
-fit frame out n = eqb (length frame) 6 && eqb (length out) n
-
--- the operand of four limbs and a tag
-abbrev pub operandFrom : (x0 x1 x2 x3 : ℕ) → Bool → Operand
-operandFrom x0 x1 x2 x3 tagged = record { word = limbsValue x0 x1 x2 x3; tag = tagged }
+-- a frame has six numbers, and a second slice has n
+abbrev pub fit : (frame others : List ℕ) → ℕ → Bool
+fit frame others n = eqb (length frame) 6 && eqb (length others) n
 
 abbrev pub hookFrom : Bool → ℕ → Hook
 hookFrom on address = record { on = on; address = address }
 
 -- ---- answers
--- the result of an instruction: `out` is the word (4 limbs), the operand (4 limbs), its tag and the hook's value; the status is 101 where the hook stops the run
-abbrev pub resultFrom : ℕ → (frame out : List ℕ) → InstructionResult
-resultFrom r frame out = record {
-  word = value out;
-  operand = record { word = value (drop 4 out); tag = flag (getD out 8 0) };
-  frame = frameFrom frame;
-  stop = cond (eqb r 101) (onHook (getD out 9 0)) running;
-}
+-- what an instruction leaves, as numbers tell it
+abbrev pub executedFrom : (frame registers : List ℕ) → Stop → Executed
+executedFrom frame registers stop = record { frame = frameFrom frame; registers = registersFrom registers; stop = stop }
 
--- the outcome that status, frame and `out` mean: carried out, panicked, carried out and stopped, or refused
-abbrev pub outcomeFrom : ℕ → (frame out : List ℕ) → Outcome Value
-outcomeFrom r frame out =
+-- the outcome that status, frame and registers mean: carried out, panicked, carried out and stopped with the value h, or refused
+abbrev pub outcomeFrom : (r h : ℕ) (frame registers : List ℕ) → Outcome Value
+outcomeFrom r h frame registers =
     firstOf
-    ((eqb r 0, done (instructionResult (resultFrom r frame out)))
-    ∷ (eqb r 100, panicked (instructionResult (frameAlone (frameFrom frame))))
-    ∷ (eqb r 101, done (instructionResult (resultFrom r frame out)))
+    ((eqb r 0, done (executed (executedFrom frame registers running)))
+    ∷ (eqb r 100, panicked (executed (executedFrom frame registers running)))
+    ∷ (eqb r 101, done (executed (executedFrom frame registers (onHook h))))
     ∷ [])
     (refused r)
 
--- ten numbers of which the tag is 0 or 1
-abbrev pub outNumbers : List ℕ → List ℕ
-outNumbers out = take 8 out ++ bit (flag (getD out 8 0)) ∷ getD out 9 0 ∷ []
-
--- THE CONTRACT of an instruction c that is lent the buffers m, a frame and an `out`, has the status r, and leaves m', frame' and out'
-pub record Executes (m : Mem) (c : Call) (frame out : List ℕ) (r : ℕ) (m' : Mem) (frame' out' : List ℕ) : Type 0 where
-  -- a frame has six numbers and `out` ten, or nothing is done
-  pub unfit : fit frame out 10 ≡ false → (r ≡ 102) × ((m' ≡ m) × ((frame' ≡ frame) × (out' ≡ out)))
+-- THE CONTRACT of an instruction c that is lent the buffers m, a frame and registers, has the status r, the hook's value h where it stops, and leaves
+-- m', frame' and registers'; `fits` says whether what it is lent has the right lengths
+pub record Executes (m : Mem) (c : Call) (frame registers : List ℕ) (fits : Bool) (r h : ℕ) (m' : Mem) (frame' registers' : List ℕ) : Type 0 where
+  -- nothing is done where a length is wrong: a frame has six numbers, registers 65, and the output of a store one
+  pub unfit : fits ≡ false → (r ≡ 102) × ((m' ≡ m) × ((frame' ≡ frame) × (registers' ≡ registers)))
   -- that of every call on a memory
-  pub does : fit frame out 10 ≡ true → CallDoes m c (outcomeFrom r frame' out') m'
-  -- `out` is as it was where the instruction is refused or panics, the frame where it is refused
-  pub kept-out : (r ≡ 0 → ⊥) → (r ≡ 101 → ⊥) → out' ≡ out
-  pub kept-frame : (r ≡ 0 → ⊥) → (r ≡ 100 → ⊥) → (r ≡ 101 → ⊥) → frame' ≡ frame
-  -- otherwise all six numbers are written, and all ten: the mark and the tag are 0 or 1, and without a stop the hook's value is 0
+  pub does : fits ≡ true → CallDoes m c (outcomeFrom r h frame' registers') m'
+  -- frame and registers are as they were where the instruction is refused
+  pub kept : (r ≡ 0 → ⊥) → (r ≡ 100 → ⊥) → (r ≡ 101 → ⊥) → (frame' ≡ frame) × (registers' ≡ registers)
+  -- otherwise all six numbers of the frame are written: the mark is 0 or 1
   pub frame-numbers : (r ≡ 0) ⊎ ((r ≡ 100) ⊎ (r ≡ 101)) → frame' ≡ frameNumbers (frameFrom frame')
-  pub out-numbers : (r ≡ 0) ⊎ (r ≡ 101) → out' ≡ outNumbers out'
-  pub no-stop : r ≡ 0 → getD out' 9 0 ≡ 0
 
 -- ---- what the parts write
--- of an execution that was carried out, with the hook's value h
-abbrev pub resultNumbers : Execution → ℕ → List ℕ
-resultNumbers x h =
-    let w = x .word .limbs in
-    let y = x .operand .word .limbs in
-    getD w 0 0 ∷ getD w 1 0 ∷ getD w 2 0 ∷ getD w 3 0 ∷ getD y 0 0 ∷ getD y 1 0 ∷ getD y 2 0 ∷ getD y 3 0 ∷ bit (x .operand .tagged) ∷ h ∷ []
+abbrev pub executedStatus : ExecutionStatus → ℕ
+executedStatus Running = 0
+executedStatus (SuspendedOnHook h) = 101
+executedStatus Panicked = 100
+executedStatus (Refused n) = n
 
-abbrev pub executionStatus : ExecutionStatus → ℕ
-executionStatus Running = 0
-executionStatus (SuspendedOnHook h) = 101
-executionStatus Panicked = 100
-executionStatus (Refused n) = n
-
-abbrev pub frameAfter : ExecutionStatus → Execution → List ℕ → List ℕ
+abbrev pub frameAfter : ExecutionStatus → code.Executed → List ℕ → List ℕ
 frameAfter Running x frame = frameNumbers (x .frame)
 frameAfter (SuspendedOnHook h) x frame = frameNumbers (x .frame)
 frameAfter Panicked x frame = frameNumbers (x .frame)
 frameAfter (Refused n) x frame = frame
 
-abbrev pub outAfter : ExecutionStatus → Execution → List ℕ → List ℕ
-outAfter Running x out = resultNumbers x 0
-outAfter (SuspendedOnHook h) x out = resultNumbers x h
-outAfter Panicked x out = out
-outAfter (Refused n) x out = out
+-- a stop's output is the hook's value
+abbrev pub stopValue : ExecutionStatus → List ℕ → List ℕ
+stopValue Running out = out
+stopValue (SuspendedOnHook h) out = h ∷ []
+stopValue Panicked out = out
+stopValue (Refused n) out = out
 
--- r is the status of the execution x, and frame' and out' are written after it
-pub record ReportsExecution (x : Execution) (frame out : List ℕ) (r : ℕ) (frame' out' : List ℕ) : Type 0 where
-  pub status : r ≡ executionStatus (x .status)
+-- r is the status of what an instruction returned, and frame' is written after it
+pub record ReportsExecuted (x : code.Executed) (frame : List ℕ) (r : ℕ) (frame' : List ℕ) : Type 0 where
+  pub status : r ≡ executedStatus (x .status)
   pub frame-is : frame' ≡ frameAfter (x .status) x frame
-  pub out-is : out' ≡ outAfter (x .status) x out

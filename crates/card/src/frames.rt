@@ -5,16 +5,24 @@ use crate::buffers::ORDER;
 use crate::buffers::WORDS;
 use crate::report;
 use crate::samples;
-use execution::Execution;
 use execution::ExecutionStatus;
 use execution::Hook;
-use execution::Operand;
 use fat_pointer::FatPointer;
 use page_ids::Address;
 use page_ids::PageId;
 use state::Area;
 use state::Frame;
 use word::Word;
+use write_back::Executed;
+
+// The registers of an instruction: its operand, the value that a store writes, and its two results. A load's first result is the word.
+const OPERAND: u32 = 1;
+
+const VALUE: u32 = 2;
+
+const FIRST: u32 = 3;
+
+const SECOND: u32 = 4;
 
 // A frame after an instruction, and whether the path is right so far.
 pub struct Touched {
@@ -41,14 +49,6 @@ pub fn untouched(right: bool) -> Touched {
     }
 }
 
-// An address as an operand, which is no pointer.
-fn at(address: u64) -> Operand {
-    Operand {
-        word: samples::small(address),
-        tagged: false,
-    }
-}
-
 // 0 for an instruction that ran, or the number of its refusal; numbers that no refusal has stand for a panic and a stop.
 fn number(status: ExecutionStatus) -> u32 {
     match status {
@@ -60,7 +60,7 @@ fn number(status: ExecutionStatus) -> u32 {
 }
 
 // The touch must have run, and left this gas and this heap bound.
-fn left(right: bool, touch: u64, e: Execution, gas: u64, bound: u64) -> Touched {
+fn left(right: bool, touch: u64, e: Executed, gas: u64, bound: u64) -> Touched {
     let status = e.status;
     let frame = e.frame;
     let ended = number(status);
@@ -75,11 +75,17 @@ fn left(right: bool, touch: u64, e: Execution, gas: u64, bound: u64) -> Touched 
     }
 }
 
-// The word that a pointer showed at an offset.
-fn seen(right: bool, offset: u32, expected: Word, e: Execution) -> bool {
+// The word that a pointer showed at an offset, which its load left in a register.
+fn seen(
+    right: bool,
+    registers: &[u64; registers::LENGTH],
+    offset: u32,
+    expected: Word,
+    e: Executed,
+) -> bool {
     let status = e.status;
-    let came = e.word;
     let ended = number(status);
+    let came = registers::value(registers, FIRST, false);
     let ran = report::same(right, b"refusal of the pointer", 0, ended as u64);
     report::same_word(
         ran,
@@ -108,16 +114,20 @@ pub fn store(
         on: false,
         address: Address(0),
     };
-    let word = samples::counting();
+    let mut registers = [0u64; registers::LENGTH];
+    registers::set(&mut registers, OPERAND, samples::small(address), false);
+    registers::set(&mut registers, VALUE, samples::counting(), false);
+    let places = registers::store_places(OPERAND, VALUE, FIRST, SECOND, true);
     let e = instructions::store(
         bytes,
         keys,
         order,
         words,
+        &mut registers,
         frame,
         Area::Heap,
-        at(address),
-        word,
+        places,
+        false,
         hook,
     );
     left(right, touch, e, gas, bound)
@@ -137,8 +147,19 @@ pub fn load(
 ) -> Touched {
     let right = last.right;
     let frame = last.frame;
-    let operand = at(address);
-    let e = instructions::load(bytes, keys, order, words, frame, Area::Heap, operand);
+    let mut registers = [0u64; registers::LENGTH];
+    registers::set(&mut registers, OPERAND, samples::small(address), false);
+    let places = registers::load_places(OPERAND, FIRST, SECOND, true);
+    let e = instructions::load(
+        bytes,
+        keys,
+        order,
+        words,
+        &mut registers,
+        frame,
+        Area::Heap,
+        places,
+    );
     left(right, touch, e, gas, bound)
 }
 
@@ -153,10 +174,14 @@ pub fn show(
     expected: Word,
 ) -> bool {
     let offset = pointer.offset;
-    let operand = Operand {
-        word: fat_pointer::into_u256(pointer),
-        tagged: true,
-    };
-    let e = instructions::load_pointer(bytes, keys, order, words, frame(), operand);
-    seen(right, offset, expected, e)
+    let mut registers = [0u64; registers::LENGTH];
+    registers::set(
+        &mut registers,
+        OPERAND,
+        fat_pointer::into_u256(pointer),
+        true,
+    );
+    let places = registers::load_places(OPERAND, FIRST, SECOND, true);
+    let e = instructions::load_pointer(bytes, keys, order, words, &mut registers, frame(), places);
+    seen(right, &registers, offset, expected, e)
 }

@@ -1,4 +1,4 @@
-// What the instructions are made of: their operands and answers, the pages and the growth, the hook, loads and stores of a well-formed memory.
+// What the steps of the instructions are made of: their answers, the pages and the growth, the hook, loads and stores of a well-formed memory.
 ghost use mathlib.Core.Path.{_≡_};
 ghost use mathlib.Core.Bool.{true, false, cond, _&&_};
 ghost use mathlib.Core.List.{[], _∷_, _++_};
@@ -8,6 +8,7 @@ ghost use lib.ListN.{length};
 ghost use Rattle.view.specs.Calls.{firstRefusal};
 ghost use Rattle.outcome.specs.Outcome as outcome;
 ghost use Rattle.word.specs.Value.{value, lastAddress};
+ghost use Rattle.registers.specs.Registers.{operandOf};
 ghost use Rattle.state.specs.Access.{frameAccessed};
 ghost use Rattle.store.specs.Mem.{mem, layoutOf, headLength};
 ghost use Rattle.formed.specs.Formed.{narrow};
@@ -15,19 +16,14 @@ ghost use Rattle.formed.specs.WellFormed.{WellFormed};
 ghost use Rattle.view.specs.View.{settingOf, viewOf};
 ghost use Rattle.view.specs.Checks.{wordWriteChecks};
 ghost use Rattle.view.specs.Instructions.{heapOf, staticOf, frameAlone, panic, hooked, incremented};
-ghost use Rattle.execution.specs.Executions.{operandOf, hookOf, resultOf, carried, staticStep, Loads, Stores};
+ghost use Rattle.execution.specs.Executions.{hookOf, resultOf, carried, staticStep, Loads, Stores};
 use page_ids::Address;
 use page_ids::PageId;
+use registers::Operand;
 use state::Area;
 use state::Frame;
 use state::FrameStep;
 use word::Word;
-
-// A word, and whether it is tagged as a pointer.
-pub struct Operand {
-    pub word: Word,
-    pub tagged: bool,
-}
 
 // Whether hooking is on, and the hook address.
 pub struct Hook {
@@ -43,7 +39,7 @@ pub enum ExecutionStatus {
     Refused(u32),
 }
 
-// What an instruction returns: the word that it read, the operand plus 32, and the frame. A panic returns the frame alone, and a refusal the frame as it was.
+// What a step returns: the word that it read, the operand plus 32, and the frame. A panic returns the frame alone, and a refusal the frame as it was.
 pub struct Execution {
     pub status: ExecutionStatus,
     pub word: Word,

@@ -2,10 +2,13 @@
 -- Assumes nothing.
 use mathlib.Core.Path.{_≡_, refl, sym, ap, _∙_, subst}
 use mathlib.Core.Bool.{Bool, true, false, not, false≢true, true≢false}
-use mathlib.Core.List.{List, [], _∷_}
+use mathlib.Core.List.{List, [], _∷_, _++_}
 use Prim.Native.Nat.{ℕ}
 use borrow.Author.Tests.{not-false}
 use Rattle.outcome.specs.Outcome.{Outcome, refused, panicked, done, carriedOut, firstOf}
+use Rattle.registers.specs.declared.LoadPlaces.{LoadPlaces}
+use Rattle.registers.specs.declared.StorePlaces.{StorePlaces}
+use Rattle.registers.specs.Registers.{Registers, registerNumber, sourceOf, valueOf, loadTakes, storeTakes}
 use Rattle.state.specs.declared.Frame.{Frame}
 use Rattle.state.specs.declared.Growth.{Growth}
 use Rattle.state.specs.declared.Area.{Area}
@@ -16,8 +19,8 @@ use Rattle.store.specs.Mem.{Mem}
 use Rattle.formed.specs.Formed.{wellFormed}
 use Rattle.view.specs.View.{settingOf, viewOf}
 use Rattle.view.specs.Checks.{Check}
-use Rattle.view.specs.Instructions.{Operand, Hook, InstructionResult, accessChecks, storeChecks, loaded, stored}
-use Rattle.view.specs.Calls.{Value, Load, Store, nothing, instructionResult, number, lengths, bytes, verdict, answerOf}
+use Rattle.view.specs.Instructions.{Hook, Executed, accessChecks, storeChecks, loaded, stored, placeChecks, loadedInto, storedInto, panickedInto}
+use Rattle.view.specs.Calls.{Value, Load, Store, nothing, executed, number, lengths, bytes, verdict, answerOf}
 use Rattle.plain.proofs.Tests.{Clear, clear}
 use Rattle.growth.specs.Charges.{sameArea}
 
@@ -39,7 +42,7 @@ is-done ((b, done x) ∷ rest) a n e = absurd n
 
 -- the frame of a value, and of an outcome; f where there is none
 abbrev frameGiven : Frame → Value → Frame
-frameGiven f (instructionResult r) = r .frame
+frameGiven f (executed r) = r .frame
 frameGiven f nothing = f
 frameGiven f (number n) = f
 frameGiven f (lengths heap aux) = f
@@ -58,21 +61,28 @@ pub record Paid (area : Area) (x : ℕ) (f g : Frame) : Type 0 where
   pub frame : g ≡ frameAccessed f area x .frame
 
 -- an instruction that is carried out has passed its checks, and its frame is the definition's
-passed : (r v : InstructionResult) (checks : List (Check Value)) → NoneDone checks → done (instructionResult r) ≡ firstOf checks (done (instructionResult v)) → Clear checks × (r .frame ≡ v .frame)
+passed : (r v : Executed) (checks : List (Check Value)) → NoneDone checks → done (executed r) ≡ firstOf checks (done (executed v)) → Clear checks × (r .frame ≡ v .frame)
 passed r v checks n e =
-    let c : carriedOut (firstOf checks (done (instructionResult v))) ≡ true = sym (ap carriedOut e) in
-    (clear checks (instructionResult v) c, ap (frameTold (v .frame)) (e ∙ is-done checks (instructionResult v) n c))
+    let c : carriedOut (firstOf checks (done (executed v))) ≡ true = sym (ap carriedOut e) in
+    (clear checks (executed v) c, ap (frameTold (v .frame)) (e ∙ is-done checks (executed v) n c))
 
-module _ (m : Mem) (area : Area) (f : Frame) (x : Operand) (r : InstructionResult) where
-  pub load-paid : done (instructionResult r) ≡ answerOf m (Load area f x) → Paid area (x .word) f (r .frame)
-  load-paid e =
-      let p = passed r (loaded (viewOf m) area f x) ((not (wellFormed m), refused 3) ∷ accessChecks instructionResult area f (x .word)) tt e in
-      record { paid = not-false _ (p .0 .1 .0); frame = p .1 }
+-- the check of the access is the third: the memory and the places are before it
+module _ (m : Mem) (area : Area) (f : Frame) (g : Registers) where
+  pub load-paid : (p : LoadPlaces) (r : Executed) → done (executed r) ≡ answerOf m (Load area f g p) → Paid area (sourceOf g (p .source) .word) f (r .frame)
+  load-paid p r e =
+      let x = sourceOf g (p .source) in
+      let checks : List (Check Value) = placeChecks (loadTakes p) ++ accessChecks (λ i. executed (panickedInto g (p .dst1) i)) area f (x .word) in
+      let c = passed r (loadedInto g p (loaded (viewOf m) area f x)) ((not (wellFormed m), refused 3) ∷ checks) tt e in
+      record { paid = not-false _ (c .0 .1 .1 .0); frame = c .1 }
 
-  pub store-paid : (n : ℕ) (h : Hook) → done (instructionResult r) ≡ answerOf m (Store area f x n h) → Paid area (x .word) f (r .frame)
-  store-paid n h e =
-      let p = passed r (stored area f x n h) ((not (wellFormed m), refused 3) ∷ storeChecks instructionResult (settingOf m) (viewOf m) area f (x .word) n h) tt e in
-      record { paid = not-false _ (p .0 .1 .0); frame = p .1 }
+  pub store-paid : (p : StorePlaces) (kernel : Bool) (h : Hook) (r : Executed) → done (executed r) ≡ answerOf m (Store area f g p kernel h)
+      → Paid area (sourceOf g (p .source) .word) f (r .frame)
+  store-paid p kernel h r e =
+      let x = sourceOf g (p .source) in
+      let n = valueOf kernel g (registerNumber (p .value)) in
+      let checks : List (Check Value) = placeChecks (storeTakes p) ++ storeChecks (λ i. executed (panickedInto g (p .dst1) i)) (settingOf m) (viewOf m) area f (x .word) n h in
+      let c = passed r (storedInto g p (stored area f x n h)) ((not (wellFormed m), refused 3) ∷ checks) tt e in
+      record { paid = not-false _ (c .0 .1 .1 .0); frame = c .1 }
 
 -- ---- what the access moves
 -- gas and bound of an area

@@ -97,8 +97,8 @@ gas-none f = omega arith
 -- ---- runs
 module _ (S : Steps) (I : LoadsAndStoresMeet S) where
   paid : {area : Area} {a : ℕ} {f g : Frame} → LoadOrStore S area a f g → Paid area a f g
-  paid (by-load {m} {area = area} {f = f} {x = x} {r = r} s) = load-paid m area f x r (I .loads s .answer)
-  paid (by-store {m} {area = area} {f = f} {x = x} {n = n} {h = h} {r = r} s) = store-paid m area f x r n h (I .stores s .answer)
+  paid (by-load {m} {area = area} {f = f} {g = g} {p = p} {r = r} s) = load-paid m area f g p r (I .loads s .answer)
+  paid (by-store {m} {area = area} {f = f} {g = g} {p = p} {kernel = kernel} {h = h} {r = r} s) = store-paid m area f g p kernel h r (I .stores s .answer)
 
   totals : {f g : Frame} {charges : List Charge} → LoadsAndStores S f charges g → (area : Area) → Totals area f charges g
   totals {f} {g} (one {area = c} {a = a} x) area = before area a f g g [] (none area g) c (paid x)

@@ -5,22 +5,28 @@ use mathlib.Core.Bool.{Bool, true, false, cond}
 use mathlib.Core.List.{List, [], _∷_}
 use Prim.Native.Nat.{ℕ, _+_, _-_, _≤_, max}
 use Rattle.outcome.specs.Outcome.{done}
+use Rattle.registers.specs.declared.LoadPlaces.{LoadPlaces}
+use Rattle.registers.specs.declared.StorePlaces.{StorePlaces}
+use Rattle.registers.specs.Registers.{Registers, sourceOf}
 use Rattle.state.specs.declared.Frame.{Frame}
 use Rattle.state.specs.declared.Area.{Area}
 use Rattle.state.specs.declared.Area.the-variants.{Heap, Aux}
 use Rattle.state.specs.Access.{boundOf}
 use Rattle.store.specs.Mem.{Mem}
-use Rattle.view.specs.Instructions.{Operand, Hook, InstructionResult}
-use Rattle.view.specs.Calls.{Load, Store, instructionResult}
+use Rattle.view.specs.Instructions.{Hook, Executed}
+use Rattle.view.specs.Calls.{Load, Store, executed}
 use Rattle.plain.specs.Claim.{Steps}
 
 -- ---- runs
--- A LOAD OR STORE that neither panics nor is refused, of an area at an address, on any memory. It is given the frame f and leaves the frame g.
+-- A LOAD OR STORE that neither panics nor is refused, of an area at an address, on any memory, with any registers and places.
+-- The address is the word at its source place.
+-- It is given the frame f and leaves the frame g.
 -- A store that stops on the hook is carried out, so it is one too
 pub data LoadOrStore (S : Steps) : (area : Area) (address : ℕ) (f g : Frame) → Type 0 where
-  by-load : {m m' : Mem} {area : Area} {f : Frame} {x : Operand} {r : InstructionResult} → S m (Load area f x) (done (instructionResult r)) m' → LoadOrStore S area (x .word) f (r .frame)
-  by-store : {m m' : Mem} {area : Area} {f : Frame} {x : Operand} {n : ℕ} {h : Hook} {r : InstructionResult}
-      → S m (Store area f x n h) (done (instructionResult r)) m' → LoadOrStore S area (x .word) f (r .frame)
+  by-load : {m m' : Mem} {area : Area} {f : Frame} {g : Registers} {p : LoadPlaces} {r : Executed}
+      → S m (Load area f g p) (done (executed r)) m' → LoadOrStore S area (sourceOf g (p .source) .word) f (r .frame)
+  by-store : {m m' : Mem} {area : Area} {f : Frame} {g : Registers} {p : StorePlaces} {kernel : Bool} {h : Hook} {r : Executed}
+      → S m (Store area f g p kernel h) (done (executed r)) m' → LoadOrStore S area (sourceOf g (p .source) .word) f (r .frame)
 
 -- its charge: the area, the address, and the amount
 pub record Charge : Type 0 where
@@ -32,8 +38,9 @@ pub record Charge : Type 0 where
 abbrev pub chargeOf : Area → ℕ → Frame → Frame → Charge
 chargeOf area address f g = record { area = area; address = address; amount = f .gas - g .gas }
 
--- A RUN: one or more of them, from the frame f to the frame g, each given the frame that the last one left; with their charges. Each may be lent another
--- memory, so calls that leave this frame as it is may come between
+-- A RUN: one or more of them, from the frame f to the frame g, each given the frame that the last one left; with their charges.
+-- Each may be lent another memory, so calls that leave this frame as it is may come between.
+-- Each may be lent other registers too: they are not handed on
 pub data LoadsAndStores (S : Steps) : (f : Frame) (charges : List Charge) (g : Frame) → Type 0 where
   one : {area : Area} {a : ℕ} {f g : Frame} → LoadOrStore S area a f g → LoadsAndStores S f (chargeOf area a f g ∷ []) g
   more : {area : Area} {a : ℕ} {f g h : Frame} {charges : List Charge}

@@ -1,15 +1,16 @@
-// The five heap instructions, each one step. It tests first that the memory is well formed (refusal 3); `on_formed` has what is left of it.
-// Which register an operand comes from, and goes to, is the caller's. vm2: heap_access.rs.
-ghost use Rattle.word.specs.Value.{value};
+// The five heap instructions. Each takes its operands from the registers and writes its results there, as its places say.
+// It tests first that the memory is well formed (refusal 3); `on_formed` has what is left of it. vm2: heap_access.rs.
+ghost use Rattle.registers.specs.Registers.{registersFrom};
 ghost use Rattle.store.specs.Mem.{mem};
 ghost use Rattle.view.specs.Calls.{Call};
-ghost use Rattle.execution.specs.Executions.{operandOf, hookOf, Runs};
-use execution::Execution;
+ghost use Rattle.execution.specs.Executions.{hookOf};
+ghost use Rattle.write_back.specs.Runs.{Runs};
 use execution::Hook;
-use execution::Operand;
+use registers::LoadPlaces;
+use registers::StorePlaces;
 use state::Area;
 use state::Frame;
-use word::Word;
+use write_back::Executed;
 
 pub mod on_formed;
 
@@ -19,36 +20,49 @@ pub fn load(
     keys: &[u64],
     order: &[u32],
     words: &[u64],
+    registers: &mut [u64; registers::LENGTH],
     frame: Frame,
     area: Area,
-    operand: Operand,
-) -> Execution
-    ensures { λ r. ⌜ Runs (mem (now (bytes .entry)) (now (keys .entry)) (now (order .entry)) (now (words .entry))) (Call.Load area frame (operandOf operand)) frame r (mem (now (bytes .entry)) (now (keys .entry)) (now (order .entry)) (now (words .entry))) ⌝ }
+    places: LoadPlaces,
+) -> Executed
+    ensures { λ r. ⌜ Runs (mem (now (bytes .entry)) (now (keys .entry)) (now (order .entry)) (now (words .entry))) (Call.Load area frame (registersFrom (now (registers .entry))) places) frame (now (registers .entry)) r (mem (now (bytes .entry)) (now (keys .entry)) (now (order .entry)) (now (words .entry))) (now (registers .exit)) ⌝ }
 {
     if !formed::well_formed(bytes, keys, order, words) {
-        return execution::refused(3, frame);
+        return write_back::refused(3, frame);
     }
-    on_formed::load(bytes, keys, order, words, frame, area, operand)
+    on_formed::load(bytes, keys, order, words, registers, frame, area, places)
 }
 
-// Writes a word at the operand, in the page of an area, and pays for the area's growth; stops on the hook.
+// Writes the word of a register at the operand, in the page of an area, and pays for the area's growth; stops on the hook.
 pub fn store(
     bytes: &mut [u8],
     keys: &mut [u64],
     order: &mut [u32],
     words: &mut [u64],
+    registers: &mut [u64; registers::LENGTH],
     frame: Frame,
     area: Area,
-    operand: Operand,
-    word: Word,
+    places: StorePlaces,
+    kernel: bool,
     hook: Hook,
-) -> Execution
-    ensures { λ r. ⌜ Runs (mem (now (bytes .entry)) (now (keys .entry)) (now (order .entry)) (now (words .entry))) (Call.Store area frame (operandOf operand) (value (word .limbs)) (hookOf hook)) frame r (mem (now (bytes .exit)) (now (keys .exit)) (now (order .exit)) (now (words .exit))) ⌝ }
+) -> Executed
+    ensures { λ r. ⌜ Runs (mem (now (bytes .entry)) (now (keys .entry)) (now (order .entry)) (now (words .entry))) (Call.Store area frame (registersFrom (now (registers .entry))) places kernel (hookOf hook)) frame (now (registers .entry)) r (mem (now (bytes .exit)) (now (keys .exit)) (now (order .exit)) (now (words .exit))) (now (registers .exit)) ⌝ }
 {
     if !formed::well_formed(bytes, keys, order, words) {
-        return execution::refused(3, frame);
+        return write_back::refused(3, frame);
     }
-    on_formed::store(bytes, keys, order, words, frame, area, operand, word, hook)
+    on_formed::store(
+        bytes,
+        keys,
+        order,
+        words,
+        registers,
+        frame,
+        area,
+        places,
+        kernel,
+        hook,
+    )
 }
 
 // Reads the bytes that a pointer shows from its offset on, at most 32; they lead the word, and zeros follow.
@@ -57,15 +71,16 @@ pub fn load_pointer(
     keys: &[u64],
     order: &[u32],
     words: &[u64],
+    registers: &mut [u64; registers::LENGTH],
     frame: Frame,
-    operand: Operand,
-) -> Execution
-    ensures { λ r. ⌜ Runs (mem (now (bytes .entry)) (now (keys .entry)) (now (order .entry)) (now (words .entry))) (Call.LoadPointer frame (operandOf operand)) frame r (mem (now (bytes .entry)) (now (keys .entry)) (now (order .entry)) (now (words .entry))) ⌝ }
+    places: LoadPlaces,
+) -> Executed
+    ensures { λ r. ⌜ Runs (mem (now (bytes .entry)) (now (keys .entry)) (now (order .entry)) (now (words .entry))) (Call.LoadPointer frame (registersFrom (now (registers .entry))) places) frame (now (registers .entry)) r (mem (now (bytes .entry)) (now (keys .entry)) (now (order .entry)) (now (words .entry))) (now (registers .exit)) ⌝ }
 {
     if !formed::well_formed(bytes, keys, order, words) {
-        return execution::refused(3, frame);
+        return write_back::refused(3, frame);
     }
-    on_formed::load_pointer(bytes, keys, order, words, frame, operand)
+    on_formed::load_pointer(bytes, keys, order, words, registers, frame, places)
 }
 
 // Reads the word at the operand in the static page.
@@ -74,31 +89,33 @@ pub fn load_static(
     keys: &[u64],
     order: &[u32],
     words: &[u64],
+    registers: &mut [u64; registers::LENGTH],
     frame: Frame,
-    operand: Operand,
-) -> Execution
-    ensures { λ r. ⌜ Runs (mem (now (bytes .entry)) (now (keys .entry)) (now (order .entry)) (now (words .entry))) (Call.LoadStatic frame (operandOf operand)) frame r (mem (now (bytes .entry)) (now (keys .entry)) (now (order .entry)) (now (words .entry))) ⌝ }
+    places: LoadPlaces,
+) -> Executed
+    ensures { λ r. ⌜ Runs (mem (now (bytes .entry)) (now (keys .entry)) (now (order .entry)) (now (words .entry))) (Call.LoadStatic frame (registersFrom (now (registers .entry))) places) frame (now (registers .entry)) r (mem (now (bytes .entry)) (now (keys .entry)) (now (order .entry)) (now (words .entry))) (now (registers .exit)) ⌝ }
 {
     if !formed::well_formed(bytes, keys, order, words) {
-        return execution::refused(3, frame);
+        return write_back::refused(3, frame);
     }
-    on_formed::load_static(bytes, keys, order, words, frame, operand)
+    on_formed::load_static(bytes, keys, order, words, registers, frame, places)
 }
 
-// Writes a word at the operand in the static page.
+// Writes the word of a register at the operand in the static page.
 pub fn store_static(
     bytes: &mut [u8],
     keys: &mut [u64],
     order: &mut [u32],
     words: &mut [u64],
+    registers: &mut [u64; registers::LENGTH],
     frame: Frame,
-    operand: Operand,
-    word: Word,
-) -> Execution
-    ensures { λ r. ⌜ Runs (mem (now (bytes .entry)) (now (keys .entry)) (now (order .entry)) (now (words .entry))) (Call.StoreStatic frame (operandOf operand) (value (word .limbs))) frame r (mem (now (bytes .exit)) (now (keys .exit)) (now (order .exit)) (now (words .exit))) ⌝ }
+    places: StorePlaces,
+    kernel: bool,
+) -> Executed
+    ensures { λ r. ⌜ Runs (mem (now (bytes .entry)) (now (keys .entry)) (now (order .entry)) (now (words .entry))) (Call.StoreStatic frame (registersFrom (now (registers .entry))) places kernel) frame (now (registers .entry)) r (mem (now (bytes .exit)) (now (keys .exit)) (now (order .exit)) (now (words .exit))) (now (registers .exit)) ⌝ }
 {
     if !formed::well_formed(bytes, keys, order, words) {
-        return execution::refused(3, frame);
+        return write_back::refused(3, frame);
     }
-    on_formed::store_static(bytes, keys, order, words, frame, operand, word)
+    on_formed::store_static(bytes, keys, order, words, registers, frame, places, kernel)
 }

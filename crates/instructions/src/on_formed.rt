@@ -1,34 +1,41 @@
 // Each instruction on a memory that is known to be well formed: what is left of it after the test.
-// It panics or is refused, or does its work.
-ghost use Rattle.word.specs.Value.{value};
+// It is refused where a place is not one that it takes (16). Otherwise it reads its operands, makes its step, and writes the results back.
+ghost use mathlib.Core.Path.{_≡_};
+ghost use lib.ListN.{length};
+ghost use Rattle.registers.specs.Registers.{registersFrom};
 ghost use Rattle.store.specs.Mem.{mem};
 ghost use Rattle.formed.specs.WellFormed.{WellFormed};
 ghost use Rattle.view.specs.Calls.{Call};
-ghost use Rattle.execution.specs.Executions.{operandOf, hookOf, Runs};
-use execution::Execution;
-use execution::ExecutionStatus;
+ghost use Rattle.execution.specs.Executions.{hookOf};
+ghost use Rattle.write_back.specs.Runs.{Runs};
 use execution::Hook;
-use execution::Operand;
-use page_ids::Address;
+use registers::LoadPlaces;
+use registers::StorePlaces;
 use state::Area;
 use state::Frame;
-use word::Word;
+use write_back::Executed;
 
 pub fn load(
     bytes: &[u8],
     keys: &[u64],
     order: &[u32],
     words: &[u64],
+    registers: &mut [u64],
     frame: Frame,
     area: Area,
-    operand: Operand,
-) -> Execution
+    places: LoadPlaces,
+) -> Executed
     requires { ⌜ WellFormed (mem (now bytes) (now keys) (now order) (now words)) ⌝ }
-    ensures { λ r. ⌜ Runs (mem (now (bytes .entry)) (now (keys .entry)) (now (order .entry)) (now (words .entry))) (Call.Load area frame (operandOf operand)) frame r (mem (now (bytes .entry)) (now (keys .entry)) (now (order .entry)) (now (words .entry))) ⌝ }
+    requires { ⌜ length (now registers) ≡ 65 ⌝ }
+    ensures { λ r. ⌜ Runs (mem (now (bytes .entry)) (now (keys .entry)) (now (order .entry)) (now (words .entry))) (Call.Load area frame (registersFrom (now (registers .entry))) places) frame (now (registers .entry)) r (mem (now (bytes .entry)) (now (keys .entry)) (now (order .entry)) (now (words .entry))) (now (registers .exit)) ⌝ }
 {
-    let page = execution::page_of(frame, area);
-    let step = execution::reach(frame, area, operand.word);
-    execution::load_at(bytes, keys, order, words, page, operand, step)
+    if !registers::takes_load(places) {
+        return write_back::refused(16, frame);
+    }
+    let source = places.source;
+    let operand = registers::source(registers, source);
+    let run = instruction_steps::load(bytes, keys, order, words, frame, area, operand);
+    write_back::loaded(registers, places, run)
 }
 
 pub fn store(
@@ -36,29 +43,27 @@ pub fn store(
     keys: &mut [u64],
     order: &mut [u32],
     words: &mut [u64],
+    registers: &mut [u64],
     frame: Frame,
     area: Area,
-    operand: Operand,
-    word: Word,
+    places: StorePlaces,
+    kernel: bool,
     hook: Hook,
-) -> Execution
+) -> Executed
     requires { ⌜ WellFormed (mem (now bytes) (now keys) (now order) (now words)) ⌝ }
-    ensures { λ r. ⌜ Runs (mem (now (bytes .entry)) (now (keys .entry)) (now (order .entry)) (now (words .entry))) (Call.Store area frame (operandOf operand) (value (word .limbs)) (hookOf hook)) frame r (mem (now (bytes .exit)) (now (keys .exit)) (now (order .exit)) (now (words .exit))) ⌝ }
+    requires { ⌜ length (now registers) ≡ 65 ⌝ }
+    ensures { λ r. ⌜ Runs (mem (now (bytes .entry)) (now (keys .entry)) (now (order .entry)) (now (words .entry))) (Call.Store area frame (registersFrom (now (registers .entry))) places kernel (hookOf hook)) frame (now (registers .entry)) r (mem (now (bytes .exit)) (now (keys .exit)) (now (order .exit)) (now (words .exit))) (now (registers .exit)) ⌝ }
 {
-    let page = execution::page_of(frame, area);
-    let step = execution::reach(frame, area, operand.word);
-    execution::store_at(
-        bytes,
-        keys,
-        order,
-        words,
-        page,
-        operand,
-        word,
-        hook,
-        frame,
-        step,
-    )
+    if !registers::takes_store(places) {
+        return write_back::refused(16, frame);
+    }
+    let source = places.source;
+    let operand = registers::source(registers, source);
+    let value = places.value;
+    let stored = registers::number(value);
+    let word = registers::value(registers, stored, kernel);
+    let run = instruction_steps::store(bytes, keys, order, words, frame, area, operand, word, hook);
+    write_back::stored(registers, places, run)
 }
 
 pub fn load_pointer(
@@ -66,30 +71,21 @@ pub fn load_pointer(
     keys: &[u64],
     order: &[u32],
     words: &[u64],
+    registers: &mut [u64],
     frame: Frame,
-    operand: Operand,
-) -> Execution
+    places: LoadPlaces,
+) -> Executed
     requires { ⌜ WellFormed (mem (now bytes) (now keys) (now order) (now words)) ⌝ }
-    ensures { λ r. ⌜ Runs (mem (now (bytes .entry)) (now (keys .entry)) (now (order .entry)) (now (words .entry))) (Call.LoadPointer frame (operandOf operand)) frame r (mem (now (bytes .entry)) (now (keys .entry)) (now (order .entry)) (now (words .entry))) ⌝ }
+    requires { ⌜ length (now registers) ≡ 65 ⌝ }
+    ensures { λ r. ⌜ Runs (mem (now (bytes .entry)) (now (keys .entry)) (now (order .entry)) (now (words .entry))) (Call.LoadPointer frame (registersFrom (now (registers .entry))) places) frame (now (registers .entry)) r (mem (now (bytes .entry)) (now (keys .entry)) (now (order .entry)) (now (words .entry))) (now (registers .exit)) ⌝ }
 {
-    if !operand.tagged {
-        return execution::panicked(frame);
+    if !registers::takes_pointer(places) {
+        return write_back::refused(16, frame);
     }
-    let pointer = fat_pointer::from_u256(operand.word);
-    if pointer.offset > word::LAST_ADDRESS {
-        return execution::panicked(frame);
-    }
-    if pointer.length > 4294967295 - pointer.start {
-        return execution::refused(14, frame);
-    }
-    let end = pointer.start + pointer.length;
-    let first = pointer.start + execution::lesser(pointer.offset, pointer.length);
-    let n = execution::count(first, end);
-    let page = pointer.memory_page;
-    let start = Address(first);
-    let read = read_steps::read_padded(bytes, keys, order, words, page, start, n);
-    let word = word::from_big_endian(read);
-    execution::carried_out(ExecutionStatus::Running, word, operand, true, frame)
+    let source = places.source;
+    let operand = registers::source(registers, source);
+    let run = instruction_steps::load_pointer(bytes, keys, order, words, frame, operand);
+    write_back::loaded(registers, places, run)
 }
 
 pub fn load_static(
@@ -97,15 +93,21 @@ pub fn load_static(
     keys: &[u64],
     order: &[u32],
     words: &[u64],
+    registers: &mut [u64],
     frame: Frame,
-    operand: Operand,
-) -> Execution
+    places: LoadPlaces,
+) -> Executed
     requires { ⌜ WellFormed (mem (now bytes) (now keys) (now order) (now words)) ⌝ }
-    ensures { λ r. ⌜ Runs (mem (now (bytes .entry)) (now (keys .entry)) (now (order .entry)) (now (words .entry))) (Call.LoadStatic frame (operandOf operand)) frame r (mem (now (bytes .entry)) (now (keys .entry)) (now (order .entry)) (now (words .entry))) ⌝ }
+    requires { ⌜ length (now registers) ≡ 65 ⌝ }
+    ensures { λ r. ⌜ Runs (mem (now (bytes .entry)) (now (keys .entry)) (now (order .entry)) (now (words .entry))) (Call.LoadStatic frame (registersFrom (now (registers .entry))) places) frame (now (registers .entry)) r (mem (now (bytes .entry)) (now (keys .entry)) (now (order .entry)) (now (words .entry))) (now (registers .exit)) ⌝ }
 {
-    let page = execution::static_page(words);
-    let step = execution::reach_static(frame, operand.word);
-    execution::load_at(bytes, keys, order, words, page, operand, step)
+    if !registers::takes_load(places) {
+        return write_back::refused(16, frame);
+    }
+    let source = places.source;
+    let operand = registers::source(registers, source);
+    let run = instruction_steps::load_static(bytes, keys, order, words, frame, operand);
+    write_back::loaded(registers, places, run)
 }
 
 pub fn store_static(
@@ -113,29 +115,23 @@ pub fn store_static(
     keys: &mut [u64],
     order: &mut [u32],
     words: &mut [u64],
+    registers: &mut [u64],
     frame: Frame,
-    operand: Operand,
-    word: Word,
-) -> Execution
+    places: StorePlaces,
+    kernel: bool,
+) -> Executed
     requires { ⌜ WellFormed (mem (now bytes) (now keys) (now order) (now words)) ⌝ }
-    ensures { λ r. ⌜ Runs (mem (now (bytes .entry)) (now (keys .entry)) (now (order .entry)) (now (words .entry))) (Call.StoreStatic frame (operandOf operand) (value (word .limbs))) frame r (mem (now (bytes .exit)) (now (keys .exit)) (now (order .exit)) (now (words .exit))) ⌝ }
+    requires { ⌜ length (now registers) ≡ 65 ⌝ }
+    ensures { λ r. ⌜ Runs (mem (now (bytes .entry)) (now (keys .entry)) (now (order .entry)) (now (words .entry))) (Call.StoreStatic frame (registersFrom (now (registers .entry))) places kernel) frame (now (registers .entry)) r (mem (now (bytes .exit)) (now (keys .exit)) (now (order .exit)) (now (words .exit))) (now (registers .exit)) ⌝ }
 {
-    let page = execution::static_page(words);
-    let step = execution::reach_static(frame, operand.word);
-    let off = Hook {
-        on: false,
-        address: Address(0),
-    };
-    execution::store_at(
-        bytes,
-        keys,
-        order,
-        words,
-        page,
-        operand,
-        word,
-        off,
-        frame,
-        step,
-    )
+    if !registers::takes_store(places) {
+        return write_back::refused(16, frame);
+    }
+    let source = places.source;
+    let operand = registers::source(registers, source);
+    let value = places.value;
+    let stored = registers::number(value);
+    let word = registers::value(registers, stored, kernel);
+    let run = instruction_steps::store_static(bytes, keys, order, words, frame, operand, word);
+    write_back::stored(registers, places, run)
 }

@@ -1,6 +1,6 @@
 -- What loads and stores pay, of the steps that the code's contracts give.
 -- Assumes nothing.
-use mathlib.Core.Path.{_≡_, refl, _∙_}
+use mathlib.Core.Path.{_≡_, refl, _∙_, subst}
 use mathlib.Core.Bool.{Bool, true, false, cond}
 use mathlib.Core.List.{List, [], _∷_}
 use Prim.Native.Nat.{ℕ, suc, _≤_}
@@ -18,6 +18,8 @@ use Rattle.instructions.proofs.load.Met as load-met
 use Rattle.instructions.proofs.store.Met as store-met
 use Rattle.store.specs.Mem.{Mem}
 use Rattle.formed.specs.Formed.{wellFormed}
+use Rattle.registers.specs.declared.Place.the-variants.{Register}
+use Rattle.registers.specs.Registers.{sourceOf}
 use Rattle.view.specs.Instructions.{panic}
 use Rattle.view.specs.Calls.{Load, answerOf}
 use Rattle.plain.proofs.Good.{never}
@@ -26,11 +28,11 @@ use Rattle.growth.specs.Quotes.{LoadRun, none, more, ends, QuoteOfLoads}
 use Rattle.growth.proofs.Quotes.{quote-of-loads}
 use Rattle.growth.proofs.Charges.{growth-adds-up}
 use Rattle.lists.specs.Steps.{Step}
-use Rattle.lists.specs.Worked.{operandAt}
+use Rattle.lists.specs.Worked.{registersAt, loadPlaces}
 use Rattle.lists.specs.Charged.{Quote, listOf, gasOf, firstBound, LoadsExist, QuoteExists, Charged}
 use Rattle.lists.proofs.Contracts.{does}
 use Rattle.lists.proofs.Inhabited.{ref}
-use Rattle.lists.proofs.Leaving.{answer, load-is, load-step, load-leaves, store-goes}
+use Rattle.lists.proofs.Leaving.{word-at, answer, load-is, load-step, load-leaves, store-goes}
 use Rattle.lists.proofs.Worked.{m₀, begun, formed, worked}
 
 meet : LoadsAndStoresMeet Step
@@ -52,11 +54,18 @@ quote-equals q few {area} {f} {g} {n} d e l =
 module _ (m : Mem) (w : wellFormed m ≡ true) (area : Area) where
   pub can-run : (f : Frame) (list : List ℕ) → LoadsExist area f list
   can-run f [] = record { position = 0; last = f; loads = none }
-  can-run f (a ∷ list) = go (frameAccessed f area a .paid) (load-is m w area f a) (can-run (frameAccessed f area a .frame) list)
+  can-run f (a ∷ list) = go (frameAccessed f area a .paid) (load-is m w area f a) (can-run (frameAccessed f area word .frame) list)
     where
-      go : (p : Bool) → answerOf m (Load area f (operandAt a)) ≡ answer m w area f a p → LoadsExist area (frameAccessed f area a .frame) list → LoadsExist area f (a ∷ list)
-      go false e rest = record { position = 0; last = panic (frameAccessed f area a .frame) .frame; loads = ends {x = operandAt a} (load-step m w area f a e) }
-      go true e rest = record { position = suc (rest .position); last = rest .last; loads = more {x = operandAt a} (load-step m w area f a e) (rest .loads) }
+      -- the address is that of register 1
+      word : ℕ
+      word = sourceOf (registersAt a) (Register 1) .word
+
+      again : LoadsExist area f (word ∷ list) → LoadsExist area f (a ∷ list)
+      again = subst (λ (n : ℕ). LoadsExist area f (n ∷ list)) (word-at a)
+
+      go : (p : Bool) → answerOf m (Load area f (registersAt a) loadPlaces) ≡ answer m w area f a p → LoadsExist area (frameAccessed f area word .frame) list → LoadsExist area f (a ∷ list)
+      go false e rest = again (record { position = 0; last = panic (frameAccessed f area word .frame) .frame; loads = ends {g = registersAt a} {p = loadPlaces} (load-step m w area f a e) })
+      go true e rest = again (record { position = suc (rest .position); last = rest .last; loads = more {g = registersAt a} {p = loadPlaces} (load-step m w area f a e) (rest .loads) })
 
 -- ---- there are such quotes
 module _ (list : List ℕ) (gas bound : ℕ) where
@@ -94,7 +103,7 @@ charged = record {
   asked = quote-asked;
   adds-up = growth-adds-up Step meet;
   load-next = λ m w area f x p. load-leaves m w area f x p;
-  store-next = λ m area f x n h page c. store-goes m area f x n h page c;
+  store-next = λ m area f g p kernel h k page c. store-goes m area f g p kernel h k page c;
   formed = (m₀, formed begun);
   worked = worked;
 }

@@ -1,17 +1,24 @@
--- There are steps of the instructions: every memory, frame, operand, word and hook has one, with the outcome that the definition gives.
+-- There are steps of the instructions: every memory, frame, registers of 65 numbers, places, mode and hook have one, with the outcome that the
+-- definition gives.
 -- Assumes nothing.
 use mathlib.Core.Path.{_≡_, refl, sym, ap, _∙_, subst}
 use mathlib.Core.Bool.{Bool, true, false, cond, not, _&&_, false≢true}
 use mathlib.Core.List.{List, [], _∷_, _++_}
 use Prim.Native.Nat.{ℕ, _≤_}
 use native.Mathlib.Omega.{arith}
-use lib.Dec.{ltb}
+use lib.Dec.{eqb, ltb}
+use lib.ListN.{length, length-set}
 use borrow.Author.Tests.{ltb-false, not-false}
 use Rattle.outcome.specs.Outcome.{Outcome, refused, panicked, done, carriedOut, firstOf}
-use Rattle.word.specs.Value.{value, lastAddress}
-use Rattle.word.specs.declared.Word.{Word}
+use Rattle.word.specs.Value.{lastAddress}
+use Rattle.registers.specs.declared.Place.{Place}
+use Rattle.registers.specs.declared.LoadPlaces.{LoadPlaces}
+use Rattle.registers.specs.declared.StorePlaces.{StorePlaces}
+use Rattle.registers.specs.Registers.{Registers, Operand, registersFrom, isRegister, registerNumber, withRegister, putFlag, sourceOf, valueOf, loadTakes, pointerTakes, storeTakes}
+use Rattle.registers.proofs.Values.{numbersPut, put-is}
 use Rattle.state.specs.declared.Frame.{Frame}
 use Rattle.state.specs.declared.Area.{Area}
+use Rattle.state.specs.Access.{frameAccessed}
 use Rattle.state.proofs.Laws.{frame-within}
 use Rattle.store.specs.Mem.{Mem}
 use Rattle.formed.specs.Formed.{wellFormed}
@@ -19,27 +26,62 @@ use Rattle.formed.proofs.Meaning.{well-formed-means}
 use Rattle.view.specs.View.{View, Setting, settingOf, viewOf}
 use Rattle.view.specs.Checks.{Check, wordWriteChecks}
 use Rattle.view.specs.Instructions as view
-use Rattle.view.specs.Instructions.{InstructionResult, Stop, running, onHook, heapOf, staticOf, frameAlone, hooked, accessChecks, loaded, pointerChecks, pointed, staticChecks, staticLoaded, storeChecks, stored, staticStoreChecks, staticStored}
-use Rattle.view.specs.Calls.{Call, Value, Load, Store, LoadPointer, LoadStatic, StoreStatic, instructionResult, outcomeOf, nextOf, answerOf, CallDoes, firstRefusal}
+use Rattle.view.specs.Instructions.{InstructionResult, Executed, Stop, running, onHook, heapOf, staticOf, panic, hooked, panickedInto, loadedInto, storedInto, placeChecks, accessChecks, loaded, pointerChecks, pointed, staticChecks, staticLoaded, storeChecks, stored, staticStoreChecks, staticStored}
+use Rattle.view.specs.Calls.{Call, Value, Load, Store, LoadPointer, LoadStatic, StoreStatic, executed, outcomeOf, nextOf, answerOf, CallDoes, firstRefusal}
 use Rattle.reads.proofs.Calls.{only-reads}
 use Rattle.plain.proofs.Tests.{Clear, clear}
-use Rattle.execution.specs.declared.Operand.{Operand}
 use Rattle.execution.specs.declared.Hook.{Hook}
-use Rattle.execution.specs.declared.Execution.{Execution}
 use Rattle.execution.specs.declared.ExecutionStatus.{ExecutionStatus}
 use Rattle.execution.specs.declared.ExecutionStatus.the-variants.{Running, SuspendedOnHook, Panicked, Refused}
-use Rattle.execution.specs.Executions.{operandOf, hookOf, stopOf, resultOf, statusOutcome, executionOutcome, Runs}
+use Rattle.execution.specs.Executions.{hookOf}
+use Rattle.write_back.specs.declared.Executed as code
+use Rattle.write_back.specs.Runs.{endedWith, executedOutcome, Runs}
+use Rattle.write_back.proofs.Laws.{load-parts, pointer-parts, store-parts}
+use Rattle.write_back.proofs.Pieces.{number-few}
 use Rattle.lists.specs.Steps.{PublicStep, did-load, did-store, did-load-pointer, did-load-static, did-store-static}
 use Rattle.lists.proofs.Reach.{Reached}
 use Rattle.lists.proofs.Writing.{word-there}
-use Rattle.lists.specs.Goes.{Goes}
+use Rattle.lists.specs.Goes.{Goes, Numbered}
 use Rattle.lists.proofs.Inhabited.{Answers, Same, same, setting-same, ref, limbs, value-is}
+
+-- ---- registers that are written are those of 65 numbers too
+set-numbers : (l : List ℕ) → length l ≡ 65 → (n : ℕ) → n ≤ 15 → (w : ℕ) (t : Bool) → Numbered (withRegister n w t (registersFrom l))
+set-numbers l count n few w t = go (eqb n 0) refl
+  where
+    after : Registers
+    after = record { word = λ k. cond (eqb k n) w (registersFrom l .word k); flags = putFlag (registersFrom l .flags) n t }
+
+    go : (b : Bool) → eqb n 0 ≡ b → Numbered (withRegister n w t (registersFrom l))
+    go true e = record { numbers = l; count = count; are = sym (ap (λ (b : Bool). cond b (registersFrom l) after) e) }
+    go false e = record {
+      numbers = numbersPut l n (limbs w) t;
+      count = simp length-set count;
+      are = put-is l n (limbs w) t count few e ∙ ap (λ (v : ℕ). withRegister n v t (registersFrom l)) (value-is w);
+    }
+
+numbered-set : {g : Registers} → Numbered g → (d : Place) → isRegister d ≡ true → (w : ℕ) (t : Bool) → Numbered (withRegister (registerNumber d) w t g)
+numbered-set k d e w t =
+    subst (λ (g : Registers). Numbered (withRegister (registerNumber d) w t g)) (k .are)
+    (set-numbers (k .numbers) (k .count) (registerNumber d) (number-few d e (registerNumber d) refl) w t)
+
+numbered-by : (b : Bool) {g h : Registers} → Numbered g → Numbered h → Numbered (cond b g h)
+numbered-by true k j = k
+numbered-by false k j = j
+
+module _ {g : Registers} (k : Numbered g) (r : InstructionResult) where
+  numbered-load : (p : LoadPlaces) → (isRegister (p .dst0) ≡ true) × (isRegister (p .dst1) ≡ true) → Numbered (loadedInto g p r .registers)
+  numbered-load p d =
+      let h = numbered-set k (p .dst0) (d .0) (r .word) false in
+      numbered-by (p .increment) (numbered-set h (p .dst1) (d .1) (r .operand .word) (r .operand .tag)) (numbered-set h (p .dst1) (d .1) 0 false)
+
+  numbered-store : (p : StorePlaces) → (isRegister (p .dst0) ≡ true) × (isRegister (p .dst1) ≡ true) → Numbered (storedInto g p r .registers)
+  numbered-store p d = numbered-set (numbered-by (p .increment) (numbered-set k (p .dst0) (d .0) (r .operand .word) (r .operand .tag)) k) (p .dst1) (d .1) 0 false
 
 -- ---- an answer for each outcome that an instruction can have; a panic stops nothing
 data Ran : Outcome Value → Type 0 where
   is-refused : (n : ℕ) → Ran (refused n)
-  is-panicked : (g : InstructionResult) → running ≡ g .stop → Ran (panicked (instructionResult g))
-  is-done : (g : InstructionResult) → Ran (done (instructionResult g))
+  is-panicked : (e : Executed) → running ≡ e .stop → Numbered (e .registers) → Ran (panicked (executed e))
+  is-done : (e : Executed) → Numbered (e .registers) → Ran (done (executed e))
 
 abbrev AllRan : List (Check Value) → Type 0
 AllRan [] = Unit {0}
@@ -50,139 +92,156 @@ first-ran [] a o r = r
 first-ran ((true, x) ∷ rest) a o r = a .0
 first-ran ((false, x) ∷ rest) a o r = first-ran rest (a .1) o r
 
--- 3 comes first
+-- 3 comes first, and then 16
 answer-ran : (m : Mem) (c : Call) → Ran (outcomeOf (settingOf m) c (viewOf m)) → Ran (answerOf m c)
 answer-ran m c r = first-ran ((not (wellFormed m), refused 3) ∷ []) (is-refused 3, tt) (outcomeOf (settingOf m) c (viewOf m)) r
 
+taken-ran : (takes : Bool) (o : Outcome Value) → (takes ≡ true → Ran o) → Ran (cond (not takes) (refused 16) o)
+taken-ran true o r = r refl
+taken-ran false o r = is-refused 16
+
 write-ran : (s : Setting) (v : View) (p a : ℕ) (rest : List (Check Value)) → AllRan rest → AllRan (wordWriteChecks s v p a ++ rest)
 write-ran s v p a rest r = (is-refused 4, (is-refused 9, (is-refused 10, (is-refused 11, r))))
-
--- words by their number
-abbrev wordFor : ℕ → Word
-wordFor n = record { limbs = limbs n }
-
-abbrev operandFor : view.Operand → Operand
-operandFor x = record { word = wordFor (x .word); tagged = x .tag }
-
-operand-is : (x : view.Operand) → operandOf (operandFor x) ≡ x
-operand-is x = λ i. record { word = value-is (x .word) i; tag = x .tag }
 
 abbrev statusFor : Stop → ExecutionStatus
 statusFor running = Running
 statusFor (onHook n) = SuspendedOnHook n
 
-stop-again : (s : Stop) → stopOf (statusFor s) ≡ s
-stop-again running = refl
-stop-again (onHook n) = refl
+told-again : (s : Stop) (f : Frame) (g : Registers) → endedWith (statusFor s) f g ≡ done (executed (record { frame = f; registers = g; stop = s }))
+told-again running f g = refl
+told-again (onHook n) f g = refl
 
-told-again : (s : Stop) (g : InstructionResult) → statusOutcome (statusFor s) g ≡ done (instructionResult g)
-told-again running g = refl
-told-again (onHook n) g = refl
+not-refused : (s : Stop) (n : ℕ) → statusFor s ≡ Refused n → ⊥
+not-refused running n e = let z : _≡_ {A = ℕ} 0 1 = cc in omega arith
+not-refused (onHook k) n e = let z : _≡_ {A = ℕ} 0 1 = cc in omega arith
 
-abbrev execution : ExecutionStatus → InstructionResult → Execution
-execution s g = record { status = s; word = wordFor (g .word); operand = operandFor (g .operand); frame = g .frame }
+module _ (f : Frame) (l : List ℕ) (count : length l ≡ 65) where
+  abbrev execute : {o : Outcome Value} → Ran o → code.Executed
+  execute (is-refused n) = record { status = Refused n; frame = f }
+  execute (is-panicked e q k) = record { status = Panicked; frame = e .frame }
+  execute (is-done e k) = record { status = statusFor (e .stop); frame = e .frame }
 
-given-again : (s : ExecutionStatus) (g : InstructionResult) → stopOf s ≡ g .stop → resultOf (execution s g) ≡ g
-given-again s g e = λ i. record { word = value-is (g .word) i; operand = operand-is (g .operand) i; frame = g .frame; stop = e i }
+  -- the numbers of the registers after it
+  abbrev after : {o : Outcome Value} → Ran o → List ℕ
+  after (is-refused n) = l
+  after (is-panicked e q k) = k .numbers
+  after (is-done e k) = k .numbers
 
-module _ (f : Frame) where
-  abbrev execute : {o : Outcome Value} → Ran o → Execution
-  execute (is-refused n) = execution (Refused n) (frameAlone f)
-  execute (is-panicked g e) = execution Panicked g
-  execute (is-done g) = execution (statusFor (g .stop)) g
+  after-long : {o : Outcome Value} (r : Ran o) → length (after r) ≡ length l
+  after-long (is-refused n) = refl
+  after-long (is-panicked e q k) = k .count ∙ sym count
+  after-long (is-done e k) = k .count ∙ sym count
 
-  told-execute : {o : Outcome Value} (r : Ran o) → executionOutcome (execute r) ≡ o
+  told-execute : {o : Outcome Value} (r : Ran o) → executedOutcome (execute r) (after r) ≡ o
   told-execute (is-refused n) = refl
-  told-execute (is-panicked g e) = ap (λ (x : InstructionResult). panicked (instructionResult x)) (given-again Panicked g e)
-  told-execute (is-done g) = told-again (g .stop) _ ∙ ap (λ (x : InstructionResult). done (instructionResult x)) (given-again (statusFor (g .stop)) g (stop-again (g .stop)))
+  told-execute (is-panicked e q k) = λ i. panicked (executed (record { frame = e .frame; registers = k .are i; stop = q i }))
+  told-execute (is-done e k) =
+      told-again (e .stop) (e .frame) (registersFrom (k .numbers)) ∙ (λ i. done (executed (record { frame = e .frame; registers = k .are i; stop = e .stop })))
 
-  alone : {o : Outcome Value} (r : Ran o) (n : ℕ) → executionOutcome (execute r) ≡ refused n → resultOf (execute r) ≡ frameAlone f
-  alone (is-refused k) n e = given-again (Refused k) (frameAlone f) refl
-  alone (is-panicked g q) n e = absurd (let z : _≡_ {A = ℕ} 0 1 = cc (told-execute (is-panicked g q)) in omega arith)
-  alone (is-done g) n e = absurd (let z : _≡_ {A = ℕ} 0 1 = cc (told-execute (is-done g)) in omega arith)
+  alone : {o : Outcome Value} (r : Ran o) (n : ℕ) → execute r .status ≡ Refused n → (execute r .frame ≡ f) × (after r ≡ l)
+  alone (is-refused k) n e = (refl, refl)
+  alone (is-panicked d q k) n e = absurd (let z : _≡_ {A = ℕ} 0 1 = cc in omega arith)
+  alone (is-done d k) n e = absurd (not-refused (d .stop) n e)
 
-  runs : (m : Mem) (c : Call) {o : Outcome Value} (r : Ran o) (m' : Mem) → CallDoes m c o m' → Runs m c f (execute r) m'
+  runs : (m : Mem) (c : Call) {o : Outcome Value} (r : Ran o) (m' : Mem) → CallDoes m c o m' → Runs m c f l (execute r) m' (after r)
   runs m c r m' d = record { does = subst (λ (o : Outcome Value). CallDoes m c o m') (sym (told-execute r)) d; refusal = alone r }
 
 -- ---- loads
-module _ (f : Frame) (m : Mem) where
-  load-step : (area : Area) (x : Operand) → PublicStep m (Load area f (operandOf x)) (answerOf m (Load area f (operandOf x))) m
-  load-step area x =
-      subst (λ (o : Outcome Value). PublicStep m c o m) (told-execute f ran)
+module _ (f : Frame) (k : Registers) (numbered : Numbered k) (p : LoadPlaces) (m : Mem) where
+  abbrev x : Operand
+  x = sourceOf k (p .source)
+
+  abbrev gone : InstructionResult → Value
+  gone r = executed (panickedInto k (p .dst1) r)
+
+  panicked-ran : (r : InstructionResult) → running ≡ r .stop → isRegister (p .dst1) ≡ true → Ran (panicked (gone r))
+  panicked-ran r e d = is-panicked (panickedInto k (p .dst1) r) e (numbered-set numbered (p .dst1) d 0 false)
+
+  done-ran : (r : InstructionResult) → (isRegister (p .dst0) ≡ true) × (isRegister (p .dst1) ≡ true) → Ran (done (executed (loadedInto k p r)))
+  done-ran r d = is-done (loadedInto k p r) (numbered-load numbered r p d)
+
+  load-ran : (area : Area) → Ran (answerOf m (Load area f k p))
+  load-ran area =
+      answer-ran m (Load area f k p)
+      (taken-ran (loadTakes p) _ (λ t.
+      let d = load-parts p t .1 in
+      first-ran (accessChecks gone area f (x .word)) (panicked-ran (panic (frameAccessed f area (x .word) .frame)) refl (d .1), tt) (done (executed (loadedInto k p (loaded (viewOf m) area f x)))) (done-ran (loaded (viewOf m) area f x) d)))
+
+  pointer-ran : Ran (answerOf m (LoadPointer f k p))
+  pointer-ran =
+      answer-ran m (LoadPointer f k p)
+      (taken-ran (pointerTakes p) _ (λ t.
+      let d = pointer-parts p t .1 in
+      first-ran (pointerChecks gone f x) (panicked-ran (panic f) refl (d .1), (panicked-ran (panic f) refl (d .1), (is-refused 14, tt))) (done (executed (loadedInto k p (pointed (viewOf m) f x)))) (done-ran (pointed (viewOf m) f x) d)))
+
+  static-ran : Ran (answerOf m (LoadStatic f k p))
+  static-ran =
+      answer-ran m (LoadStatic f k p)
+      (taken-ran (loadTakes p) _ (λ t.
+      let d = load-parts p t .1 in
+      first-ran (staticChecks gone f (x .word)) (panicked-ran (panic f) refl (d .1), tt) (done (executed (loadedInto k p (staticLoaded (settingOf m) (viewOf m) f x)))) (done-ran (staticLoaded (settingOf m) (viewOf m) f x) d)))
+
+module _ (f : Frame) (l : List ℕ) (count : length l ≡ 65) (p : LoadPlaces) (m : Mem) where
+  abbrev g : Registers
+  g = registersFrom l
+
+  abbrev own : Numbered g
+  own = record { numbers = l; count = count; are = refl }
+
+  load-step : (area : Area) → PublicStep m (Load area f g p) (answerOf m (Load area f g p)) m
+  load-step area =
+      let ran = load-ran f g own p m area in
+      subst (λ (o : Outcome Value). PublicStep m (Load area f g p) o m) (told-execute f l count ran)
       (did-load
       (record {
-        lifetimes = ([], ([], ([], ([], tt))));
-        args = (ref (m .bytes), (ref (m .keys), (ref (m .order), (ref (m .words), (f, (area, (x, tt)))))));
-        result = execute f ran;
-        last = (tt, (tt, (tt, (tt, (tt, (tt, (tt, tt)))))));
+        lifetimes = ([], ([], ([], ([], ([], tt)))));
+        args = (ref (m .bytes), (ref (m .keys), (ref (m .order), (ref (m .words), (ref l, (f, (area, (p, tt))))))));
+        result = execute f l count ran;
+        last = (tt, (tt, (tt, (tt, (after f l count ran, (tt, (tt, (tt, tt))))))));
         asked = tt;
-        kept = (tt, (tt, (tt, (tt, (tt, (tt, (tt, tt)))))));
-        ensures = runs f m c ran m (only-reads m c (answerOf m c) refl refl);
+        kept = (tt, (tt, (tt, (tt, (tt, (tt, (tt, (tt, tt))))))));
+        ensures = runs f l count m (Load area f g p) ran m (only-reads m (Load area f g p) (answerOf m (Load area f g p)) refl refl);
       }))
-    where
-      c : Call
-      c = Load area f (operandOf x)
 
-      ran : Ran (answerOf m (Load area f (operandOf x)))
-      ran =
-          answer-ran m c
-          (first-ran (accessChecks instructionResult area f (operandOf x .word)) (is-panicked _ refl, tt)
-          (done (instructionResult (loaded (viewOf m) area f (operandOf x)))) (is-done (loaded (viewOf m) area f (operandOf x))))
-
-  pointer-step : (x : Operand) → PublicStep m (LoadPointer f (operandOf x)) (answerOf m (LoadPointer f (operandOf x))) m
-  pointer-step x =
-      subst (λ (o : Outcome Value). PublicStep m c o m) (told-execute f ran)
+  pointer-step : PublicStep m (LoadPointer f g p) (answerOf m (LoadPointer f g p)) m
+  pointer-step =
+      let ran = pointer-ran f g own p m in
+      subst (λ (o : Outcome Value). PublicStep m (LoadPointer f g p) o m) (told-execute f l count ran)
       (did-load-pointer
       (record {
-        lifetimes = ([], ([], ([], ([], tt))));
-        args = (ref (m .bytes), (ref (m .keys), (ref (m .order), (ref (m .words), (f, (x, tt))))));
-        result = execute f ran;
-        last = (tt, (tt, (tt, (tt, (tt, (tt, tt))))));
+        lifetimes = ([], ([], ([], ([], ([], tt)))));
+        args = (ref (m .bytes), (ref (m .keys), (ref (m .order), (ref (m .words), (ref l, (f, (p, tt)))))));
+        result = execute f l count ran;
+        last = (tt, (tt, (tt, (tt, (after f l count ran, (tt, (tt, tt)))))));
         asked = tt;
-        kept = (tt, (tt, (tt, (tt, (tt, (tt, tt))))));
-        ensures = runs f m c ran m (only-reads m c (answerOf m c) refl refl);
+        kept = (tt, (tt, (tt, (tt, (tt, (tt, (tt, tt)))))));
+        ensures = runs f l count m (LoadPointer f g p) ran m (only-reads m (LoadPointer f g p) (answerOf m (LoadPointer f g p)) refl refl);
       }))
-    where
-      c : Call
-      c = LoadPointer f (operandOf x)
 
-      ran : Ran (answerOf m (LoadPointer f (operandOf x)))
-      ran =
-          answer-ran m c
-          (first-ran (pointerChecks instructionResult f (operandOf x)) (is-panicked _ refl, (is-panicked _ refl, (is-refused 14, tt)))
-          (done (instructionResult (pointed (viewOf m) f (operandOf x)))) (is-done (pointed (viewOf m) f (operandOf x))))
-
-  static-step : (x : Operand) → PublicStep m (LoadStatic f (operandOf x)) (answerOf m (LoadStatic f (operandOf x))) m
-  static-step x =
-      subst (λ (o : Outcome Value). PublicStep m c o m) (told-execute f ran)
+  static-step : PublicStep m (LoadStatic f g p) (answerOf m (LoadStatic f g p)) m
+  static-step =
+      let ran = static-ran f g own p m in
+      subst (λ (o : Outcome Value). PublicStep m (LoadStatic f g p) o m) (told-execute f l count ran)
       (did-load-static
       (record {
-        lifetimes = ([], ([], ([], ([], tt))));
-        args = (ref (m .bytes), (ref (m .keys), (ref (m .order), (ref (m .words), (f, (x, tt))))));
-        result = execute f ran;
-        last = (tt, (tt, (tt, (tt, (tt, (tt, tt))))));
+        lifetimes = ([], ([], ([], ([], ([], tt)))));
+        args = (ref (m .bytes), (ref (m .keys), (ref (m .order), (ref (m .words), (ref l, (f, (p, tt)))))));
+        result = execute f l count ran;
+        last = (tt, (tt, (tt, (tt, (after f l count ran, (tt, (tt, tt)))))));
         asked = tt;
-        kept = (tt, (tt, (tt, (tt, (tt, (tt, tt))))));
-        ensures = runs f m c ran m (only-reads m c (answerOf m c) refl refl);
+        kept = (tt, (tt, (tt, (tt, (tt, (tt, (tt, tt)))))));
+        ensures = runs f l count m (LoadStatic f g p) ran m (only-reads m (LoadStatic f g p) (answerOf m (LoadStatic f g p)) refl refl);
       }))
-    where
-      c : Call
-      c = LoadStatic f (operandOf x)
 
-      ran : Ran (answerOf m (LoadStatic f (operandOf x)))
-      ran =
-          answer-ran m c
-          (first-ran (staticChecks instructionResult f (operandOf x .word)) (is-panicked _ refl, tt)
-          (done (instructionResult (staticLoaded (settingOf m) (viewOf m) f (operandOf x)))) (is-done (staticLoaded (settingOf m) (viewOf m) f (operandOf x))))
+module _ (f : Frame) (g : Registers) (k : Numbered g) (p : LoadPlaces) where
+  pub can-load : (area : Area) → Answers (Load area f g p)
+  can-load area m = subst (λ (h : Registers). PublicStep m (Load area f h p) (answerOf m (Load area f h p)) m) (k .are) (load-step f (k .numbers) (k .count) p m area)
 
-pub can-load : (area : Area) (f : Frame) (x : view.Operand) → Answers (Load area f x)
-can-load area f x m = subst (λ (y : view.Operand). PublicStep m (Load area f y) (answerOf m (Load area f y)) m) (operand-is x) (load-step f m area (operandFor x))
+  pub can-load-pointer : Answers (LoadPointer f g p)
+  can-load-pointer m = subst (λ (h : Registers). PublicStep m (LoadPointer f h p) (answerOf m (LoadPointer f h p)) m) (k .are) (pointer-step f (k .numbers) (k .count) p m)
 
-pub can-load-pointer : (f : Frame) (x : view.Operand) → Answers (LoadPointer f x)
-can-load-pointer f x m = subst (λ (y : view.Operand). PublicStep m (LoadPointer f y) (answerOf m (LoadPointer f y)) m) (operand-is x) (pointer-step f m (operandFor x))
-
-pub can-load-static : (f : Frame) (x : view.Operand) → Answers (LoadStatic f x)
-can-load-static f x m = subst (λ (y : view.Operand). PublicStep m (LoadStatic f y) (answerOf m (LoadStatic f y)) m) (operand-is x) (static-step f m (operandFor x))
+  pub can-load-static : Answers (LoadStatic f g p)
+  can-load-static m = subst (λ (h : Registers). PublicStep m (LoadStatic f h p) (answerOf m (LoadStatic f h p)) m) (k .are) (static-step f (k .numbers) (k .count) p m)
 
 -- ---- stores
 -- a store that has passed its checks has passed those of a word write
@@ -198,13 +257,14 @@ carried-formed m o e = go (wellFormed m) refl e
     go true q e = (q, e)
     go false q e = absurd (false≢true e)
 
-module _ (m : Mem) (f : Frame) (c : Call) (ran : Ran (answerOf m c)) (step : (r : Execution) (m' : Mem) → Same m m' → Runs m c f r m' → PublicStep m c (executionOutcome r) m')
+module _ (m : Mem) (f : Frame) (l : List ℕ) (count : length l ≡ 65) (c : Call) (ran : Ran (answerOf m c))
+    (step : (m' : Mem) → Same m m' → Runs m c f l (execute f l count ran) m' (after f l count ran) → PublicStep m c (executedOutcome (execute f l count ran) (after f l count ran)) m')
     (there : wellFormed m ≡ true → carriedOut (outcomeOf (settingOf m) c (viewOf m)) ≡ true → Reached (settingOf m) (nextOf (settingOf m) c (viewOf m))) where
   stores : Goes m c (answerOf m c)
   stores = go (carriedOut (answerOf m c)) refl
     where
       goes : (m' : Mem) → Same m m' → CallDoes m c (answerOf m c) m' → Goes m c (answerOf m c)
-      goes m' l d = record { after = m'; step = subst (λ (o : Outcome Value). PublicStep m c o m') (told-execute f ran) (step (execute f ran) m' l (runs f m c ran m' d)) }
+      goes m' s d = record { after = m'; step = subst (λ (o : Outcome Value). PublicStep m c o m') (told-execute f l count ran) (step m' s (runs f l count m c ran m' d)) }
 
       go : (b : Bool) → carriedOut (answerOf m c) ≡ b → Goes m c (answerOf m c)
       go false e = goes m (same m) (record { answer = refl; kept = λ _. refl; changed = λ q. absurd (false≢true (sym e ∙ q)) })
@@ -213,80 +273,107 @@ module _ (m : Mem) (f : Frame) (c : Call) (ran : Ran (answerOf m c)) (step : (r 
           let t = there (k .0) (k .1) in
           goes (t .memory) (setting-same (well-formed-means m (k .0)) (t .shows)) (record { answer = refl; kept = λ q. absurd (false≢true (sym q ∙ e)); changed = λ _. t .shows })
 
-module _ (f : Frame) (x : view.Operand) (n : ℕ) where
+module _ (f : Frame) (g : Registers) (p : StorePlaces) (kernel : Bool) where
+  abbrev y : Operand
+  y = sourceOf g (p .source)
+
+  abbrev n : ℕ
+  n = valueOf kernel g (registerNumber (p .value))
+
+  abbrev broken : InstructionResult → Value
+  broken r = executed (panickedInto g (p .dst1) r)
+
   module _ (area : Area) (h : view.Hook) (page : heapOf f area ≤ 4294967295) (m : Mem) where
-    store-there : wellFormed m ≡ true → carriedOut (outcomeOf (settingOf m) (Store area f x n h) (viewOf m)) ≡ true
-        → Reached (settingOf m) (nextOf (settingOf m) (Store area f x n h) (viewOf m))
+    store-there : wellFormed m ≡ true → carriedOut (outcomeOf (settingOf m) (Store area f g p kernel h) (viewOf m)) ≡ true
+        → Reached (settingOf m) (nextOf (settingOf m) (Store area f g p kernel h) (viewOf m))
     store-there w e =
-        let c = clear (storeChecks instructionResult (settingOf m) (viewOf m) area f (x .word) n h) (instructionResult (stored area f x n h)) e in
-        let l : x .word ≤ lastAddress = frame-within f area (x .word) (not-false _ (c .0)) in
-        word-there m (heapOf f area) (x .word) page (omega arith) n (well-formed-means m w, write-clear (settingOf m) (viewOf m) (heapOf f area) (x .word) ((hooked h (x .word) && ltb 4294967295 n, refused 15) ∷ []) (c .1))
+        let c = clear (placeChecks (storeTakes p) ++ storeChecks broken (settingOf m) (viewOf m) area f (y .word) n h) (executed (storedInto g p (stored area f y n h))) e in
+        let l : y .word ≤ lastAddress = frame-within f area (y .word) (not-false _ (c .1 .0)) in
+        word-there m (heapOf f area) (y .word) page (omega arith) n (well-formed-means m w, write-clear (settingOf m) (viewOf m) (heapOf f area) (y .word) ((hooked h (y .word) && ltb 4294967295 n, refused 15) ∷ []) (c .1 .1))
 
   module _ (m : Mem) where
-    static-there : wellFormed m ≡ true → carriedOut (outcomeOf (settingOf m) (StoreStatic f x n) (viewOf m)) ≡ true
-        → Reached (settingOf m) (nextOf (settingOf m) (StoreStatic f x n) (viewOf m))
+    static-there : wellFormed m ≡ true → carriedOut (outcomeOf (settingOf m) (StoreStatic f g p kernel) (viewOf m)) ≡ true
+        → Reached (settingOf m) (nextOf (settingOf m) (StoreStatic f g p kernel) (viewOf m))
     static-there w e =
-        let c = clear (staticStoreChecks instructionResult (settingOf m) (viewOf m) f (x .word)) (instructionResult (staticStored f x)) e in
-        let l : x .word ≤ lastAddress = ltb-false lastAddress (x .word) (c .0) in
-        let g = well-formed-means m w in
-        word-there m (staticOf (settingOf m .layout)) (x .word) (g .encoded .layout-width 0 (omega arith)) (omega arith) n
-        (g, write-clear (settingOf m) (viewOf m) (staticOf (settingOf m .layout)) (x .word) [] (c .1))
+        let c = clear (placeChecks (storeTakes p) ++ staticStoreChecks broken (settingOf m) (viewOf m) f (y .word)) (executed (storedInto g p (staticStored f y))) e in
+        let l : y .word ≤ lastAddress = ltb-false lastAddress (y .word) (c .1 .0) in
+        let k = well-formed-means m w in
+        word-there m (staticOf (settingOf m .layout)) (y .word) (k .encoded .layout-width 0 (omega arith)) (omega arith) n
+        (k, write-clear (settingOf m) (viewOf m) (staticOf (settingOf m .layout)) (y .word) [] (c .1 .1))
 
-module _ (f : Frame) (m : Mem) where
-  store-step : (area : Area) (x : Operand) (w : Word) (h : Hook) (r : Execution) (m' : Mem) → Same m m' → Runs m (Store area f (operandOf x) (value (w .limbs)) (hookOf h)) f r m'
-      → PublicStep m (Store area f (operandOf x) (value (w .limbs)) (hookOf h)) (executionOutcome r) m'
-  store-step area x w h r m' l d =
+  module _ (numbered : Numbered g) (m : Mem) where
+    broken-ran : (r : InstructionResult) → running ≡ r .stop → isRegister (p .dst1) ≡ true → Ran (panicked (broken r))
+    broken-ran r e d = is-panicked (panickedInto g (p .dst1) r) e (numbered-set numbered (p .dst1) d 0 false)
+
+    stored-ran : (r : InstructionResult) → (isRegister (p .dst0) ≡ true) × (isRegister (p .dst1) ≡ true) → Ran (done (executed (storedInto g p r)))
+    stored-ran r d = is-done (storedInto g p r) (numbered-store numbered r p d)
+
+    store-ran : (area : Area) (h : view.Hook) → Ran (answerOf m (Store area f g p kernel h))
+    store-ran area h =
+        answer-ran m (Store area f g p kernel h)
+        (taken-ran (storeTakes p) _ (λ t.
+        let d = store-parts p t .1 .1 in
+        first-ran (storeChecks broken (settingOf m) (viewOf m) area f (y .word) n h)
+        (broken-ran (panic (frameAccessed f area (y .word) .frame)) refl (d .1), write-ran (settingOf m) (viewOf m) (heapOf f area) (y .word) ((hooked h (y .word) && ltb 4294967295 n, refused 15) ∷ []) (is-refused 15, tt))
+        (done (executed (storedInto g p (stored area f y n h)))) (stored-ran (stored area f y n h) d)))
+
+    static-store-ran : Ran (answerOf m (StoreStatic f g p kernel))
+    static-store-ran =
+        answer-ran m (StoreStatic f g p kernel)
+        (taken-ran (storeTakes p) _ (λ t.
+        let d = store-parts p t .1 .1 in
+        first-ran (staticStoreChecks broken (settingOf m) (viewOf m) f (y .word))
+        (broken-ran (panic f) refl (d .1), write-ran (settingOf m) (viewOf m) (staticOf (settingOf m .layout)) (y .word) [] tt)
+        (done (executed (storedInto g p (staticStored f y)))) (stored-ran (staticStored f y) d)))
+
+module _ (f : Frame) (l : List ℕ) (count : length l ≡ 65) (p : StorePlaces) (kernel : Bool) (m : Mem) where
+  abbrev registers : Registers
+  registers = registersFrom l
+
+  abbrev numbers : Numbered registers
+  numbers = record { numbers = l; count = count; are = refl }
+
+  goes-store : (area : Area) (h : Hook) → heapOf f area ≤ 4294967295 → Goes m (Store area f registers p kernel (hookOf h)) (answerOf m (Store area f registers p kernel (hookOf h)))
+  goes-store area h page =
+      let c = Store area f registers p kernel (hookOf h) in
+      let ran = store-ran f registers p kernel numbers m area (hookOf h) in
+      stores m f l count c ran
+      (λ m' s d.
       did-store
       (record {
-        lifetimes = ([], ([], ([], ([], tt))));
-        args = (ref (m .bytes), (ref (m .keys), (ref (m .order), (ref (m .words), (f, (area, (x, (w, (h, tt)))))))));
-        result = r;
-        last = (m' .bytes, (m' .keys, (m' .order, (m' .words, (tt, (tt, (tt, (tt, (tt, tt)))))))));
+        lifetimes = ([], ([], ([], ([], ([], tt)))));
+        args = (ref (m .bytes), (ref (m .keys), (ref (m .order), (ref (m .words), (ref l, (f, (area, (p, (kernel, (h, tt))))))))));
+        result = execute f l count ran;
+        last = (m' .bytes, (m' .keys, (m' .order, (m' .words, (after f l count ran, (tt, (tt, (tt, (tt, (tt, tt))))))))));
         asked = tt;
-        kept = (l .bytes, (l .keys, (l .order, (l .words, (tt, (tt, (tt, (tt, (tt, tt)))))))));
+        kept = (s .bytes, (s .keys, (s .order, (s .words, (tt, (tt, (tt, (tt, (tt, (tt, tt))))))))));
         ensures = d;
-      })
+      }))
+      (store-there f registers p kernel area (hookOf h) page m)
 
-  store-static-step : (x : Operand) (w : Word) (r : Execution) (m' : Mem) → Same m m' → Runs m (StoreStatic f (operandOf x) (value (w .limbs))) f r m'
-      → PublicStep m (StoreStatic f (operandOf x) (value (w .limbs))) (executionOutcome r) m'
-  store-static-step x w r m' l d =
+  goes-store-static : Goes m (StoreStatic f registers p kernel) (answerOf m (StoreStatic f registers p kernel))
+  goes-store-static =
+      let ran = static-store-ran f registers p kernel numbers m in
+      stores m f l count (StoreStatic f registers p kernel) ran
+      (λ m' s d.
       did-store-static
       (record {
-        lifetimes = ([], ([], ([], ([], tt))));
-        args = (ref (m .bytes), (ref (m .keys), (ref (m .order), (ref (m .words), (f, (x, (w, tt)))))));
-        result = r;
-        last = (m' .bytes, (m' .keys, (m' .order, (m' .words, (tt, (tt, (tt, tt)))))));
+        lifetimes = ([], ([], ([], ([], ([], tt)))));
+        args = (ref (m .bytes), (ref (m .keys), (ref (m .order), (ref (m .words), (ref l, (f, (p, (kernel, tt))))))));
+        result = execute f l count ran;
+        last = (m' .bytes, (m' .keys, (m' .order, (m' .words, (after f l count ran, (tt, (tt, (tt, tt))))))));
         asked = tt;
-        kept = (l .bytes, (l .keys, (l .order, (l .words, (tt, (tt, (tt, tt)))))));
+        kept = (s .bytes, (s .keys, (s .order, (s .words, (tt, (tt, (tt, (tt, tt))))))));
         ensures = d;
-      })
+      }))
+      (static-there f registers p kernel m)
 
-store-ran : (area : Area) (f : Frame) (x : view.Operand) (n : ℕ) (h : view.Hook) (m : Mem) → Ran (answerOf m (Store area f x n h))
-store-ran area f x n h m =
-    answer-ran m (Store area f x n h)
-    (first-ran (storeChecks instructionResult (settingOf m) (viewOf m) area f (x .word) n h)
-    (is-panicked _ refl, write-ran (settingOf m) (viewOf m) (heapOf f area) (x .word) ((hooked h (x .word) && ltb 4294967295 n, refused 15) ∷ []) (is-refused 15, tt))
-    (done (instructionResult (stored area f x n h))) (is-done (stored area f x n h)))
+module _ (f : Frame) (g : Registers) (k : Numbered g) (p : StorePlaces) (kernel : Bool) where
+  pub can-store : (area : Area) (h : view.Hook) → heapOf f area ≤ 4294967295 → (m : Mem) → Goes m (Store area f g p kernel h) (answerOf m (Store area f g p kernel h))
+  can-store area h page m =
+      subst (λ (r : Registers). Goes m (Store area f r p kernel h) (answerOf m (Store area f r p kernel h))) (k .are)
+      (goes-store f (k .numbers) (k .count) p kernel m area (record { on = h .on; address = record { 0 = h .address } }) page)
 
-static-ran : (f : Frame) (x : view.Operand) (n : ℕ) (m : Mem) → Ran (answerOf m (StoreStatic f x n))
-static-ran f x n m =
-    answer-ran m (StoreStatic f x n)
-    (first-ran (staticStoreChecks instructionResult (settingOf m) (viewOf m) f (x .word))
-    (is-panicked _ refl, write-ran (settingOf m) (viewOf m) (staticOf (settingOf m .layout)) (x .word) [] tt)
-    (done (instructionResult (staticStored f x))) (is-done (staticStored f x)))
-
-pub can-store : (area : Area) (f : Frame) (x : view.Operand) (n : ℕ) (h : view.Hook) → heapOf f area ≤ 4294967295 → (m : Mem) → Goes m (Store area f x n h) (answerOf m (Store area f x n h))
-can-store area f x n h page m =
-    subst (λ (k : ℕ). Goes m (Store area f x k h) (answerOf m (Store area f x k h))) (value-is n)
-    (subst (λ (y : view.Operand). Goes m (Store area f y (value (limbs n)) h) (answerOf m (Store area f y (value (limbs n)) h))) (operand-is x)
-    (stores m f (Store area f (operandOf (operandFor x)) (value (limbs n)) h) (store-ran area f (operandOf (operandFor x)) (value (limbs n)) h m)
-    (store-step f m area (operandFor x) (wordFor n) (record { on = h .on; address = record { 0 = h .address } }))
-    (store-there f (operandOf (operandFor x)) (value (limbs n)) area h page m)))
-
-pub can-store-static : (f : Frame) (x : view.Operand) (n : ℕ) (m : Mem) → Goes m (StoreStatic f x n) (answerOf m (StoreStatic f x n))
-can-store-static f x n m =
-    subst (λ (k : ℕ). Goes m (StoreStatic f x k) (answerOf m (StoreStatic f x k))) (value-is n)
-    (subst (λ (y : view.Operand). Goes m (StoreStatic f y (value (limbs n))) (answerOf m (StoreStatic f y (value (limbs n))))) (operand-is x)
-    (stores m f (StoreStatic f (operandOf (operandFor x)) (value (limbs n))) (static-ran f (operandOf (operandFor x)) (value (limbs n)) m)
-    (store-static-step f m (operandFor x) (wordFor n))
-    (static-there f (operandOf (operandFor x)) (value (limbs n)) m)))
+  pub can-store-static : (m : Mem) → Goes m (StoreStatic f g p kernel) (answerOf m (StoreStatic f g p kernel))
+  can-store-static m =
+      subst (λ (r : Registers). Goes m (StoreStatic f r p kernel) (answerOf m (StoreStatic f r p kernel))) (k .are) (goes-store-static f (k .numbers) (k .count) p kernel m)

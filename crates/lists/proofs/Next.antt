@@ -75,11 +75,11 @@ module _ {s : Setting} {v : View} {m : Mem} (h : Shows s v m) where
   goes-on Snapshot f = reads Snapshot can-snapshot
   goes-on (Rollback heap aux) f = changes (Rollback heap aux) (can-roll-back heap aux m)
   goes-on DeleteHistory f = changes DeleteHistory (can-delete m)
-  goes-on (Load area g x) f = reads (Load area g x) (can-load area g x)
-  goes-on (Store area g x n k) f = changes (Store area g x n k) (can-store area g x n k f m)
-  goes-on (LoadPointer g x) f = reads (LoadPointer g x) (can-load-pointer g x)
-  goes-on (LoadStatic g x) f = reads (LoadStatic g x) (can-load-static g x)
-  goes-on (StoreStatic g x n) f = changes (StoreStatic g x n) (can-store-static g x n m)
+  goes-on (Load area frame g p) f = reads (Load area frame g p) (can-load frame g f p area)
+  goes-on (Store area frame g p kernel k) f = changes (Store area frame g p kernel k) (can-store frame g (f .0) p kernel area k (f .1) m)
+  goes-on (LoadPointer frame g p) f = reads (LoadPointer frame g p) (can-load-pointer frame g f p)
+  goes-on (LoadStatic frame g p) f = reads (LoadStatic frame g p) (can-load-static frame g f p)
+  goes-on (StoreStatic frame g p kernel) f = changes (StoreStatic frame g p kernel) (can-store-static frame g f p kernel m)
 
 -- an opening that no condition refuses begins a list
 begins : {m : Mem} {s : Setting} {calldata : List ℕ} → Narrow s → OpenAsks s m → length calldata ≤ 256 * s .chunks → Begins m s calldata

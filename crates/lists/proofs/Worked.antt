@@ -1,7 +1,7 @@
 -- The run worked out by hand, on the small memory of Next.
 -- Assumes nothing.
 use mathlib.Core.Path.{_≡_, refl, ap, _∙_}
-use mathlib.Core.Bool.{true}
+use mathlib.Core.Bool.{true, false}
 use mathlib.Core.List.{[]}
 use Prim.Native.Nat.{ℕ, _≤_}
 use native.Mathlib.Omega.{arith}
@@ -18,16 +18,18 @@ use Rattle.formed.proofs.Meaning.{well-formed-passes}
 use Rattle.view.specs.Steps.{missing}
 use Rattle.view.specs.Checks.{undecodable, overfull}
 use Rattle.view.specs.Does.{Shows}
-use Rattle.view.specs.Instructions.{Hook, InstructionResult, heapOf, stored}
-use Rattle.view.specs.Calls.{Call, Load, Store, instructionResult, outcomeOf, answerOf}
+use Rattle.registers.specs.declared.Place.the-variants.{Register}
+use Rattle.registers.specs.Registers.{sourceOf, valueOf}
+use Rattle.view.specs.Instructions.{Hook, Executed, heapOf, stored, storedInto}
+use Rattle.view.specs.Calls.{Call, Load, Store, executed, outcomeOf, answerOf}
 use Rattle.plain.specs.Plain.{Plain, has, hold, member, freshPlain, follow, seen}
 use Rattle.plain.specs.Claim.{Run, Any, none, more}
 use Rattle.plain.proofs.Good.{never}
 use Rattle.growth.specs.Charges as growth
 use Rattle.lists.specs.Steps.{Step, public}
 use Rattle.lists.specs.Goes.{Goes}
-use Rattle.lists.specs.Worked.{Leaves, operandAt, noHook, hookAt, workedFrame, Worked}
-use Rattle.lists.proofs.Leaving.{load-leaves, store-goes, leaves-load, leaves-store}
+use Rattle.lists.specs.Worked.{Leaves, registersAt, loadPlaces, storePlaces, noHook, hookAt, workedFrame, Worked}
+use Rattle.lists.proofs.Leaving.{numbered-at, load-leaves, store-goes, leaves-load, leaves-store}
 use Rattle.lists.proofs.Next.{answer-is, small, small-begins}
 use Rattle.lists.proofs.Theorem.{theorem}
 
@@ -41,6 +43,13 @@ p₀ = freshPlain small []
 pub begun : Run Step Any small m₀ p₀ m₀ p₀
 begun = none
 
+-- a store of the run, and what it leaves
+abbrev storeAt : Area → Frame → ℕ → Hook → Call
+storeAt area f x h = Store area f (registersAt x) storePlaces false h
+
+abbrev storedAt : Area → Frame → ℕ → Hook → Executed
+storedAt area f x h = storedInto (registersAt x) storePlaces (stored area f (sourceOf (registersAt x) (Register 1)) (valueOf false (registersAt x) 2) h)
+
 module _ {m : Mem} {p : Plain} (r : Run Step Any small m₀ p₀ m p) where
   shows : Shows small (seen small p) m
   shows = theorem .lists (small-begins .started) r .shows
@@ -48,19 +57,19 @@ module _ {m : Mem} {p : Plain} (r : Run Step Any small m₀ p₀ m p) where
   pub formed : wellFormed m ≡ true
   formed = well-formed-passes m (shows .formed)
 
-  loads : (area : Area) (f : Frame) (x : ℕ) → frameAccessed f area x .paid ≡ true → Leaves m (Load area f (operandAt x)) (frameAccessed f area x .frame) m
+  loads : (area : Area) (f : Frame) (x : ℕ) → frameAccessed f area x .paid ≡ true → Leaves m (Load area f (registersAt x) loadPlaces) (frameAccessed f area x .frame) m
   loads area f x e = load-leaves m formed area f x e
 
-  stores : (area : Area) (f : Frame) (x : ℕ) (h : Hook) → heapOf f area ≤ 4294967295 → carriedOut (outcomeOf small (Store area f (operandAt x) 7 h) (seen small p)) ≡ true
-      → Goes m (Store area f (operandAt x) 7 h) (done (instructionResult (stored area f (operandAt x) 7 h)))
-  stores area f x h page e = store-goes m area f (operandAt x) 7 h page (ap carriedOut (answer-is shows (Store area f (operandAt x) 7 h)) ∙ e)
+  stores : (area : Area) (f : Frame) (x : ℕ) (h : Hook) → heapOf f area ≤ 4294967295 → carriedOut (outcomeOf small (storeAt area f x h) (seen small p)) ≡ true
+      → Goes m (storeAt area f x h) (done (executed (storedAt area f x h)))
+  stores area f x h page e = store-goes m area f (registersAt x) storePlaces false h (numbered-at x) page (ap carriedOut (answer-is shows (storeAt area f x h)) ∙ e)
 
-abbrev leaves : {m : Mem} {c : Call} {r : InstructionResult} (g : Goes m c (done (instructionResult r))) → Leaves m c (r .frame) (g .after)
+abbrev leaves : {m : Mem} {c : Call} {r : Executed} (g : Goes m c (done (executed r))) → Leaves m c (r .frame) (g .after)
 leaves {r = r} g = record { result = r; step = g .step; frame = refl }
 
 -- ---- the first store
 abbrev store-0 : Call
-store-0 = Store Aux (workedFrame 1000 4096 0) (operandAt 0) 7 noHook
+store-0 = storeAt Aux (workedFrame 1000 4096 0) 0 noHook
 
 abbrev p₁ : Plain
 p₁ = follow (small .layout) store-0 p₀
@@ -69,7 +78,7 @@ room-0 : carriedOut (outcomeOf small store-0 (seen small p₀)) ≡ true
 unfolding fixed dynamic missing undecodable overfull has hold member
 room-0 = refl
 
-stored-0 : Goes m₀ store-0 (done (instructionResult (stored Aux (workedFrame 1000 4096 0) (operandAt 0) 7 noHook)))
+stored-0 : Goes m₀ store-0 (done (executed (storedAt Aux (workedFrame 1000 4096 0) 0 noHook)))
 stored-0 = stores begun Aux (workedFrame 1000 4096 0) 0 noHook (omega arith) room-0
 
 after-0 : Run Step Any small m₀ p₀ (stored-0 .after) p₁
@@ -77,13 +86,13 @@ after-0 = more begun (public (stored-0 .step)) (λ t calldata e. absurd (never (
 
 -- ---- the second store
 abbrev store-10 : Call
-store-10 = Store Heap (workedFrame 967 4097 32) (operandAt 10) 7 (hookAt 10)
+store-10 = storeAt Heap (workedFrame 967 4097 32) 10 (hookAt 10)
 
 room-10 : carriedOut (outcomeOf small store-10 (seen small p₁)) ≡ true
 unfolding digits fixed dynamic missing undecodable overfull has hold member
 room-10 = refl
 
-stored-10 : Goes (stored-0 .after) store-10 (done (instructionResult (stored Heap (workedFrame 967 4097 32) (operandAt 10) 7 (hookAt 10))))
+stored-10 : Goes (stored-0 .after) store-10 (done (executed (storedAt Heap (workedFrame 967 4097 32) 10 (hookAt 10))))
 stored-10 = stores after-0 Heap (workedFrame 967 4097 32) 10 (hookAt 10) (omega arith) room-10
 
 after-10 : Run Step Any small m₀ p₀ (stored-10 .after) (follow (small .layout) store-10 p₁)
@@ -110,10 +119,10 @@ worked =
       load-50 = load-50;
       stops = refl;
       run =
-          growth.more (leaves-load load-4064)
-          (growth.more (leaves-store store-0)
-          (growth.more (leaves-load load-4065)
-          (growth.more (leaves-store store-10)
-          (growth.more (leaves-load load-100)
-          (growth.one (leaves-load load-50))))));
+          growth.more (leaves-load 4064 load-4064)
+          (growth.more (leaves-store 0 store-0)
+          (growth.more (leaves-load 4065 load-4065)
+          (growth.more (leaves-store 10 store-10)
+          (growth.more (leaves-load 100 load-100)
+          (growth.one (leaves-load 50 load-50))))));
     }

@@ -2,7 +2,7 @@
 -- and from these it follows that a quote is what its loads pay, and that growth adds up over every run of loads and stores. No hypothesis is left.
 -- Assumes nothing.
 use mathlib.Core.Path.{_≡_}
-use mathlib.Core.Bool.{true}
+use mathlib.Core.Bool.{Bool, true}
 use mathlib.Core.List.{List}
 use Prim.Native.Nat.{ℕ, _≤_}
 use lib.ListN.{length}
@@ -19,14 +19,16 @@ use Rattle.instructions.proofs.load.Statement as load-says
 use Rattle.instructions.proofs.store.Statement as store-says
 use Rattle.store.specs.Mem.{Mem}
 use Rattle.formed.specs.Formed.{wellFormed}
-use Rattle.view.specs.Instructions.{Operand, Hook, heapOf, stored}
-use Rattle.view.specs.Calls.{Load, Store, instructionResult, answerOf}
+use Rattle.registers.specs.declared.StorePlaces.{StorePlaces}
+use Rattle.registers.specs.Registers.{Registers, registerNumber, sourceOf, valueOf}
+use Rattle.view.specs.Instructions.{Hook, heapOf, stored, storedInto}
+use Rattle.view.specs.Calls.{Load, Store, executed, answerOf}
 use Rattle.growth.specs.Quotes.{LoadRun, QuoteOfLoads}
 use Rattle.growth.specs.Charges.{GrowthAddsUp}
 use Rattle.lists.specs.Went.{Went}
 use Rattle.lists.specs.Steps.{PublicStep, Step}
-use Rattle.lists.specs.Goes.{Goes}
-use Rattle.lists.specs.Worked.{Leaves, operandAt, Worked}
+use Rattle.lists.specs.Goes.{Goes, Numbered}
+use Rattle.lists.specs.Worked.{Leaves, registersAt, loadPlaces, Worked}
 
 -- a call of `quote`, as its contract tells it: its list, gas and bound
 abbrev pub Quote : Type 0
@@ -73,10 +75,11 @@ pub record Charged : Type 2 where
   pub adds-up : GrowthAddsUp Step
   -- there are such runs: on every well-formed memory a load whose access is paid can come next
   pub load-next : (m : Mem) → wellFormed m ≡ true → (area : Area) (f : Frame) (x : ℕ) → frameAccessed f area x .paid ≡ true
-      → Leaves m (Load area f (operandAt x)) (frameAccessed f area x .frame) m
+      → Leaves m (Load area f (registersAt x) loadPlaces) (frameAccessed f area x .frame) m
   -- and so can every store that the definition carries out, to a page whose number has 32 bits
-  pub store-next : (m : Mem) (area : Area) (f : Frame) (x : Operand) (n : ℕ) (h : Hook) → heapOf f area ≤ 4294967295
-      → carriedOut (answerOf m (Store area f x n h)) ≡ true → Goes m (Store area f x n h) (done (instructionResult (stored area f x n h)))
+  pub store-next : (m : Mem) (area : Area) (f : Frame) (g : Registers) (p : StorePlaces) (kernel : Bool) (h : Hook) → Numbered g → heapOf f area ≤ 4294967295
+      → carriedOut (answerOf m (Store area f g p kernel h)) ≡ true
+      → Goes m (Store area f g p kernel h) (done (executed (storedInto g p (stored area f (sourceOf g (p .source)) (valueOf kernel g (registerNumber (p .value))) h))))
   -- there is a well-formed memory
   pub formed : (m : Mem) × (wellFormed m ≡ true)
   -- a run worked out by hand

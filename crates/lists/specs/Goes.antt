@@ -1,5 +1,6 @@
 -- The claim is not empty: lists begin, and after every list every call whose arguments fit has a step.
 -- Assumes nothing.
+use mathlib.Core.Path.{_≡_}
 use mathlib.Core.List.{List, []}
 use Prim.Native.Nat.{ℕ, _*_, _≤_}
 use lib.ListN.{length}
@@ -7,6 +8,7 @@ use Rattle.outcome.specs.Outcome.{Outcome, done}
 use Rattle.store.specs.Mem.{Mem}
 use Rattle.view.specs.View.{Setting}
 use Rattle.view.specs.Calls.{Call, Value, Open, Allocate, ReadWord, ReadPartial, ReadRange, ReadByte, DynamicLength, WriteWord, WriteBytes, Lookup, LookupCheck, Free, Window, Truncate, CompareLeft, CompareRight, CompareBoth, Snapshot, Rollback, DeleteHistory, nothing, outcomeOf, Load, Store, LoadPointer, LoadStatic, StoreStatic}
+use Rattle.registers.specs.Registers.{Registers, registersFrom}
 use Rattle.view.specs.Instructions.{heapOf}
 use Rattle.opening.specs.Opening.{OpenAsks}
 use Rattle.plain.specs.Plain.{Plain, freshPlain, seen}
@@ -22,8 +24,14 @@ pub record Narrow (s : Setting) : Type 0 where
   pub base : s .layout .base .0 ≤ 4294967295
   pub stride : s .layout .stride ≤ 4294967295
 
--- What is asked of a call's arguments: the pages and addresses written to, and a layout's numbers, have 32 bits. The types of the code's arguments
--- ask this and more, so every call that the code can be given fits
+-- the registers are those of 65 numbers
+pub record Numbered (g : Registers) : Type 0 where
+  pub numbers : List ℕ
+  pub count : length numbers ≡ 65
+  pub are : registersFrom numbers ≡ g
+
+-- What is asked of a call's arguments: the pages and addresses written to, and a layout's numbers, have 32 bits, and registers are those of 65
+-- numbers. The types of the code's arguments ask this and more, so every call that the code can be given fits
 abbrev pub Fits : Call → Type 0
 Fits (Open s calldata) = Narrow s
 Fits (Allocate p bs) = p ≤ 4294967295
@@ -45,11 +53,11 @@ Fits CompareBoth = Unit {0}
 Fits Snapshot = Unit {0}
 Fits (Rollback heap aux) = Unit {0}
 Fits DeleteHistory = Unit {0}
-Fits (Load area f x) = Unit {0}
-Fits (Store area f x n h) = heapOf f area ≤ 4294967295
-Fits (LoadPointer f x) = Unit {0}
-Fits (LoadStatic f x) = Unit {0}
-Fits (StoreStatic f x n) = Unit {0}
+Fits (Load area f g p) = Numbered g
+Fits (Store area f g p kernel h) = Numbered g × (heapOf f area ≤ 4294967295)
+Fits (LoadPointer f g p) = Numbered g
+Fits (LoadStatic f g p) = Numbered g
+Fits (StoreStatic f g p kernel) = Numbered g
 
 -- the call c, lent the buffers m, has a step with the outcome o
 pub record Goes (m : Mem) (c : Call) (o : Outcome Value) : Type 0 where

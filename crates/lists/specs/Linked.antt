@@ -1,11 +1,11 @@
--- One call of each function that include/zincpapaya.h declares and that is lent a memory, its outputs of the right length.
+-- One call of each function that include/zincpapaya.h declares and that is lent a memory, its outputs, frames and registers of the right length.
 -- Assumes nothing.
 use mathlib.Core.Path.{_≡_}
-use mathlib.Core.Bool.{true, cond}
+use mathlib.Core.Bool.{true, cond, _&&_}
 use mathlib.Core.List.{List, []}
 use Prim.Native.Nat.{ℕ}
 use lib.Dec.{eqb}
-use lib.ListN.{length}
+use lib.ListN.{length, getD}
 use denote.Ref.{now}
 use Rattle.outcome.specs.Outcome.{Outcome, done, answered}
 use Rattle.word.specs.Value.{limbsValue}
@@ -15,7 +15,8 @@ use Rattle.view.specs.Calls.{Call, Value, Open, Allocate, WriteWord, WriteBytes
 use Rattle.opening.specs.Opening.{settingFrom}
 use Rattle.abi.specs.Interface.{wordIn, numberIn, marksIn, verdictIn}
 use Rattle.frames.specs.Frames.{areaOf, frameFrom}
-use Rattle.abi.specs.Executing.{fit, operandFrom, hookFrom, outcomeFrom}
+use Rattle.registers.specs.Registers.{registersFrom, loadPlacesFrom, storePlacesFrom}
+use Rattle.abi.specs.Executing.{fit, hookFrom, outcomeFrom}
 use Rattle.zincpapaya.proofs.memory.zp_open.Kinds as zp-open-kinds
 use Rattle.zincpapaya.proofs.memory.zp_open.Reads as zp-open-reads
 use Rattle.zincpapaya.proofs.memory.zp_read_u256.Kinds as zp-read-u256-kinds
@@ -230,44 +231,45 @@ pub data LinkedStep : Mem → Call → Outcome Value → Mem → Type 0 where
       DeleteHistory
       (answered (w .result) nothing)
       (lent (exits w))
-  -- the frame has six numbers, and `out` ten
+  -- the frame has six numbers, and registers 65
   did-zp-load :
       (w : Went zp-load-kinds.ps zp-load-kinds.r zp-load-reads.Asked zp-load-reads.Learnt) →
-      fit (now (rest (w .args) .0)) (now (rest (w .args) .1 .1 .1 .1 .1 .1 .1 .0)) 10 ≡ true →
+      fit (now (rest (w .args) .0)) (now (rest (w .args) .1 .0)) 65 ≡ true →
       LinkedStep
       (lent (w .args))
-      (Load (areaOf (rest (w .args) .1 .0)) (frameFrom (now (rest (w .args) .0))) (operandFrom (rest (w .args) .1 .1 .0) (rest (w .args) .1 .1 .1 .0) (rest (w .args) .1 .1 .1 .1 .0) (rest (w .args) .1 .1 .1 .1 .1 .0) (rest (w .args) .1 .1 .1 .1 .1 .1 .0)))
-      (outcomeFrom (w .result) (now (rest (exits w) .0)) (now (rest (exits w) .1 .1 .1 .1 .1 .1 .1 .0)))
+      (Load (areaOf (rest (w .args) .1 .1 .0)) (frameFrom (now (rest (w .args) .0))) (registersFrom (now (rest (w .args) .1 .0))) (loadPlacesFrom (rest (w .args) .1 .1 .1 .0) (rest (w .args) .1 .1 .1 .1 .0) (rest (w .args) .1 .1 .1 .1 .1 .0) (rest (w .args) .1 .1 .1 .1 .1 .1 .0)))
+      (outcomeFrom (w .result) 0 (now (rest (exits w) .0)) (now (rest (exits w) .1 .0)))
       (lent (exits w))
+  -- and the output of a store has one number
   did-zp-store :
       (w : Went zp-store-kinds.ps zp-store-kinds.r zp-store-reads.Asked zp-store-reads.Learnt) →
-      fit (now (rest (w .args) .0)) (now (rest (w .args) .1 .1 .1 .1 .1 .1 .1 .1 .1 .1 .1 .1 .1 .0)) 10 ≡ true →
+      (fit (now (rest (w .args) .0)) (now (rest (w .args) .1 .0)) 65 && eqb (length (now (rest (w .args) .1 .1 .1 .1 .1 .1 .1 .1 .1 .1 .1 .0))) 1) ≡ true →
       LinkedStep
       (lent (w .args))
-      (Store (areaOf (rest (w .args) .1 .0)) (frameFrom (now (rest (w .args) .0))) (operandFrom (rest (w .args) .1 .1 .0) (rest (w .args) .1 .1 .1 .0) (rest (w .args) .1 .1 .1 .1 .0) (rest (w .args) .1 .1 .1 .1 .1 .0) (rest (w .args) .1 .1 .1 .1 .1 .1 .0)) (limbsValue (rest (w .args) .1 .1 .1 .1 .1 .1 .1 .0) (rest (w .args) .1 .1 .1 .1 .1 .1 .1 .1 .0) (rest (w .args) .1 .1 .1 .1 .1 .1 .1 .1 .1 .0) (rest (w .args) .1 .1 .1 .1 .1 .1 .1 .1 .1 .1 .0)) (hookFrom (rest (w .args) .1 .1 .1 .1 .1 .1 .1 .1 .1 .1 .1 .0) (rest (w .args) .1 .1 .1 .1 .1 .1 .1 .1 .1 .1 .1 .1 .0)))
-      (outcomeFrom (w .result) (now (rest (exits w) .0)) (now (rest (exits w) .1 .1 .1 .1 .1 .1 .1 .1 .1 .1 .1 .1 .1 .0)))
+      (Store (areaOf (rest (w .args) .1 .1 .0)) (frameFrom (now (rest (w .args) .0))) (registersFrom (now (rest (w .args) .1 .0))) (storePlacesFrom (rest (w .args) .1 .1 .1 .0) (rest (w .args) .1 .1 .1 .1 .0) (rest (w .args) .1 .1 .1 .1 .1 .0) (rest (w .args) .1 .1 .1 .1 .1 .1 .0) (rest (w .args) .1 .1 .1 .1 .1 .1 .1 .0)) (rest (w .args) .1 .1 .1 .1 .1 .1 .1 .1 .0) (hookFrom (rest (w .args) .1 .1 .1 .1 .1 .1 .1 .1 .1 .0) (rest (w .args) .1 .1 .1 .1 .1 .1 .1 .1 .1 .1 .0)))
+      (outcomeFrom (w .result) (getD (now (rest (exits w) .1 .1 .1 .1 .1 .1 .1 .1 .1 .1 .1 .0)) 0 0) (now (rest (exits w) .0)) (now (rest (exits w) .1 .0)))
       (lent (exits w))
   did-zp-load-pointer :
       (w : Went zp-load-pointer-kinds.ps zp-load-pointer-kinds.r zp-load-pointer-reads.Asked zp-load-pointer-reads.Learnt) →
-      fit (now (rest (w .args) .0)) (now (rest (w .args) .1 .1 .1 .1 .1 .1 .0)) 10 ≡ true →
+      fit (now (rest (w .args) .0)) (now (rest (w .args) .1 .0)) 65 ≡ true →
       LinkedStep
       (lent (w .args))
-      (LoadPointer (frameFrom (now (rest (w .args) .0))) (operandFrom (rest (w .args) .1 .0) (rest (w .args) .1 .1 .0) (rest (w .args) .1 .1 .1 .0) (rest (w .args) .1 .1 .1 .1 .0) (rest (w .args) .1 .1 .1 .1 .1 .0)))
-      (outcomeFrom (w .result) (now (rest (exits w) .0)) (now (rest (exits w) .1 .1 .1 .1 .1 .1 .0)))
+      (LoadPointer (frameFrom (now (rest (w .args) .0))) (registersFrom (now (rest (w .args) .1 .0))) (loadPlacesFrom (rest (w .args) .1 .1 .0) (rest (w .args) .1 .1 .1 .0) (rest (w .args) .1 .1 .1 .1 .0) (rest (w .args) .1 .1 .1 .1 .1 .0)))
+      (outcomeFrom (w .result) 0 (now (rest (exits w) .0)) (now (rest (exits w) .1 .0)))
       (lent (exits w))
   did-zp-load-static :
       (w : Went zp-load-static-kinds.ps zp-load-static-kinds.r zp-load-static-reads.Asked zp-load-static-reads.Learnt) →
-      fit (now (rest (w .args) .0)) (now (rest (w .args) .1 .1 .1 .1 .1 .1 .0)) 10 ≡ true →
+      fit (now (rest (w .args) .0)) (now (rest (w .args) .1 .0)) 65 ≡ true →
       LinkedStep
       (lent (w .args))
-      (LoadStatic (frameFrom (now (rest (w .args) .0))) (operandFrom (rest (w .args) .1 .0) (rest (w .args) .1 .1 .0) (rest (w .args) .1 .1 .1 .0) (rest (w .args) .1 .1 .1 .1 .0) (rest (w .args) .1 .1 .1 .1 .1 .0)))
-      (outcomeFrom (w .result) (now (rest (exits w) .0)) (now (rest (exits w) .1 .1 .1 .1 .1 .1 .0)))
+      (LoadStatic (frameFrom (now (rest (w .args) .0))) (registersFrom (now (rest (w .args) .1 .0))) (loadPlacesFrom (rest (w .args) .1 .1 .0) (rest (w .args) .1 .1 .1 .0) (rest (w .args) .1 .1 .1 .1 .0) (rest (w .args) .1 .1 .1 .1 .1 .0)))
+      (outcomeFrom (w .result) 0 (now (rest (exits w) .0)) (now (rest (exits w) .1 .0)))
       (lent (exits w))
   did-zp-store-static :
       (w : Went zp-store-static-kinds.ps zp-store-static-kinds.r zp-store-static-reads.Asked zp-store-static-reads.Learnt) →
-      fit (now (rest (w .args) .0)) (now (rest (w .args) .1 .1 .1 .1 .1 .1 .1 .1 .1 .1 .0)) 10 ≡ true →
+      fit (now (rest (w .args) .0)) (now (rest (w .args) .1 .0)) 65 ≡ true →
       LinkedStep
       (lent (w .args))
-      (StoreStatic (frameFrom (now (rest (w .args) .0))) (operandFrom (rest (w .args) .1 .0) (rest (w .args) .1 .1 .0) (rest (w .args) .1 .1 .1 .0) (rest (w .args) .1 .1 .1 .1 .0) (rest (w .args) .1 .1 .1 .1 .1 .0)) (limbsValue (rest (w .args) .1 .1 .1 .1 .1 .1 .0) (rest (w .args) .1 .1 .1 .1 .1 .1 .1 .0) (rest (w .args) .1 .1 .1 .1 .1 .1 .1 .1 .0) (rest (w .args) .1 .1 .1 .1 .1 .1 .1 .1 .1 .0)))
-      (outcomeFrom (w .result) (now (rest (exits w) .0)) (now (rest (exits w) .1 .1 .1 .1 .1 .1 .1 .1 .1 .1 .0)))
+      (StoreStatic (frameFrom (now (rest (w .args) .0))) (registersFrom (now (rest (w .args) .1 .0))) (storePlacesFrom (rest (w .args) .1 .1 .0) (rest (w .args) .1 .1 .1 .0) (rest (w .args) .1 .1 .1 .1 .0) (rest (w .args) .1 .1 .1 .1 .1 .0) (rest (w .args) .1 .1 .1 .1 .1 .1 .0)) (rest (w .args) .1 .1 .1 .1 .1 .1 .1 .0))
+      (outcomeFrom (w .result) 0 (now (rest (exits w) .0)) (now (rest (exits w) .1 .0)))
       (lent (exits w))

@@ -13,10 +13,11 @@ use Rattle.formed.specs.WellFormed.{WellFormed}
 use Rattle.view.specs.Calls.{Call, Value, Open, Allocate, WriteWord, WriteBytes, ReadWord, ReadPartial, ReadRange, ReadByte, DynamicLength, Lookup, LookupCheck, Free, Window, Truncate, CompareLeft, CompareRight, CompareBoth, Snapshot, Rollback, DeleteHistory, nothing, number, lengths, bytes, Load, Store, LoadPointer, LoadStatic, StoreStatic}
 use Rattle.page_ids.specs.Decode.{layoutFrom}
 use Rattle.opening.specs.Opening.{settingFrom}
-use Rattle.execution.specs.Executions.{executionOutcome}
+use Rattle.registers.specs.Registers.{registersFrom, loadPlacesFrom, storePlacesFrom}
+use Rattle.write_back.specs.Runs.{executedOutcome}
 use Rattle.frames.specs.Frames.{areaOf}
-use Rattle.abi.specs.Executing.{operandFrom, hookFrom}
-use Rattle.owned.specs.Answers.{comparedOutcome, frameOf, executionOf}
+use Rattle.abi.specs.Executing.{hookFrom}
+use Rattle.owned.specs.Answers.{comparedOutcome, frameOf, executedOf}
 use Rattle.lists.specs.Linked.{copiedPart}
 use Rattle.owned.proofs.memory.own_open.Kinds as own-open-kinds
 use Rattle.owned.proofs.memory.own_open.Reads as own-open-reads
@@ -224,36 +225,36 @@ pub data OwnedStep : Mem → Call → Outcome Value → Mem → Type 0 where
       (w : Went own-load-kinds.ps own-load-kinds.r own-load-reads.Asked own-load-reads.Learnt) →
       OwnedStep
       (lent (w .args))
-      (Load (areaOf (rest (w .args) .1 .1 .1 .1 .1 .1 .0)) (frameOf (rest (w .args) .0) (rest (w .args) .1 .0) (rest (w .args) .1 .1 .0) (rest (w .args) .1 .1 .1 .0) (rest (w .args) .1 .1 .1 .1 .0) (rest (w .args) .1 .1 .1 .1 .1 .0)) (operandFrom (rest (w .args) .1 .1 .1 .1 .1 .1 .1 .0) (rest (w .args) .1 .1 .1 .1 .1 .1 .1 .1 .0) (rest (w .args) .1 .1 .1 .1 .1 .1 .1 .1 .1 .0) (rest (w .args) .1 .1 .1 .1 .1 .1 .1 .1 .1 .1 .0) (rest (w .args) .1 .1 .1 .1 .1 .1 .1 .1 .1 .1 .1 .0)))
-      (executionOutcome (executionOf (w .result)))
+      (Load (areaOf (rest (w .args) .1 .1 .1 .1 .1 .1 .1 .0)) (frameOf (rest (w .args) .1 .0) (rest (w .args) .1 .1 .0) (rest (w .args) .1 .1 .1 .0) (rest (w .args) .1 .1 .1 .1 .0) (rest (w .args) .1 .1 .1 .1 .1 .0) (rest (w .args) .1 .1 .1 .1 .1 .1 .0)) (registersFrom (now (rest (w .args) .0))) (loadPlacesFrom (rest (w .args) .1 .1 .1 .1 .1 .1 .1 .1 .0) (rest (w .args) .1 .1 .1 .1 .1 .1 .1 .1 .1 .0) (rest (w .args) .1 .1 .1 .1 .1 .1 .1 .1 .1 .1 .0) (rest (w .args) .1 .1 .1 .1 .1 .1 .1 .1 .1 .1 .1 .0)))
+      (executedOutcome (executedOf (w .result)) (now (rest (exits w) .0)))
       (lent (exits w))
   did-own-store :
       (w : Went own-store-kinds.ps own-store-kinds.r own-store-reads.Asked own-store-reads.Learnt) →
       OwnedStep
       (lent (w .args))
-      (Store (areaOf (rest (w .args) .1 .1 .1 .1 .1 .1 .0)) (frameOf (rest (w .args) .0) (rest (w .args) .1 .0) (rest (w .args) .1 .1 .0) (rest (w .args) .1 .1 .1 .0) (rest (w .args) .1 .1 .1 .1 .0) (rest (w .args) .1 .1 .1 .1 .1 .0)) (operandFrom (rest (w .args) .1 .1 .1 .1 .1 .1 .1 .0) (rest (w .args) .1 .1 .1 .1 .1 .1 .1 .1 .0) (rest (w .args) .1 .1 .1 .1 .1 .1 .1 .1 .1 .0) (rest (w .args) .1 .1 .1 .1 .1 .1 .1 .1 .1 .1 .0) (rest (w .args) .1 .1 .1 .1 .1 .1 .1 .1 .1 .1 .1 .0)) (limbsValue (rest (w .args) .1 .1 .1 .1 .1 .1 .1 .1 .1 .1 .1 .1 .0) (rest (w .args) .1 .1 .1 .1 .1 .1 .1 .1 .1 .1 .1 .1 .1 .0) (rest (w .args) .1 .1 .1 .1 .1 .1 .1 .1 .1 .1 .1 .1 .1 .1 .0) (rest (w .args) .1 .1 .1 .1 .1 .1 .1 .1 .1 .1 .1 .1 .1 .1 .1 .0)) (hookFrom (rest (w .args) .1 .1 .1 .1 .1 .1 .1 .1 .1 .1 .1 .1 .1 .1 .1 .1 .0) (rest (w .args) .1 .1 .1 .1 .1 .1 .1 .1 .1 .1 .1 .1 .1 .1 .1 .1 .1 .0)))
-      (executionOutcome (executionOf (w .result)))
+      (Store (areaOf (rest (w .args) .1 .1 .1 .1 .1 .1 .1 .0)) (frameOf (rest (w .args) .1 .0) (rest (w .args) .1 .1 .0) (rest (w .args) .1 .1 .1 .0) (rest (w .args) .1 .1 .1 .1 .0) (rest (w .args) .1 .1 .1 .1 .1 .0) (rest (w .args) .1 .1 .1 .1 .1 .1 .0)) (registersFrom (now (rest (w .args) .0))) (storePlacesFrom (rest (w .args) .1 .1 .1 .1 .1 .1 .1 .1 .0) (rest (w .args) .1 .1 .1 .1 .1 .1 .1 .1 .1 .0) (rest (w .args) .1 .1 .1 .1 .1 .1 .1 .1 .1 .1 .0) (rest (w .args) .1 .1 .1 .1 .1 .1 .1 .1 .1 .1 .1 .0) (rest (w .args) .1 .1 .1 .1 .1 .1 .1 .1 .1 .1 .1 .1 .0)) (rest (w .args) .1 .1 .1 .1 .1 .1 .1 .1 .1 .1 .1 .1 .1 .0) (hookFrom (rest (w .args) .1 .1 .1 .1 .1 .1 .1 .1 .1 .1 .1 .1 .1 .1 .0) (rest (w .args) .1 .1 .1 .1 .1 .1 .1 .1 .1 .1 .1 .1 .1 .1 .1 .0)))
+      (executedOutcome (executedOf (w .result)) (now (rest (exits w) .0)))
       (lent (exits w))
   did-own-load-pointer :
       (w : Went own-load-pointer-kinds.ps own-load-pointer-kinds.r own-load-pointer-reads.Asked own-load-pointer-reads.Learnt) →
       OwnedStep
       (lent (w .args))
-      (LoadPointer (frameOf (rest (w .args) .0) (rest (w .args) .1 .0) (rest (w .args) .1 .1 .0) (rest (w .args) .1 .1 .1 .0) (rest (w .args) .1 .1 .1 .1 .0) (rest (w .args) .1 .1 .1 .1 .1 .0)) (operandFrom (rest (w .args) .1 .1 .1 .1 .1 .1 .0) (rest (w .args) .1 .1 .1 .1 .1 .1 .1 .0) (rest (w .args) .1 .1 .1 .1 .1 .1 .1 .1 .0) (rest (w .args) .1 .1 .1 .1 .1 .1 .1 .1 .1 .0) (rest (w .args) .1 .1 .1 .1 .1 .1 .1 .1 .1 .1 .0)))
-      (executionOutcome (executionOf (w .result)))
+      (LoadPointer (frameOf (rest (w .args) .1 .0) (rest (w .args) .1 .1 .0) (rest (w .args) .1 .1 .1 .0) (rest (w .args) .1 .1 .1 .1 .0) (rest (w .args) .1 .1 .1 .1 .1 .0) (rest (w .args) .1 .1 .1 .1 .1 .1 .0)) (registersFrom (now (rest (w .args) .0))) (loadPlacesFrom (rest (w .args) .1 .1 .1 .1 .1 .1 .1 .0) (rest (w .args) .1 .1 .1 .1 .1 .1 .1 .1 .0) (rest (w .args) .1 .1 .1 .1 .1 .1 .1 .1 .1 .0) (rest (w .args) .1 .1 .1 .1 .1 .1 .1 .1 .1 .1 .0)))
+      (executedOutcome (executedOf (w .result)) (now (rest (exits w) .0)))
       (lent (exits w))
   did-own-load-static :
       (w : Went own-load-static-kinds.ps own-load-static-kinds.r own-load-static-reads.Asked own-load-static-reads.Learnt) →
       OwnedStep
       (lent (w .args))
-      (LoadStatic (frameOf (rest (w .args) .0) (rest (w .args) .1 .0) (rest (w .args) .1 .1 .0) (rest (w .args) .1 .1 .1 .0) (rest (w .args) .1 .1 .1 .1 .0) (rest (w .args) .1 .1 .1 .1 .1 .0)) (operandFrom (rest (w .args) .1 .1 .1 .1 .1 .1 .0) (rest (w .args) .1 .1 .1 .1 .1 .1 .1 .0) (rest (w .args) .1 .1 .1 .1 .1 .1 .1 .1 .0) (rest (w .args) .1 .1 .1 .1 .1 .1 .1 .1 .1 .0) (rest (w .args) .1 .1 .1 .1 .1 .1 .1 .1 .1 .1 .0)))
-      (executionOutcome (executionOf (w .result)))
+      (LoadStatic (frameOf (rest (w .args) .1 .0) (rest (w .args) .1 .1 .0) (rest (w .args) .1 .1 .1 .0) (rest (w .args) .1 .1 .1 .1 .0) (rest (w .args) .1 .1 .1 .1 .1 .0) (rest (w .args) .1 .1 .1 .1 .1 .1 .0)) (registersFrom (now (rest (w .args) .0))) (loadPlacesFrom (rest (w .args) .1 .1 .1 .1 .1 .1 .1 .0) (rest (w .args) .1 .1 .1 .1 .1 .1 .1 .1 .0) (rest (w .args) .1 .1 .1 .1 .1 .1 .1 .1 .1 .0) (rest (w .args) .1 .1 .1 .1 .1 .1 .1 .1 .1 .1 .0)))
+      (executedOutcome (executedOf (w .result)) (now (rest (exits w) .0)))
       (lent (exits w))
   did-own-store-static :
       (w : Went own-store-static-kinds.ps own-store-static-kinds.r own-store-static-reads.Asked own-store-static-reads.Learnt) →
       OwnedStep
       (lent (w .args))
-      (StoreStatic (frameOf (rest (w .args) .0) (rest (w .args) .1 .0) (rest (w .args) .1 .1 .0) (rest (w .args) .1 .1 .1 .0) (rest (w .args) .1 .1 .1 .1 .0) (rest (w .args) .1 .1 .1 .1 .1 .0)) (operandFrom (rest (w .args) .1 .1 .1 .1 .1 .1 .0) (rest (w .args) .1 .1 .1 .1 .1 .1 .1 .0) (rest (w .args) .1 .1 .1 .1 .1 .1 .1 .1 .0) (rest (w .args) .1 .1 .1 .1 .1 .1 .1 .1 .1 .0) (rest (w .args) .1 .1 .1 .1 .1 .1 .1 .1 .1 .1 .0)) (limbsValue (rest (w .args) .1 .1 .1 .1 .1 .1 .1 .1 .1 .1 .1 .0) (rest (w .args) .1 .1 .1 .1 .1 .1 .1 .1 .1 .1 .1 .1 .0) (rest (w .args) .1 .1 .1 .1 .1 .1 .1 .1 .1 .1 .1 .1 .1 .0) (rest (w .args) .1 .1 .1 .1 .1 .1 .1 .1 .1 .1 .1 .1 .1 .1 .0)))
-      (executionOutcome (executionOf (w .result)))
+      (StoreStatic (frameOf (rest (w .args) .1 .0) (rest (w .args) .1 .1 .0) (rest (w .args) .1 .1 .1 .0) (rest (w .args) .1 .1 .1 .1 .0) (rest (w .args) .1 .1 .1 .1 .1 .0) (rest (w .args) .1 .1 .1 .1 .1 .1 .0)) (registersFrom (now (rest (w .args) .0))) (storePlacesFrom (rest (w .args) .1 .1 .1 .1 .1 .1 .1 .0) (rest (w .args) .1 .1 .1 .1 .1 .1 .1 .1 .0) (rest (w .args) .1 .1 .1 .1 .1 .1 .1 .1 .1 .0) (rest (w .args) .1 .1 .1 .1 .1 .1 .1 .1 .1 .1 .0) (rest (w .args) .1 .1 .1 .1 .1 .1 .1 .1 .1 .1 .1 .0)) (rest (w .args) .1 .1 .1 .1 .1 .1 .1 .1 .1 .1 .1 .1 .0))
+      (executedOutcome (executedOf (w .result)) (now (rest (exits w) .0)))
       (lent (exits w))
 
 -- the memory m is all that an owned call requires: with any other arguments it may be called
@@ -276,8 +277,8 @@ pub record Ready (m : Mem) : Type 0 where
   pub «own_compare» : (κs : Lfts 8) (args : Dens κs own-compare-kinds.ps) → lent args ≡ m → WellFormed (lent (rest args)) → own-compare-reads.Asked κs args
   pub «own_rollback» : (κs : Lfts 4) (args : Dens κs own-rollback-kinds.ps) → lent args ≡ m → own-rollback-reads.Asked κs args
   pub «own_delete_history» : (κs : Lfts 4) (args : Dens κs own-delete-history-kinds.ps) → lent args ≡ m → own-delete-history-reads.Asked κs args
-  pub «own_load» : (κs : Lfts 4) (args : Dens κs own-load-kinds.ps) → lent args ≡ m → own-load-reads.Asked κs args
-  pub «own_store» : (κs : Lfts 4) (args : Dens κs own-store-kinds.ps) → lent args ≡ m → own-store-reads.Asked κs args
-  pub «own_load_pointer» : (κs : Lfts 4) (args : Dens κs own-load-pointer-kinds.ps) → lent args ≡ m → own-load-pointer-reads.Asked κs args
-  pub «own_load_static» : (κs : Lfts 4) (args : Dens κs own-load-static-kinds.ps) → lent args ≡ m → own-load-static-reads.Asked κs args
-  pub «own_store_static» : (κs : Lfts 4) (args : Dens κs own-store-static-kinds.ps) → lent args ≡ m → own-store-static-reads.Asked κs args
+  pub «own_load» : (κs : Lfts 5) (args : Dens κs own-load-kinds.ps) → lent args ≡ m → own-load-reads.Asked κs args
+  pub «own_store» : (κs : Lfts 5) (args : Dens κs own-store-kinds.ps) → lent args ≡ m → own-store-reads.Asked κs args
+  pub «own_load_pointer» : (κs : Lfts 5) (args : Dens κs own-load-pointer-kinds.ps) → lent args ≡ m → own-load-pointer-reads.Asked κs args
+  pub «own_load_static» : (κs : Lfts 5) (args : Dens κs own-load-static-kinds.ps) → lent args ≡ m → own-load-static-reads.Asked κs args
+  pub «own_store_static» : (κs : Lfts 5) (args : Dens κs own-store-static-kinds.ps) → lent args ≡ m → own-store-static-reads.Asked κs args

@@ -50,8 +50,9 @@ use Rattle.history.proofs.rollback.Kinds as rollback-kinds
 use Rattle.history.proofs.rollback.Reads as rollback-reads
 use Rattle.history.proofs.delete_history.Kinds as delete-kinds
 use Rattle.history.proofs.delete_history.Reads as delete-reads
-use Rattle.execution.specs.Executions as executions
-use Rattle.execution.specs.Executions.{operandOf, hookOf}
+use Rattle.registers.specs.Registers.{registersFrom}
+use Rattle.execution.specs.Executions.{hookOf}
+use Rattle.write_back.specs.Runs.{executedOutcome}
 use Rattle.instructions.proofs.load.Kinds as load-kinds
 use Rattle.instructions.proofs.load.Reads as load-reads
 use Rattle.instructions.proofs.store.Kinds as store-kinds
@@ -219,46 +220,41 @@ pub data PublicStep : Mem → Call → Outcome Value → Mem → Type 0 where
       DeleteHistory
       (answerOutcome nothing (w .result))
       (lent (exits w))
-  -- the frame is an argument, and a part of the answer
+  -- the registers are lent and the frame is an argument; both are parts of the answer
   did-load :
       (w : Went load-kinds.ps load-kinds.r load-reads.Asked load-reads.Learnt) →
       PublicStep
       (lent (w .args))
-      (Load (rest (w .args) .1 .0) (rest (w .args) .0) (operandOf (rest (w .args) .1 .1 .0)))
-      (executions.executionOutcome (w .result))
+      (Load (rest (w .args) .1 .1 .0) (rest (w .args) .1 .0) (registersFrom (now (rest (w .args) .0))) (rest (w .args) .1 .1 .1 .0))
+      (executedOutcome (w .result) (now (rest (exits w) .0)))
       (lent (exits w))
   did-store :
       (w : Went store-kinds.ps store-kinds.r store-reads.Asked store-reads.Learnt) →
       PublicStep
       (lent (w .args))
-      (Store
-      (rest (w .args) .1 .0)
-      (rest (w .args) .0)
-      (operandOf (rest (w .args) .1 .1 .0))
-      (value (rest (w .args) .1 .1 .1 .0 .limbs))
-      (hookOf (rest (w .args) .1 .1 .1 .1 .0)))
-      (executions.executionOutcome (w .result))
+      (Store (rest (w .args) .1 .1 .0) (rest (w .args) .1 .0) (registersFrom (now (rest (w .args) .0))) (rest (w .args) .1 .1 .1 .0) (rest (w .args) .1 .1 .1 .1 .0) (hookOf (rest (w .args) .1 .1 .1 .1 .1 .0)))
+      (executedOutcome (w .result) (now (rest (exits w) .0)))
       (lent (exits w))
   did-load-pointer :
       (w : Went pointer-kinds.ps pointer-kinds.r pointer-reads.Asked pointer-reads.Learnt) →
       PublicStep
       (lent (w .args))
-      (LoadPointer (rest (w .args) .0) (operandOf (rest (w .args) .1 .0)))
-      (executions.executionOutcome (w .result))
+      (LoadPointer (rest (w .args) .1 .0) (registersFrom (now (rest (w .args) .0))) (rest (w .args) .1 .1 .0))
+      (executedOutcome (w .result) (now (rest (exits w) .0)))
       (lent (exits w))
   did-load-static :
       (w : Went load-static-kinds.ps load-static-kinds.r load-static-reads.Asked load-static-reads.Learnt) →
       PublicStep
       (lent (w .args))
-      (LoadStatic (rest (w .args) .0) (operandOf (rest (w .args) .1 .0)))
-      (executions.executionOutcome (w .result))
+      (LoadStatic (rest (w .args) .1 .0) (registersFrom (now (rest (w .args) .0))) (rest (w .args) .1 .1 .0))
+      (executedOutcome (w .result) (now (rest (exits w) .0)))
       (lent (exits w))
   did-store-static :
       (w : Went store-static-kinds.ps store-static-kinds.r store-static-reads.Asked store-static-reads.Learnt) →
       PublicStep
       (lent (w .args))
-      (StoreStatic (rest (w .args) .0) (operandOf (rest (w .args) .1 .0)) (value (rest (w .args) .1 .1 .0 .limbs)))
-      (executions.executionOutcome (w .result))
+      (StoreStatic (rest (w .args) .1 .0) (registersFrom (now (rest (w .args) .0))) (rest (w .args) .1 .1 .0) (rest (w .args) .1 .1 .1 .0))
+      (executedOutcome (w .result) (now (rest (exits w) .0)))
       (lent (exits w))
 
 -- THE STEPS: calls of the public functions and of those that hosts link

@@ -1,18 +1,25 @@
--- Executions as structs, and instructions with what their numbers make.
+-- What an instruction returned, as structs, and instructions with what their numbers make.
 -- Assumes nothing.
-use mathlib.Core.Path.{_≡_, sym, ap, _∙_, subst}
+use mathlib.Core.Path.{_≡_, sym, ap, _∙_, subst, subst₂}
+use mathlib.Core.List.{List}
+use Prim.Native.Nat.{ℕ}
+use Rattle.registers.specs.Registers.{Registers, registersFrom}
 use Rattle.state.specs.declared.Frame.{Frame}
 use Rattle.store.specs.Mem.{Mem}
 use Rattle.view.specs.Calls.{Call}
-use Rattle.execution.specs.declared.Execution.{Execution}
 use Rattle.execution.specs.declared.ExecutionStatus.{ExecutionStatus}
-use Rattle.execution.specs.Executions.{Runs}
+use Rattle.write_back.specs.declared.Executed.{Executed}
+use Rattle.write_back.specs.Runs.{Runs}
 use Rattle.owned.specs.Answers.{withStatus}
 
-pub by-status : {y : Execution} (x : Execution) (s : ExecutionStatus) → y ≡ withStatus s x → x .status ≡ s → y ≡ x
+pub by-status : {y : Executed} (x : Executed) (s : ExecutionStatus) → y ≡ withStatus s x → x .status ≡ s → y ≡ x
 by-status x s e q = e ∙ ap (λ (t : ExecutionStatus). withStatus t x) (sym q)
 
--- the same instruction, frame and execution
-pub runs-as : {m m' : Mem} {c d : Call} {f g : Frame} {y x : Execution} → c ≡ d → f ≡ g → y ≡ x → Runs m c f x m' → Runs m d g y m'
-runs-as {m} {m'} {c} {d} {f} {g} {y} {x} e q t h =
-    subst (λ (z : Execution). Runs m d g z m') (sym t) (subst (λ (k : Frame). Runs m d k x m') q (subst (λ (k : Call). Runs m k f x m') e h))
+-- the same instruction, frame and answer
+pub runs-as : {m m' : Mem} {c d : Call} {f g : Frame} {l l' : List ℕ} {y x : Executed} → c ≡ d → f ≡ g → y ≡ x → Runs m c f l x m' l' → Runs m d g l y m' l'
+runs-as {m} {m'} {c} {d} {f} {g} {l} {l'} {y} {x} e q t h =
+    subst (λ (z : Executed). Runs m d g l z m' l') (sym t) (subst (λ (k : Frame). Runs m d k l x m' l') q (subst (λ (k : Call). Runs m k f l x m' l') e h))
+
+-- from the same memory and numbers
+pub runs-from : {m n m' : Mem} {l k l' : List ℕ} (c : Registers → Call) {f : Frame} {x : Executed} → n ≡ m → k ≡ l → Runs n (c (registersFrom k)) f k x m' l' → Runs m (c (registersFrom l)) f l x m' l'
+runs-from {m' = m'} {l' = l'} c {f} {x} e q h = subst₂ (λ (y : Mem) (z : List ℕ). Runs y (c (registersFrom z)) f z x m' l') e q h

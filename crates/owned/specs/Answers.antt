@@ -5,9 +5,9 @@ use Prim.Native.Nat.{ℕ, zero, suc}
 use Rattle.outcome.specs.Outcome.{Outcome, answered}
 use Rattle.state.specs.declared.Frame.{Frame}
 use Rattle.view.specs.Calls.{Value, verdict}
-use Rattle.execution.specs.declared.Execution.{Execution}
 use Rattle.execution.specs.declared.ExecutionStatus.{ExecutionStatus}
 use Rattle.execution.specs.declared.ExecutionStatus.the-variants.{Running, SuspendedOnHook, Panicked, Refused}
+use Rattle.write_back.specs.declared.Executed.{Executed}
 use Rattle.owned.specs.declared.memory.Compared.{Compared}
 use Rattle.owned.specs.declared.execute.Ran.{Ran}
 
@@ -33,15 +33,13 @@ statusFrom (suc zero) n = SuspendedOnHook n
 statusFrom (suc (suc zero)) n = Panicked
 statusFrom (suc (suc (suc k))) n = Refused n
 
--- an execution that ended so
-abbrev pub withStatus : ExecutionStatus → Execution → Execution
-withStatus s x = record { status = s; word = x .word; operand = x .operand; frame = x .frame }
+-- an instruction that ended so
+abbrev pub withStatus : ExecutionStatus → Executed → Executed
+withStatus s x = record { status = s; frame = x .frame }
 
--- THE EXECUTION that a `Ran` is
-abbrev pub executionOf : Ran → Execution
-executionOf r = record {
+-- WHAT AN INSTRUCTION RETURNED, as a `Ran` tells it
+abbrev pub executedOf : Ran → Executed
+executedOf r = record {
   status = statusFrom (r .kind) (r .number);
-  word = r .word;
-  operand = record { word = r .operand; tagged = r .tagged };
   frame = frameOf (r .gas) (r .heap) (r .aux) (r .«heap_bound») (r .«aux_bound») (r .panicked);
 }

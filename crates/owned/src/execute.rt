@@ -1,25 +1,33 @@
-// The five instructions. Frames, operands and stored words are given as numbers: a struct that was just made would be copied by wider loads than its stores were, and the processor would wait for them.
+// The five instructions. Frames are given as numbers: a struct that was just made would be copied by wider loads than its stores were, and the processor would wait for them.
 use abi::executions;
-use execution::Execution;
 use execution::ExecutionStatus;
 use execution::Hook;
-use execution::Operand;
+use instructions::on_formed;
 use page_ids::Address;
 use page_ids::PageId;
+use registers::Operand;
+use registers::Place;
 use state::Area;
 use state::Frame;
 use store::head;
 use word::Word;
+use write_back::Executed;
 ghost use mathlib.Core.Path.{_≡_};
-ghost use Rattle.outcome.specs.Outcome.{answered};
-ghost use Rattle.word.specs.Value.{value, limbsValue};
+ghost use mathlib.Core.Bool.{_&&_};
+ghost use lib.Dec.{leb};
+ghost use lib.ListN.{length};
+ghost use Rattle.word.specs.Value.{value};
+ghost use Rattle.registers.specs.Registers.{registersFrom, loadPlacesFrom, storePlacesFrom};
 ghost use Rattle.store.specs.Mem.{mem};
 ghost use Rattle.formed.specs.WellFormed.{WellFormed};
-ghost use Rattle.view.specs.Calls.{Call, nothing, CallDoes};
-ghost use Rattle.execution.specs.Executions.{operandOf, hookOf, Runs};
+ghost use Rattle.view.specs.Calls.{Call};
+ghost use Rattle.execution.specs.Executions.{hookOf};
+ghost use Rattle.write_back.specs.Runs.{Runs};
+ghost use Rattle.state.specs.Access.{boundOf};
 ghost use Rattle.frames.specs.Frames.{areaOf};
-ghost use Rattle.abi.specs.Executing.{operandFrom, hookFrom};
-ghost use Rattle.owned.specs.Answers.{frameOf, withStatus, statusFrom, executionOf};
+ghost use Rattle.abi.specs.Executing.{hookFrom};
+ghost use Rattle.owned.specs.Answers.{frameOf, withStatus, statusFrom, executedOf};
+ghost use Rattle.owned.specs.Known.{paidBelow, LoadKnown, WriteKnown, StoreKnown};
 
 // How an instruction ended: the values of `kind`.
 pub const RUNNING: u32 = 0;
@@ -30,11 +38,9 @@ pub const PANICKED: u32 = 2;
 
 pub const REFUSED: u32 = 3;
 
-// What an instruction returns: how it ended, the frame, the word that it read, and the operand plus 32.
+// What an instruction returns beside its registers: how it ended, and the frame.
 #[repr(C)]
 pub struct Ran {
-    pub word: Word,
-    pub operand: Word,
     pub kind: u32,
     // the hook's value, or the number of the refusal
     pub number: u32,
@@ -44,7 +50,6 @@ pub struct Ran {
     pub heap_bound: u32,
     pub aux_bound: u32,
     pub panicked: bool,
-    pub tagged: bool,
 }
 
 fn frame_of(gas: u32, heap: u32, aux: u32, heap_bound: u32, aux_bound: u32, panicked: bool) -> Frame
@@ -60,13 +65,10 @@ fn frame_of(gas: u32, heap: u32, aux: u32, heap_bound: u32, aux_bound: u32, pani
     }
 }
 
-fn ended(kind: u32, number: u32, run: Execution) -> Ran
-    ensures { λ r. ⌜ executionOf r ≡ withStatus (statusFrom kind number) run ⌝ }
+fn ended(kind: u32, number: u32, run: Executed) -> Ran
+    ensures { λ r. ⌜ executedOf r ≡ withStatus (statusFrom kind number) run ⌝ }
 {
     let frame = run.frame;
-    let operand = run.operand;
-    let word = run.word;
-    let next = operand.word;
     Ran {
         kind: kind,
         number: number,
@@ -76,14 +78,11 @@ fn ended(kind: u32, number: u32, run: Execution) -> Ran
         heap_bound: frame.heap_bound,
         aux_bound: frame.aux_bound,
         panicked: frame.panicked,
-        tagged: operand.tagged,
-        word: word,
-        operand: next,
     }
 }
 
-fn report(run: Execution) -> Ran
-    ensures { λ r. ⌜ executionOf r ≡ run ⌝ }
+fn report(run: Executed) -> Ran
+    ensures { λ r. ⌜ executedOf r ≡ run ⌝ }
 {
     let status = run.status;
     match status {
@@ -94,38 +93,170 @@ fn report(run: Execution) -> Ran
     }
 }
 
-// A load: a word in one piece that a hint knows is read here. All else is behind one call.
-fn load(
+// An instruction that was carried out and left the frame as it was. It is made of the numbers that were given.
+fn running(gas: u32, heap: u32, aux: u32, heap_bound: u32, aux_bound: u32, panicked: bool) -> Ran
+    ensures { λ r. ⌜ executedOf r ≡ record { status = ExecutionStatus.Running; frame = frameOf gas heap aux «heap_bound» «aux_bound» panicked } ⌝ }
+{
+    Ran {
+        kind: RUNNING,
+        number: 0,
+        gas: gas,
+        heap: heap,
+        aux: aux,
+        heap_bound: heap_bound,
+        aux_bound: aux_bound,
+        panicked: panicked,
+    }
+}
+
+fn bound_of(frame: Frame, area: Area) -> u32
+    ensures { λ r. ⌜ r ≡ boundOf frame area ⌝ }
+{
+    match area {
+        Area::Heap => frame.heap_bound,
+        Area::Aux => frame.aux_bound,
+    }
+}
+
+// ---- what a hint knows
+
+// Whether a word at an operand lies below a bound: its access pays nothing.
+fn is_paid(operand: Word, bound: u32) -> bool
+    ensures { λ r. ⌜ r ≡ paidBelow (value (operand .limbs)) bound ⌝ }
+{
+    if word::bigger_than_last_address(operand) {
+        return false;
+    }
+    word::low_u32(operand) + 32 <= bound
+}
+
+// A load of registers alone, without growth, whose word is in one piece that a hint knows: it is carried out here. Otherwise nothing is written.
+fn load_known(
     bytes: &[u8],
     keys: &[u64],
     order: &[u32],
     words: &[u64],
-    frame: Frame,
-    area: Area,
-    operand: Operand,
-) -> Execution
+    registers: &mut [u64],
+    page: PageId,
+    bound: u32,
+    source: u32,
+    dst0: u32,
+    dst1: u32,
+    increment: bool,
+) -> bool
     requires { ⌜ WellFormed (mem (now bytes) (now keys) (now order) (now words)) ⌝ }
-    ensures { λ r. let m = mem (now (bytes .entry)) (now (keys .entry)) (now (order .entry)) (now (words .entry)) in ⌜ Runs m (Call.Load area frame (operandOf operand)) frame r m ⌝ }
+    requires { ⌜ length (now registers) ≡ 65 ⌝ }
+    ensures { λ r. ⌜ LoadKnown (mem (now (bytes .entry)) (now (keys .entry)) (now (order .entry)) (now (words .entry))) (now (registers .entry)) (page .0) bound (loadPlacesFrom source dst0 dst1 increment) r (now (registers .exit)) ⌝ }
 {
-    let page = execution::page_of(frame, area);
+    let places = registers::load_places(source, dst0, dst1, increment);
+    if !are_registers(source, dst0, dst1) {
+        return false;
+    }
+    let operand = registers::source(registers, Place::Register(source));
+    if !is_paid(operand.word, bound) {
+        return false;
+    }
     let address = Address(word::low_u32(operand.word));
     let s = hints::in_one_piece(keys, order, words, page, address);
-    if s < words[head::CHUNKS] as usize {
-        let step = execution::reach(frame, area, operand.word);
-        if step.paid {
-            let at = 256 * s + (address.0 % 256) as usize;
-            let word = word::from_big_endian(hints::word_at(bytes, at));
-            return execution::carried_out(
-                ExecutionStatus::Running,
-                word,
-                operand,
-                operand.tagged,
-                step.frame,
-            );
-        }
+    if s >= words[head::CHUNKS] as usize {
+        return false;
     }
-    instructions::on_formed::load(bytes, keys, order, words, frame, area, operand)
+    let at = 256 * s + (address.0 % 256) as usize;
+    let word = word::from_big_endian(hints::word_at(bytes, at));
+    let next = Operand {
+        word: word::plus_32(operand.word),
+        tagged: operand.tagged,
+    };
+    write_back::write_load(registers, places, word, next);
+    true
 }
+
+// A word in one piece that a hint knows, on a page without a journal: it is written here. Otherwise nothing is.
+fn write_known(
+    bytes: &mut [u8],
+    keys: &[u64],
+    order: &[u32],
+    words: &[u64],
+    page: PageId,
+    address: Address,
+    word: Word,
+) -> bool
+    requires { ⌜ WellFormed (mem (now bytes) (now keys) (now order) (now words)) ⌝ }
+    ensures { λ r. ⌜ WriteKnown (mem (now (bytes .entry)) (now (keys .entry)) (now (order .entry)) (now (words .entry))) (page .0) (address .0) (value (word .limbs)) r (mem (now (bytes .exit)) (now (keys .entry)) (now (order .entry)) (now (words .entry))) ⌝ }
+{
+    let s = hints::in_one_piece(keys, order, words, page, address);
+    if s >= words[head::CHUNKS] as usize {
+        return false;
+    }
+    if !hints::has_no_journal(words, page) {
+        return false;
+    }
+    let value = word::to_big_endian(word);
+    bodies::copy(&value, 0, bytes, 256 * s + (address.0 % 256) as usize, 32);
+    true
+}
+
+// A store of registers alone, without growth and not at the hook, whose word is in such a piece: it is carried out here. Otherwise nothing is written.
+fn store_known(
+    bytes: &mut [u8],
+    keys: &[u64],
+    order: &[u32],
+    words: &[u64],
+    registers: &mut [u64],
+    page: PageId,
+    bound: u32,
+    source: u32,
+    value: u32,
+    dst0: u32,
+    dst1: u32,
+    increment: bool,
+    kernel: bool,
+    hook: Hook,
+) -> bool
+    requires { ⌜ WellFormed (mem (now bytes) (now keys) (now order) (now words)) ⌝ }
+    requires { ⌜ length (now registers) ≡ 65 ⌝ }
+    ensures { λ r. ⌜ StoreKnown (mem (now (bytes .entry)) (now (keys .entry)) (now (order .entry)) (now (words .entry))) (now (registers .entry)) (page .0) bound (storePlacesFrom source value dst0 dst1 increment) kernel (hookOf hook) r (mem (now (bytes .exit)) (now (keys .entry)) (now (order .entry)) (now (words .entry))) (now (registers .exit)) ⌝ }
+{
+    let places = registers::store_places(source, value, dst0, dst1, increment);
+    if !are_registers(source, dst0, dst1) {
+        return false;
+    }
+    if value > registers::LAST_REGISTER {
+        return false;
+    }
+    let operand = registers::source(registers, Place::Register(source));
+    if !is_paid(operand.word, bound) {
+        return false;
+    }
+    let address = Address(word::low_u32(operand.word));
+    if execution::hits(hook, address) {
+        return false;
+    }
+    let word = registers::value(registers, value, kernel);
+    if !write_known(bytes, keys, order, words, page, address, word) {
+        return false;
+    }
+    let next = Operand {
+        word: word::plus_32(operand.word),
+        tagged: false,
+    };
+    write_back::write_store(registers, places, next);
+    true
+}
+
+fn are_registers(source: u32, dst0: u32, dst1: u32) -> bool
+    ensures { λ r. ⌜ r ≡ (leb source 15 && (leb dst0 15 && leb dst1 15)) ⌝ }
+{
+    if source > registers::LAST_REGISTER {
+        return false;
+    }
+    if dst0 > registers::LAST_REGISTER {
+        return false;
+    }
+    dst1 <= registers::LAST_REGISTER
+}
+
+// ---- the instructions
 
 // Reads the word at the operand, in the page of an area, and pays for the area's growth.
 #[no_mangle]
@@ -134,6 +265,7 @@ pub extern "C" fn own_load(
     keys: &[u64],
     order: &[u32],
     words: &[u64],
+    registers: &mut [u64; registers::LENGTH],
     gas: u32,
     heap: u32,
     aux: u32,
@@ -141,89 +273,45 @@ pub extern "C" fn own_load(
     aux_bound: u32,
     panicked: bool,
     in_aux: bool,
-    x0: u64,
-    x1: u64,
-    x2: u64,
-    x3: u64,
-    tagged: bool,
+    source: u32,
+    dst0: u32,
+    dst1: u32,
+    increment: bool,
 ) -> Ran
     requires { ⌜ WellFormed (mem (now bytes) (now keys) (now order) (now words)) ⌝ }
-    ensures { λ r. let m = mem (now (bytes .entry)) (now (keys .entry)) (now (order .entry)) (now (words .entry)) in ⌜ Runs m (Call.Load (areaOf «in_aux») (frameOf gas heap aux «heap_bound» «aux_bound» panicked) (operandFrom x0 x1 x2 x3 tagged)) (frameOf gas heap aux «heap_bound» «aux_bound» panicked) (executionOf r) m ⌝ }
+    ensures { λ r. ⌜ Runs (mem (now (bytes .entry)) (now (keys .entry)) (now (order .entry)) (now (words .entry))) (Call.Load (areaOf «in_aux») (frameOf gas heap aux «heap_bound» «aux_bound» panicked) (registersFrom (now (registers .entry))) (loadPlacesFrom source dst0 dst1 increment)) (frameOf gas heap aux «heap_bound» «aux_bound» panicked) (now (registers .entry)) (executedOf r) (mem (now (bytes .entry)) (now (keys .entry)) (now (order .entry)) (now (words .entry))) (now (registers .exit)) ⌝ }
 {
     let frame = frame_of(gas, heap, aux, heap_bound, aux_bound, panicked);
-    let operand = executions::operand_of(x0, x1, x2, x3, tagged);
     let area = frames::area_of(in_aux);
-    report(load(bytes, keys, order, words, frame, area, operand))
-}
-
-// A word in one piece that a hint knows, on a page without a journal, is written here. All else is behind one call.
-fn write(
-    bytes: &mut [u8],
-    keys: &mut [u64],
-    order: &mut [u32],
-    words: &mut [u64],
-    page: PageId,
-    address: Address,
-    word: Word,
-) -> u32
-    requires { ⌜ WellFormed (mem (now bytes) (now keys) (now order) (now words)) ⌝ }
-    ensures { λ r. ⌜ CallDoes (mem (now (bytes .entry)) (now (keys .entry)) (now (order .entry)) (now (words .entry))) (Call.WriteWord (page .0) (address .0) (value (word .limbs))) (answered r nothing) (mem (now (bytes .exit)) (now (keys .exit)) (now (order .exit)) (now (words .exit))) ⌝ }
-{
-    let s = hints::in_one_piece(keys, order, words, page, address);
-    if s < words[head::CHUNKS] as usize {
-        if hints::has_no_journal(words, page) {
-            let value = word::to_big_endian(word);
-            bodies::copy(&value, 0, bytes, 256 * s + (address.0 % 256) as usize, 32);
-            return 0;
-        }
-    }
-    write_steps::write_word(bytes, keys, order, words, page, address, word)
-}
-
-// A store whose growth is paid and that is not at the hook is a write: refused by its number, or carried out. Where the hook is hit or the growth is not paid, the store is behind one call.
-fn store(
-    bytes: &mut [u8],
-    keys: &mut [u64],
-    order: &mut [u32],
-    words: &mut [u64],
-    frame: Frame,
-    area: Area,
-    operand: Operand,
-    word: Word,
-    hook: Hook,
-) -> Execution
-    requires { ⌜ WellFormed (mem (now bytes) (now keys) (now order) (now words)) ⌝ }
-    ensures { λ r. ⌜ Runs (mem (now (bytes .entry)) (now (keys .entry)) (now (order .entry)) (now (words .entry))) (Call.Store area frame (operandOf operand) (value (word .limbs)) (hookOf hook)) frame r (mem (now (bytes .exit)) (now (keys .exit)) (now (order .exit)) (now (words .exit))) ⌝ }
-{
     let page = execution::page_of(frame, area);
-    let address = Address(word::low_u32(operand.word));
-    let step = execution::reach(frame, area, operand.word);
-    if step.paid {
-        if !execution::hits(hook, address) {
-            let number = write(bytes, keys, order, words, page, address, word);
-            if number != 0 {
-                return execution::refused(number, frame);
-            }
-            let none = execution::no_word();
-            return execution::carried_out(
-                ExecutionStatus::Running,
-                none,
-                operand,
-                false,
-                step.frame,
-            );
-        }
+    let bound = bound_of(frame, area);
+    if load_known(
+        bytes,
+        keys,
+        order,
+        words,
+        registers,
+        page,
+        bound,
+        source,
+        dst0,
+        dst1,
+        increment,
+    ) {
+        return running(gas, heap, aux, heap_bound, aux_bound, panicked);
     }
-    instructions::on_formed::store(bytes, keys, order, words, frame, area, operand, word, hook)
+    let places = registers::load_places(source, dst0, dst1, increment);
+    report(on_formed::load(bytes, keys, order, words, registers, frame, area, places))
 }
 
-// Writes a word at the operand, in the page of an area, and pays for the area's growth; stops on the hook.
+// Writes the word of a register at the operand, in the page of an area, and pays for the area's growth; stops on the hook.
 #[no_mangle]
 pub extern "C" fn own_store(
     bytes: &mut [u8],
     keys: &mut [u64],
     order: &mut [u32],
     words: &mut [u64],
+    registers: &mut [u64; registers::LENGTH],
     gas: u32,
     heap: u32,
     aux: u32,
@@ -231,27 +319,54 @@ pub extern "C" fn own_store(
     aux_bound: u32,
     panicked: bool,
     in_aux: bool,
-    x0: u64,
-    x1: u64,
-    x2: u64,
-    x3: u64,
-    tagged: bool,
-    limb0: u64,
-    limb1: u64,
-    limb2: u64,
-    limb3: u64,
+    source: u32,
+    value: u32,
+    dst0: u32,
+    dst1: u32,
+    increment: bool,
+    kernel: bool,
     hook: bool,
     hook_address: u32,
 ) -> Ran
     requires { ⌜ WellFormed (mem (now bytes) (now keys) (now order) (now words)) ⌝ }
-    ensures { λ r. ⌜ Runs (mem (now (bytes .entry)) (now (keys .entry)) (now (order .entry)) (now (words .entry))) (Call.Store (areaOf «in_aux») (frameOf gas heap aux «heap_bound» «aux_bound» panicked) (operandFrom x0 x1 x2 x3 tagged) (limbsValue limb0 limb1 limb2 limb3) (hookFrom hook «hook_address»)) (frameOf gas heap aux «heap_bound» «aux_bound» panicked) (executionOf r) (mem (now (bytes .exit)) (now (keys .exit)) (now (order .exit)) (now (words .exit))) ⌝ }
+    ensures { λ r. ⌜ Runs (mem (now (bytes .entry)) (now (keys .entry)) (now (order .entry)) (now (words .entry))) (Call.Store (areaOf «in_aux») (frameOf gas heap aux «heap_bound» «aux_bound» panicked) (registersFrom (now (registers .entry))) (storePlacesFrom source value dst0 dst1 increment) kernel (hookFrom hook «hook_address»)) (frameOf gas heap aux «heap_bound» «aux_bound» panicked) (now (registers .entry)) (executedOf r) (mem (now (bytes .exit)) (now (keys .exit)) (now (order .exit)) (now (words .exit))) (now (registers .exit)) ⌝ }
 {
     let frame = frame_of(gas, heap, aux, heap_bound, aux_bound, panicked);
-    let operand = executions::operand_of(x0, x1, x2, x3, tagged);
     let area = frames::area_of(in_aux);
-    let word = frames::word_of(limb0, limb1, limb2, limb3);
+    let page = execution::page_of(frame, area);
+    let bound = bound_of(frame, area);
     let stop = executions::hook_of(hook, hook_address);
-    report(store(bytes, keys, order, words, frame, area, operand, word, stop))
+    if store_known(
+        bytes,
+        keys,
+        order,
+        words,
+        registers,
+        page,
+        bound,
+        source,
+        value,
+        dst0,
+        dst1,
+        increment,
+        kernel,
+        stop,
+    ) {
+        return running(gas, heap, aux, heap_bound, aux_bound, panicked);
+    }
+    let places = registers::store_places(source, value, dst0, dst1, increment);
+    report(on_formed::store(
+        bytes,
+        keys,
+        order,
+        words,
+        registers,
+        frame,
+        area,
+        places,
+        kernel,
+        stop,
+    ))
 }
 
 // Reads the bytes that a pointer shows from its offset on, at most 32.
@@ -261,24 +376,24 @@ pub extern "C" fn own_load_pointer(
     keys: &[u64],
     order: &[u32],
     words: &[u64],
+    registers: &mut [u64; registers::LENGTH],
     gas: u32,
     heap: u32,
     aux: u32,
     heap_bound: u32,
     aux_bound: u32,
     panicked: bool,
-    x0: u64,
-    x1: u64,
-    x2: u64,
-    x3: u64,
-    tagged: bool,
+    source: u32,
+    dst0: u32,
+    dst1: u32,
+    increment: bool,
 ) -> Ran
     requires { ⌜ WellFormed (mem (now bytes) (now keys) (now order) (now words)) ⌝ }
-    ensures { λ r. let m = mem (now (bytes .entry)) (now (keys .entry)) (now (order .entry)) (now (words .entry)) in ⌜ Runs m (Call.LoadPointer (frameOf gas heap aux «heap_bound» «aux_bound» panicked) (operandFrom x0 x1 x2 x3 tagged)) (frameOf gas heap aux «heap_bound» «aux_bound» panicked) (executionOf r) m ⌝ }
+    ensures { λ r. ⌜ Runs (mem (now (bytes .entry)) (now (keys .entry)) (now (order .entry)) (now (words .entry))) (Call.LoadPointer (frameOf gas heap aux «heap_bound» «aux_bound» panicked) (registersFrom (now (registers .entry))) (loadPlacesFrom source dst0 dst1 increment)) (frameOf gas heap aux «heap_bound» «aux_bound» panicked) (now (registers .entry)) (executedOf r) (mem (now (bytes .entry)) (now (keys .entry)) (now (order .entry)) (now (words .entry))) (now (registers .exit)) ⌝ }
 {
     let frame = frame_of(gas, heap, aux, heap_bound, aux_bound, panicked);
-    let operand = executions::operand_of(x0, x1, x2, x3, tagged);
-    report(instructions::on_formed::load_pointer(bytes, keys, order, words, frame, operand))
+    let places = registers::load_places(source, dst0, dst1, increment);
+    report(on_formed::load_pointer(bytes, keys, order, words, registers, frame, places))
 }
 
 // Reads the word at the operand in the static page.
@@ -288,54 +403,51 @@ pub extern "C" fn own_load_static(
     keys: &[u64],
     order: &[u32],
     words: &[u64],
+    registers: &mut [u64; registers::LENGTH],
     gas: u32,
     heap: u32,
     aux: u32,
     heap_bound: u32,
     aux_bound: u32,
     panicked: bool,
-    x0: u64,
-    x1: u64,
-    x2: u64,
-    x3: u64,
-    tagged: bool,
+    source: u32,
+    dst0: u32,
+    dst1: u32,
+    increment: bool,
 ) -> Ran
     requires { ⌜ WellFormed (mem (now bytes) (now keys) (now order) (now words)) ⌝ }
-    ensures { λ r. let m = mem (now (bytes .entry)) (now (keys .entry)) (now (order .entry)) (now (words .entry)) in ⌜ Runs m (Call.LoadStatic (frameOf gas heap aux «heap_bound» «aux_bound» panicked) (operandFrom x0 x1 x2 x3 tagged)) (frameOf gas heap aux «heap_bound» «aux_bound» panicked) (executionOf r) m ⌝ }
+    ensures { λ r. ⌜ Runs (mem (now (bytes .entry)) (now (keys .entry)) (now (order .entry)) (now (words .entry))) (Call.LoadStatic (frameOf gas heap aux «heap_bound» «aux_bound» panicked) (registersFrom (now (registers .entry))) (loadPlacesFrom source dst0 dst1 increment)) (frameOf gas heap aux «heap_bound» «aux_bound» panicked) (now (registers .entry)) (executedOf r) (mem (now (bytes .entry)) (now (keys .entry)) (now (order .entry)) (now (words .entry))) (now (registers .exit)) ⌝ }
 {
     let frame = frame_of(gas, heap, aux, heap_bound, aux_bound, panicked);
-    let operand = executions::operand_of(x0, x1, x2, x3, tagged);
-    report(instructions::on_formed::load_static(bytes, keys, order, words, frame, operand))
+    let places = registers::load_places(source, dst0, dst1, increment);
+    report(on_formed::load_static(bytes, keys, order, words, registers, frame, places))
 }
 
-// Writes a word at the operand in the static page.
+// Writes the word of a register at the operand in the static page.
 #[no_mangle]
 pub extern "C" fn own_store_static(
     bytes: &mut [u8],
     keys: &mut [u64],
     order: &mut [u32],
     words: &mut [u64],
+    registers: &mut [u64; registers::LENGTH],
     gas: u32,
     heap: u32,
     aux: u32,
     heap_bound: u32,
     aux_bound: u32,
     panicked: bool,
-    x0: u64,
-    x1: u64,
-    x2: u64,
-    x3: u64,
-    tagged: bool,
-    limb0: u64,
-    limb1: u64,
-    limb2: u64,
-    limb3: u64,
+    source: u32,
+    value: u32,
+    dst0: u32,
+    dst1: u32,
+    increment: bool,
+    kernel: bool,
 ) -> Ran
     requires { ⌜ WellFormed (mem (now bytes) (now keys) (now order) (now words)) ⌝ }
-    ensures { λ r. ⌜ Runs (mem (now (bytes .entry)) (now (keys .entry)) (now (order .entry)) (now (words .entry))) (Call.StoreStatic (frameOf gas heap aux «heap_bound» «aux_bound» panicked) (operandFrom x0 x1 x2 x3 tagged) (limbsValue limb0 limb1 limb2 limb3)) (frameOf gas heap aux «heap_bound» «aux_bound» panicked) (executionOf r) (mem (now (bytes .exit)) (now (keys .exit)) (now (order .exit)) (now (words .exit))) ⌝ }
+    ensures { λ r. ⌜ Runs (mem (now (bytes .entry)) (now (keys .entry)) (now (order .entry)) (now (words .entry))) (Call.StoreStatic (frameOf gas heap aux «heap_bound» «aux_bound» panicked) (registersFrom (now (registers .entry))) (storePlacesFrom source value dst0 dst1 increment) kernel) (frameOf gas heap aux «heap_bound» «aux_bound» panicked) (now (registers .entry)) (executedOf r) (mem (now (bytes .exit)) (now (keys .exit)) (now (order .exit)) (now (words .exit))) (now (registers .exit)) ⌝ }
 {
     let frame = frame_of(gas, heap, aux, heap_bound, aux_bound, panicked);
-    let operand = executions::operand_of(x0, x1, x2, x3, tagged);
-    let word = frames::word_of(limb0, limb1, limb2, limb3);
-    report(instructions::on_formed::store_static(bytes, keys, order, words, frame, operand, word))
+    let places = registers::store_places(source, value, dst0, dst1, increment);
+    report(on_formed::store_static(bytes, keys, order, words, registers, frame, places, kernel))
 }

@@ -246,7 +246,7 @@ pub extern "C" fn own_chunk<'a>(
 // ---- writes and allocation
 
 // A word in one piece that a hint knows, on a page without a journal, is written here. All else is behind a call: one for a page with a journal, one for a word in one chunk that no hint knows, one for a word over two chunks.
-// `write` in execute.rt does the same for stores. Behind one function for both the compiler would inline it in neither.
+// `write_known` in execute.rt does the first for stores. Behind one function for both the compiler would inline it in neither.
 #[no_mangle]
 pub extern "C" fn own_write_u256(
     bytes: &mut [u8],

@@ -92,11 +92,11 @@ module _ (S : Steps) (C : Contracts S) where
   does Snapshot x l g = C .calls (λ t d e. never (cc)) x (g .shows)
   does (Rollback heap aux) x l g = C .calls (λ t d e. never (cc)) x (g .shows)
   does DeleteHistory x l g = C .calls (λ t d e. never (cc)) x (g .shows)
-  does (Load area f i) x l g = C .calls (λ t d e. never (cc)) x (g .shows)
-  does (Store area f i n h) x l g = C .calls (λ t d e. never (cc)) x (g .shows)
-  does (LoadPointer f i) x l g = C .calls (λ t d e. never (cc)) x (g .shows)
-  does (LoadStatic f i) x l g = C .calls (λ t d e. never (cc)) x (g .shows)
-  does (StoreStatic f i n) x l g = C .calls (λ t d e. never (cc)) x (g .shows)
+  does (Load area f registers places) x l g = C .calls (λ t d e. never (cc)) x (g .shows)
+  does (Store area f registers places kernel h) x l g = C .calls (λ t d e. never (cc)) x (g .shows)
+  does (LoadPointer f registers places) x l g = C .calls (λ t d e. never (cc)) x (g .shows)
+  does (LoadStatic f registers places) x l g = C .calls (λ t d e. never (cc)) x (g .shows)
+  does (StoreStatic f registers places kernel) x l g = C .calls (λ t d e. never (cc)) x (g .shows)
 
   -- ---- every call keeps the invariant
   pub keep : {s : Setting} {m m' : Mem} {p : Plain} {c : Call} {o : Outcome Value} → S m c o m' → Allowed c o → Good s m p

@@ -2,17 +2,19 @@
 -- Assumes nothing.
 use mathlib.Core.Path.{_≡_, refl, sym, ap, _∙_}
 use mathlib.Core.Logic.{⊎-elim}
-use mathlib.Core.List.{List, [], _∷_, _++_}
+use mathlib.Core.List.{List, [], _++_}
 use mathlib.Core.Bool.{Bool, true, false, not, _&&_, _||_, and-false, or-true, or-false, true≢false, false≢true}
 use Prim.Native.Nat.{ℕ, zero, suc, _-_, _/_, _≤_, _<_, zero-le}
 use native.Mathlib.Omega.{arith}
-use lib.Dec.{ltb, eqb}
+use lib.Dec.{eqb}
 use lib.ListN.{length}
 use borrow.Author.Tests.{lt-ltb, le-ltb, le-leb, lt-leb, eq-eqb, ne-eqb, ltb-false, eqb-false}
 use Rattle.index.proofs.Logic.{same-or-not, lt-or-ge}
-use Rattle.outcome.specs.Outcome.{refused, carriedOut}
+use Rattle.outcome.specs.Outcome.{carriedOut}
 use Rattle.word.specs.Value.{wordBytes}
 use Rattle.word.proofs.Digits.{digits-long}
+use Rattle.registers.specs.declared.StorePlaces.{StorePlaces}
+use Rattle.registers.specs.Registers.{Registers, registerNumber, sourceOf, valueOf, storeTakes}
 use Rattle.page_ids.specs.declared.Layout.{Layout}
 use Rattle.state.specs.declared.Frame.{Frame}
 use Rattle.state.specs.declared.Area.{Area}
@@ -22,8 +24,8 @@ use Rattle.formed.specs.Parts.{Note}
 use Rattle.view.specs.View.{View, Setting}
 use Rattle.view.specs.Steps.{touchedCount, needs, written, count, pairs, without, shortened, opened, emptyView, fromGroup}
 use Rattle.view.specs.Checks.{Check, undecodable, wordWriteChecks, byteWriteChecks, allocateChecks, freeChecks}
-use Rattle.view.specs.Instructions.{Operand, Hook, heapOf, staticOf, hooked, storeChecks, stored, staticStoreChecks, staticStored}
-use Rattle.view.specs.Calls.{Call, Open, Allocate, ReadWord, ReadPartial, ReadRange, ReadByte, DynamicLength, WriteWord, WriteBytes, Lookup, LookupCheck, Free, Window, Truncate, CompareLeft, CompareRight, CompareBoth, Snapshot, Rollback, DeleteHistory, Load, Store, LoadPointer, LoadStatic, StoreStatic, Value, nothing, instructionResult, outcomeOf, nextOf}
+use Rattle.view.specs.Instructions.{Hook, heapOf, staticOf, hookChecks, storeChecks, stored, staticStoreChecks, staticStored, placeChecks, storedInto, panickedInto}
+use Rattle.view.specs.Calls.{Call, Open, Allocate, ReadWord, ReadPartial, ReadRange, ReadByte, DynamicLength, WriteWord, WriteBytes, Lookup, LookupCheck, Free, Window, Truncate, CompareLeft, CompareRight, CompareBoth, Snapshot, Rollback, DeleteHistory, Load, Store, LoadPointer, LoadStatic, StoreStatic, Value, nothing, executed, outcomeOf, nextOf}
 use Rattle.view.proofs.Counts.{fixed-only}
 use Rattle.plain.specs.Plain.{Plain, has, member, put, putWord, plainWithout, follow, freshPlain, seen}
 use Rattle.plain.proofs.Tests.{Clear, clear}
@@ -163,15 +165,23 @@ module _ (s : Setting) (v : View) where
   write-clear : (p a : ℕ) (rest : List (Check Value)) → Clear (wordWriteChecks s v p a ++ rest) → Written s v p a 32
   write-clear p a rest c = record { known = c .0; room = ltb-false (v .pool) (needs v p a 32) (c .1 .1 .0); entry = entry-left (v .allocated p) (v .entriesLeft) (c .1 .0) }
 
-  store-passed : (area : Area) (f : Frame) (x : Operand) (n : ℕ) (h : Hook) → carriedOut (outcomeOf s (Store area f x n h) v) ≡ true → Written s v (heapOf f area) (x .word) 32
-  store-passed area f x n h e =
-      let c = clear (storeChecks instructionResult s v area f (x .word) n h) (instructionResult (stored area f x n h)) e in
-      write-clear (heapOf f area) (x .word) ((hooked h (x .word) && ltb 4294967295 n, refused 15) ∷ []) (c .1)
+  -- two checks come before those: of the places, and of the access or the address
+  store-passed : (area : Area) (f : Frame) (g : Registers) (p : StorePlaces) (kernel : Bool) (h : Hook) → carriedOut (outcomeOf s (Store area f g p kernel h) v) ≡ true
+      → Written s v (heapOf f area) (sourceOf g (p .source) .word) 32
+  store-passed area f g p kernel h e =
+      let x = sourceOf g (p .source) in
+      let n = valueOf kernel g (registerNumber (p .value)) in
+      let c =
+      clear (placeChecks (storeTakes p) ++ storeChecks (λ r. executed (panickedInto g (p .dst1) r)) s v area f (x .word) n h) (executed (storedInto g p (stored area f x n h))) e in
+      write-clear (heapOf f area) (x .word) (hookChecks h (x .word) n) (c .1 .1)
 
-  static-passed : (f : Frame) (x : Operand) (n : ℕ) → carriedOut (outcomeOf s (StoreStatic f x n) v) ≡ true → Written s v (staticOf (s .layout)) (x .word) 32
-  static-passed f x n e =
-      let c = clear (staticStoreChecks instructionResult s v f (x .word)) (instructionResult (staticStored f x)) e in
-      write-clear (staticOf (s .layout)) (x .word) [] (c .1)
+  static-passed : (f : Frame) (g : Registers) (p : StorePlaces) (kernel : Bool) → carriedOut (outcomeOf s (StoreStatic f g p kernel) v) ≡ true
+      → Written s v (staticOf (s .layout)) (sourceOf g (p .source) .word) 32
+  static-passed f g p kernel e =
+      let x = sourceOf g (p .source) in
+      let c =
+      clear (placeChecks (storeTakes p) ++ staticStoreChecks (λ r. executed (panickedInto g (p .dst1) r)) s v f (x .word)) (executed (storedInto g p (staticStored f x))) e in
+      write-clear (staticOf (s .layout)) (x .word) [] (c .1 .1)
 
 -- a window and a truncation name dynamic pages alone
 pub window-loose : (l : Layout) (p q : ℕ) (b : Bool) → fixed l q ≡ true → ((eqb q p && dynamic l p) && b) ≡ false
@@ -207,11 +217,15 @@ module _ (s : Setting) (m : Plain) where
   seen-follow Snapshot e k = refl
   seen-follow (Rollback heap aux) e k = refl
   seen-follow DeleteHistory e k = refl
-  seen-follow (Load area f x) e k = refl
-  seen-follow (Store area f x n h) e k = seen-put s (heapOf f area) (x .word) (wordBytes n) _ m (store-passed s (seen s m) area f x n h e .known)
-  seen-follow (LoadPointer f x) e k = refl
-  seen-follow (LoadStatic f x) e k = refl
-  seen-follow (StoreStatic f x n) e k = seen-put s (staticOf (s .layout)) (x .word) (wordBytes n) _ m (static-passed s (seen s m) f x n e .known)
+  seen-follow (Load area f g p) e k = refl
+  seen-follow (Store area f g p kernel h) e k =
+      seen-put s (heapOf f area) (sourceOf g (p .source) .word) (wordBytes (valueOf kernel g (registerNumber (p .value)))) _ m
+      (store-passed s (seen s m) area f g p kernel h e .known)
+  seen-follow (LoadPointer f g p) e k = refl
+  seen-follow (LoadStatic f g p) e k = refl
+  seen-follow (StoreStatic f g p kernel) e k =
+      seen-put s (staticOf (s .layout)) (sourceOf g (p .source) .word) (wordBytes (valueOf kernel g (registerNumber (p .value)))) _ m
+      (static-passed s (seen s m) f g p kernel e .known)
 
   fits-word : (p a n : ℕ) → Written s (seen s m) p a 32 → Fits s m → Fits s (putWord (s .layout) p a n m)
   fits-word p a n w f = fits-put s p a (wordBytes n) _ m f (w .known) (rw (digits-long 32 n) (w .room)) (w .entry)
@@ -237,11 +251,13 @@ module _ (s : Setting) (m : Plain) where
   fits-follow Snapshot e f = f
   fits-follow (Rollback heap aux) e f = record { chunks = f .chunks; pages = f .pages }
   fits-follow DeleteHistory e f = record { chunks = f .chunks; pages = f .pages }
-  fits-follow (Load area g x) e f = f
-  fits-follow (Store area g x n h) e f = fits-word (heapOf g area) (x .word) n (store-passed s (seen s m) area g x n h e) f
-  fits-follow (LoadPointer g x) e f = f
-  fits-follow (LoadStatic g x) e f = f
-  fits-follow (StoreStatic g x n) e f = fits-word (staticOf (s .layout)) (x .word) n (static-passed s (seen s m) g x n e) f
+  fits-follow (Load area frame g p) e f = f
+  fits-follow (Store area frame g p kernel h) e f =
+      fits-word (heapOf frame area) (sourceOf g (p .source) .word) (valueOf kernel g (registerNumber (p .value))) (store-passed s (seen s m) area frame g p kernel h e) f
+  fits-follow (LoadPointer frame g p) e f = f
+  fits-follow (LoadStatic frame g p) e f = f
+  fits-follow (StoreStatic frame g p kernel) e f =
+      fits-word (staticOf (s .layout)) (sourceOf g (p .source) .word) (valueOf kernel g (registerNumber (p .value))) (static-passed s (seen s m) frame g p kernel e) f
 
 -- ---- an opening: it puts calldata on an empty map
 abbrev empty : Plain

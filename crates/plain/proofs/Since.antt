@@ -15,6 +15,7 @@ use Rattle.index.proofs.Logic.{same-or-not, and-false-right}
 use Rattle.outcome.specs.Outcome.{Outcome, carriedOut}
 use Rattle.word.specs.Value.{wordBytes}
 use Rattle.word.proofs.Digits.{digits-long}
+use Rattle.registers.specs.Registers.{registerNumber, sourceOf, valueOf}
 use Rattle.page_ids.specs.declared.Layout.{Layout}
 use Rattle.formed.specs.Pages.{LayoutRule, fixed, journalCount, journalPlace, journalPage}
 use Rattle.formed.specs.Parts.{Note, tab}
@@ -182,8 +183,10 @@ module _ (s : Setting) (r : LayoutRule (s .layout)) (heap aux : ℕ) (f : ℕ �
       let u = k .1 x y refl t in
       since-back (s .layout) r (marks heap aux) f x y p h (marks-le heap aux x y (u .0) (u .1))
   since-follow DeleteHistory e k h = absurd (true≢false (sym t ∙ k .0 refl))
-  since-follow (Load area g x) e k h = h
-  since-follow (Store area g x n z) e k h = since-word (heapOf g area) (x .word) n h
-  since-follow (LoadPointer g x) e k h = h
-  since-follow (LoadStatic g x) e k h = h
-  since-follow (StoreStatic g x n) e k h = since-word (staticOf (s .layout)) (x .word) n h
+  since-follow (Load area frame g places) e k h = h
+  since-follow (Store area frame g places kernel hook) e k h =
+      since-word (heapOf frame area) (sourceOf g (places .source) .word) (valueOf kernel g (registerNumber (places .value))) h
+  since-follow (LoadPointer frame g places) e k h = h
+  since-follow (LoadStatic frame g places) e k h = h
+  since-follow (StoreStatic frame g places kernel) e k h =
+      since-word (staticOf (s .layout)) (sourceOf g (places .source) .word) (valueOf kernel g (registerNumber (places .value))) h

@@ -10,6 +10,7 @@ use Rattle.word.specs.Value.{wordBytes}
 use Rattle.formed.specs.Pages.{fixed, dynamic, group}
 use Rattle.formed.specs.Parts.{Note, tab}
 use Rattle.page_ids.specs.declared.Layout.{Layout}
+use Rattle.registers.specs.Registers.{registerNumber, sourceOf, valueOf}
 use Rattle.view.specs.View.{View, Setting}
 use Rattle.view.specs.Steps.{over, fromGroup, touchedCount, touches, alignedCount, journalled, rolledCount, rolledBytes, marks, cut}
 use Rattle.view.specs.Instructions.{heapOf, staticOf}
@@ -111,12 +112,12 @@ follow l Snapshot m = m
 follow l (Rollback heap aux) m =
     withPlainBytes (rolledBytes l (marks heap aux) (m .journal) rolledCount (m .bytes)) (withPlainJournal (cut (marks heap aux) (m .journal)) m)
 follow l DeleteHistory m = withPlainJournal (λ j. []) m
-follow l (Load area f x) m = m
--- stores are word writes
-follow l (Store area f x n h) m = putWord l (heapOf f area) (x .word) n m
-follow l (LoadPointer f x) m = m
-follow l (LoadStatic f x) m = m
-follow l (StoreStatic f x n) m = putWord l (staticOf l) (x .word) n m
+follow l (Load area f g p) m = m
+-- stores are word writes, of what the register of their value has
+follow l (Store area f g p kernel h) m = putWord l (heapOf f area) (sourceOf g (p .source) .word) (valueOf kernel g (registerNumber (p .value))) m
+follow l (LoadPointer f g p) m = m
+follow l (LoadStatic f g p) m = m
+follow l (StoreStatic f g p kernel) m = putWord l (staticOf l) (sourceOf g (p .source) .word) (valueOf kernel g (registerNumber (p .value))) m
 
 -- a refused or panicking call is no step
 abbrev pub feed : Layout → Call → Outcome Value → Plain → Plain

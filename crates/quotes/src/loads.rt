@@ -1,10 +1,17 @@
 // The loads of a list, one after another.
 use execution::ExecutionStatus;
-use execution::Operand;
 use page_ids::PageId;
 use state::Area;
 use state::Frame;
 use word::Word;
+use write_back::Executed;
+
+// The registers of a load: its address, the word that it reads, and the address of the next word.
+const ADDRESS: u32 = 1;
+
+const WORD: u32 = 3;
+
+const NEXT: u32 = 4;
 
 // How loads ended: the gas left, the area's bound, how many were carried out, and whether one panicked.
 pub struct Ran {
@@ -55,13 +62,34 @@ fn wide(x: u32) -> u64 {
     x as u64
 }
 
-fn at(address: u32) -> Operand {
+fn word_of(address: u32) -> Word {
     let limbs = [wide(address), 0, 0, 0];
-    let word = Word { limbs: limbs };
-    Operand {
-        word: word,
-        tagged: false,
-    }
+    Word { limbs: limbs }
+}
+
+// A load at an address, with registers of its own: only its frame and its status count here.
+fn load_at(
+    bytes: &[u8],
+    keys: &[u64],
+    order: &[u32],
+    words: &[u64],
+    frame: Frame,
+    area: Area,
+    address: u32,
+) -> Executed {
+    let mut registers = [0u64; registers::LENGTH];
+    registers::set(&mut registers, ADDRESS, word_of(address), false);
+    let places = registers::load_places(ADDRESS, WORD, NEXT, true);
+    instructions::load(
+        bytes,
+        keys,
+        order,
+        words,
+        &mut registers,
+        frame,
+        area,
+        places,
+    )
 }
 
 fn goes_on(status: ExecutionStatus) -> bool {
@@ -87,7 +115,7 @@ pub fn run(
     let mut last = frame(gas, bound, area);
     let mut i: usize = 0;
     while i < list.len() {
-        let e = instructions::load(bytes, keys, order, words, last, area, at(list[i]));
+        let e = load_at(bytes, keys, order, words, last, area, list[i]);
         let status = e.status;
         let left = e.frame;
         last = left;

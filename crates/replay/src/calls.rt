@@ -66,6 +66,10 @@ pub const GROW: u8 = b'G';
 
 pub const EXECUTE: u8 = b'x';
 
+pub const EXECUTE_KEPT: u8 = b'X';
+
+pub const SET_REGISTER: u8 = b'R';
+
 // ---- numbers
 
 // The places of the numbers that several calls have.

@@ -1,4 +1,4 @@
-// The calls that change a memory.
+// The calls that change a memory or the registers, and the instructions.
 ghost use Prim.Native.Nat.{_≤_};
 ghost use mathlib.Core.Path.{_≡_};
 ghost use lib.ListN.{length};
@@ -7,6 +7,7 @@ use crate::calls;
 use crate::calls::Call;
 use crate::content;
 use crate::content::CONTENT;
+use crate::kept;
 use crate::machine;
 use crate::memories;
 use crate::memories::ALL_BYTES;
@@ -19,6 +20,7 @@ use crate::memories::ORDER;
 use crate::memories::WORDS;
 use crate::numbers::Numbers;
 use outcome::Answer;
+use registers::LENGTH;
 
 // ---- the places of numbers
 
@@ -180,6 +182,7 @@ fn on_memory(
     keys: &mut [u64],
     order: &mut [u32],
     words: &mut [u64],
+    registers: &mut [u64; LENGTH],
     call: Call,
 ) -> Numbers {
     let letter = call.letter;
@@ -193,7 +196,8 @@ fn on_memory(
         calls::ALLOCATE_WITH_CONTENT | calls::WRITE_BYTES | calls::OPEN => {
             with_content(bytes, keys, order, words, call)
         }
-        calls::EXECUTE => machine::store(bytes, keys, order, words, call),
+        calls::EXECUTE => machine::execute(bytes, keys, order, words, call),
+        calls::EXECUTE_KEPT => machine::execute_kept(bytes, keys, order, words, registers, call),
         _ => Numbers::none(),
     }
 }
@@ -206,6 +210,7 @@ fn on_part(
     keys: &mut [u64],
     order: &mut [u32],
     words: &mut [u64],
+    registers: &mut [u64; LENGTH],
     memory: usize,
     call: Call,
 ) -> Numbers
@@ -220,17 +225,22 @@ fn on_part(
         &mut keys[k..k + KEYS],
         &mut order[o..o + ORDER],
         &mut words[w..w + WORDS],
+        registers,
         call,
     )
 }
 
-// The answer to a call that changes a memory; none for any other.
+// The answer to a call that changes a memory or the registers, or that runs an instruction; none for any other.
 pub fn answer(
     bytes: &mut [u8; ALL_BYTES],
     keys: &mut [u64; ALL_KEYS],
     order: &mut [u32; ALL_ORDER],
     words: &mut [u64; ALL_WORDS],
+    registers: &mut [u64; LENGTH],
     call: Call,
 ) -> Numbers {
-    on_part(bytes, keys, order, words, call.memory(), call)
+    if call.letter == calls::SET_REGISTER {
+        return kept::set(registers, call);
+    }
+    on_part(bytes, keys, order, words, registers, call.memory(), call)
 }

@@ -38,6 +38,7 @@ pub fn fits(letter: u8, numbers: Numbers) -> bool {
         calls::POINTER => has_form(numbers, b"wwww"),
         calls::POINTER_WORD => has_form(numbers, b"nnnn"),
         calls::GROW => has_form(numbers, b"nnnnnsn"),
+        calls::SET_REGISTER => has_form(numbers, b"nwwwws"),
         _ => fits_on_memory(letter, numbers),
     }
 }
@@ -61,6 +62,7 @@ fn fits_on_memory(letter: u8, numbers: Numbers) -> bool {
         calls::WRITE_WORD => has_form(numbers, b"snnwwww"),
         calls::OPEN => has_form(numbers, b"snnnnnnnn"),
         calls::EXECUTE => has_form(numbers, b"snnnnnnswwwwswwwwsn"),
+        calls::EXECUTE_KEPT => has_form(numbers, b"snnnnnnsnnnnsssn"),
         _ => false,
     }
 }

@@ -6,6 +6,7 @@ mod changes;
 mod content;
 mod forms;
 mod input;
+mod kept;
 mod machine;
 mod memories;
 mod numbers;

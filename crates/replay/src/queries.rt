@@ -4,7 +4,6 @@ use crate::calls;
 use crate::calls::Call;
 use crate::content;
 use crate::content::CONTENT;
-use crate::machine;
 use crate::memories;
 use crate::memories::ALL_BYTES;
 use crate::memories::ALL_KEYS;
@@ -149,7 +148,6 @@ fn on_memory(bytes: &[u8], keys: &[u64], order: &[u32], words: &[u64], call: Cal
         calls::DYNAMIC_LENGTH => length_read(reads::dynamic_len(bytes, keys, order, words)),
         calls::SNAPSHOT => marks_read(reads::snapshot(bytes, keys, order, words)),
         calls::COUNTS => counts(bytes, keys, order, words),
-        calls::EXECUTE => machine::load(bytes, keys, order, words, call),
         _ => Numbers::none(),
     }
 }

@@ -16,6 +16,7 @@ use crate::queries;
 use crate::report;
 use crate::report::Report;
 use page_ids::Layout;
+use registers::LENGTH;
 
 // The first byte of a line that is no call.
 const COMMENT: u8 = b'#';
@@ -45,6 +46,7 @@ fn answer(
     keys: &mut [u64; ALL_KEYS],
     order: &mut [u32; ALL_ORDER],
     words: &mut [u64; ALL_WORDS],
+    registers: &mut [u64; LENGTH],
     call: Call,
     layout: Layout,
 ) -> Numbers {
@@ -52,7 +54,7 @@ fn answer(
     if computed.count != 0 {
         return computed;
     }
-    let changed = changes::answer(bytes, keys, order, words, call);
+    let changed = changes::answer(bytes, keys, order, words, registers, call);
     if changed.count != 0 {
         return changed;
     }
@@ -124,6 +126,7 @@ pub fn replay(
 ) {
     let mut block = [0u8; input::BLOCK];
     let mut line = [0u8; LINE];
+    let mut registers = [0u64; LENGTH];
     let mut cursor = input::empty(false);
     let mut run = new_run();
     let mut number: u64 = 1;
@@ -131,7 +134,15 @@ pub fn replay(
         cursor = input::read_line(&mut block, &mut line, cursor);
         let stored = parse::read_call(&line, cursor.length);
         run = with_layout(run, stored.call);
-        let answer = answer(bytes, keys, order, words, stored.call, run.layout);
+        let answer = answer(
+            bytes,
+            keys,
+            order,
+            words,
+            &mut registers,
+            stored.call,
+            run.layout,
+        );
         run = after_line(run, &line, cursor.length, number, stored.expected, answer);
         number = next_number(number, cursor.ended);
     }

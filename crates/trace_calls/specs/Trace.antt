@@ -11,7 +11,7 @@ use Rattle.store.specs.Mem.{Mem, mem}
 use Rattle.formed.specs.Buffers.{bytesFor, keysFor, orderFor, wordsFor}
 use Rattle.view.specs.View.{Setting}
 use Rattle.view.specs.Checks.{openingChecks, lengthsRight}
-use Rattle.view.specs.Calls.{Call, WriteWord, ReadWord, Snapshot, Rollback, Value, nothing, number, lengths, bytes, verdict, instructionResult, answerOf, CallDoes, OpenDoes}
+use Rattle.view.specs.Calls.{Call, WriteWord, ReadWord, Snapshot, Rollback, Value, nothing, number, lengths, bytes, verdict, executed, answerOf, CallDoes, OpenDoes}
 use Rattle.page_ids.specs.Decode.{layoutFrom}
 use Rattle.opening.specs.Opening.{settingFrom}
 use Rattle.trace.specs.Language.{Line, opens, writes, reads, takesSnapshot, rollsBack}
@@ -27,7 +27,7 @@ reported (outcome.done (number n)) = word n
 reported (outcome.done (lengths h a)) = marks h a
 reported (outcome.done (bytes bs)) = unread
 reported (outcome.done (verdict b)) = unread
-reported (outcome.done (instructionResult g)) = unread
+reported (outcome.done (executed g)) = unread
 reported (outcome.panicked v) = unread
 
 -- ---- one call, on the buffers m of just its memory: it is answered with t, and leaves the buffers m'

@@ -2,7 +2,7 @@
 -- Assumes nothing.
 use mathlib.Core.Path.{_≡_}
 use mathlib.Core.Bool.{Bool, false, cond, _&&_}
-use mathlib.Core.List.{List, []}
+use mathlib.Core.List.{List, [], _++_}
 use Prim.Native.Nat.{ℕ, _*_, _-_}
 use lib.Dec.{eqb}
 use lib.ListN.{length}
@@ -10,6 +10,9 @@ use Rattle.outcome.specs.Outcome.{Outcome, done, carriedOut, firstOf, refusalNu
 use Rattle.word.specs.Value.{bigEndian, wordBytes}
 use Rattle.state.specs.declared.Frame.{Frame}
 use Rattle.state.specs.declared.Area.{Area}
+use Rattle.registers.specs.declared.LoadPlaces.{LoadPlaces}
+use Rattle.registers.specs.declared.StorePlaces.{StorePlaces}
+use Rattle.registers.specs.Registers.{Registers, registerNumber, sourceOf, valueOf, loadTakes, pointerTakes, storeTakes}
 use Rattle.store.specs.Mem.{Mem, layoutOf}
 use Rattle.formed.specs.Buffers.{lengthsAre}
 use Rattle.formed.specs.Formed.{wellFormed, zeros}
@@ -17,7 +20,7 @@ use Rattle.view.specs.View.{View, Setting, settingOf, viewOf}
 use Rattle.view.specs.Steps.{run, padded, wordWritten, bytesWritten, contentsAllocated, freed, windowed, truncated, alike, marks, rolledBack, forgotten, opened}
 use Rattle.view.specs.Does.{Does}
 use Rattle.view.specs.Checks.{Check, ifFormed, onMemory, wordWriteChecks, byteWriteChecks, allocateChecks, partialChecks, rangeChecks, lookupChecks, freeChecks, truncateChecks, compareChecks, rollbackChecks, openingChecks, lengthsRight, bytesLength, keysLength, orderLength, wordsLength}
-use Rattle.view.specs.Instructions.{Operand, Hook, InstructionResult, heapOf, staticOf, accessChecks, loaded, storeChecks, stored, pointerChecks, pointed, staticChecks, staticLoaded, staticStoreChecks, staticStored}
+use Rattle.view.specs.Instructions.{Hook, Executed, heapOf, staticOf, accessChecks, loaded, storeChecks, stored, pointerChecks, pointed, staticChecks, staticLoaded, staticStoreChecks, staticStored, placeChecks, loadedInto, storedInto, panickedInto}
 
 pub data Call : Type 0 where
   Open : (setting : Setting) (calldata : List ℕ) → Call
@@ -45,15 +48,15 @@ pub data Call : Type 0 where
   Rollback : (heap aux : ℕ) → Call
   DeleteHistory : Call
   -- the instructions
-  Load : (area : Area) (frame : Frame) (operand : Operand) → Call
-  Store : (area : Area) (frame : Frame) (operand : Operand) (word : ℕ) (hook : Hook) → Call
-  LoadPointer : (frame : Frame) (operand : Operand) → Call
-  LoadStatic : (frame : Frame) (operand : Operand) → Call
-  StoreStatic : (frame : Frame) (operand : Operand) (word : ℕ) → Call
+  Load : (area : Area) (frame : Frame) (registers : Registers) (places : LoadPlaces) → Call
+  Store : (area : Area) (frame : Frame) (registers : Registers) (places : StorePlaces) (kernel : Bool) (hook : Hook) → Call
+  LoadPointer : (frame : Frame) (registers : Registers) (places : LoadPlaces) → Call
+  LoadStatic : (frame : Frame) (registers : Registers) (places : LoadPlaces) → Call
+  StoreStatic : (frame : Frame) (registers : Registers) (places : StorePlaces) (kernel : Bool) → Call
 
 pub data Value : Type 0 where
   nothing : Value
-  instructionResult : (result : InstructionResult) → Value
+  executed : (result : Executed) → Value
   number : (n : ℕ) → Value
   -- of the journals of the bootloader heap and of the bootloader aux heap
   lengths : (heap aux : ℕ) → Value
@@ -103,11 +106,22 @@ outcomeOf s CompareBoth v = done (verdict (alike v v))
 outcomeOf s Snapshot v = done (lengths (length (v .journal 0)) (length (v .journal 1)))
 outcomeOf s (Rollback heap aux) v = firstOf (rollbackChecks v heap aux) (done nothing)
 outcomeOf s DeleteHistory v = done nothing
-outcomeOf s (Load area f x) v = firstOf (accessChecks instructionResult area f (x .word)) (done (instructionResult (loaded v area f x)))
-outcomeOf s (Store area f x n h) v = firstOf (storeChecks instructionResult s v area f (x .word) n h) (done (instructionResult (stored area f x n h)))
-outcomeOf s (LoadPointer f x) v = firstOf (pointerChecks instructionResult f x) (done (instructionResult (pointed v f x)))
-outcomeOf s (LoadStatic f x) v = firstOf (staticChecks instructionResult f (x .word)) (done (instructionResult (staticLoaded s v f x)))
-outcomeOf s (StoreStatic f x n) v = firstOf (staticStoreChecks instructionResult s v f (x .word)) (done (instructionResult (staticStored f x)))
+outcomeOf s (Load area f g p) v =
+    let x = sourceOf g (p .source) in
+    firstOf (placeChecks (loadTakes p) ++ accessChecks (λ r. executed (panickedInto g (p .dst1) r)) area f (x .word)) (done (executed (loadedInto g p (loaded v area f x))))
+outcomeOf s (Store area f g p kernel h) v =
+    let x = sourceOf g (p .source) in
+    let n = valueOf kernel g (registerNumber (p .value)) in
+    firstOf (placeChecks (storeTakes p) ++ storeChecks (λ r. executed (panickedInto g (p .dst1) r)) s v area f (x .word) n h) (done (executed (storedInto g p (stored area f x n h))))
+outcomeOf s (LoadPointer f g p) v =
+    let x = sourceOf g (p .source) in
+    firstOf (placeChecks (pointerTakes p) ++ pointerChecks (λ r. executed (panickedInto g (p .dst1) r)) f x) (done (executed (loadedInto g p (pointed v f x))))
+outcomeOf s (LoadStatic f g p) v =
+    let x = sourceOf g (p .source) in
+    firstOf (placeChecks (loadTakes p) ++ staticChecks (λ r. executed (panickedInto g (p .dst1) r)) f (x .word)) (done (executed (loadedInto g p (staticLoaded s v f x))))
+outcomeOf s (StoreStatic f g p kernel) v =
+    let x = sourceOf g (p .source) in
+    firstOf (placeChecks (storeTakes p) ++ staticStoreChecks (λ r. executed (panickedInto g (p .dst1) r)) s v f (x .word)) (done (executed (storedInto g p (staticStored f x))))
 
 -- WHAT IT DOES to the view where it is carried out (an accepted opening starts a list and stands in none)
 abbrev pub nextOf : Setting → Call → View → View
@@ -131,11 +145,12 @@ nextOf s CompareBoth v = v
 nextOf s Snapshot v = v
 nextOf s (Rollback heap aux) v = rolledBack (s .layout) (marks heap aux) v
 nextOf s DeleteHistory v = forgotten v
-nextOf s (Load area f x) v = v
-nextOf s (Store area f x n h) v = wordWritten (s .layout) (heapOf f area) (x .word) (wordBytes n) v
-nextOf s (LoadPointer f x) v = v
-nextOf s (LoadStatic f x) v = v
-nextOf s (StoreStatic f x n) v = wordWritten (s .layout) (staticOf (s .layout)) (x .word) (wordBytes n) v
+nextOf s (Load area f g p) v = v
+-- a store writes the word of its value's register, without page and start where it is tagged and kernel mode is off
+nextOf s (Store area f g p kernel h) v = wordWritten (s .layout) (heapOf f area) (sourceOf g (p .source) .word) (wordBytes (valueOf kernel g (registerNumber (p .value)))) v
+nextOf s (LoadPointer f g p) v = v
+nextOf s (LoadStatic f g p) v = v
+nextOf s (StoreStatic f g p kernel) v = wordWritten (s .layout) (staticOf (s .layout)) (sourceOf g (p .source) .word) (wordBytes (valueOf kernel g (registerNumber (p .value)))) v
 
 -- ---- THE CONTRACT
 abbrev pub answerOf : Mem → Call → Outcome Value

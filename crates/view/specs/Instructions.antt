@@ -1,4 +1,4 @@
--- The five instructions: their operands, when they panic or are refused, and what they give. What a store does to the memory is a word write (Steps).
+-- The five instructions: when they panic or are refused, what they compute of an operand, and which registers they write. What a store does to the memory is a word write (Steps).
 -- Assumes nothing.
 use mathlib.Core.Bool.{Bool, true, false, cond, not, _&&_}
 use mathlib.Core.List.{List, [], _∷_, _++_}
@@ -6,6 +6,10 @@ use Prim.Native.Nat.{ℕ, _+_, _-_, _%_, _^_, min}
 use lib.Dec.{ltb, eqb}
 use Rattle.outcome.specs.Outcome.{refused, panicked}
 use Rattle.word.specs.Value.{bigEndian, lastAddress}
+use Rattle.registers.specs.declared.Place.{Place}
+use Rattle.registers.specs.declared.LoadPlaces.{LoadPlaces}
+use Rattle.registers.specs.declared.StorePlaces.{StorePlaces}
+use Rattle.registers.specs.Registers.{Registers, Operand, withRegister, cleared, registerNumber}
 use Rattle.page_ids.specs.declared.Layout.{Layout}
 use Rattle.fat_pointer.specs.declared.FatPointer.{FatPointer}
 use Rattle.fat_pointer.specs.Pointer.{pointerOf}
@@ -17,11 +21,6 @@ use Rattle.view.specs.View.{View, Setting}
 use Rattle.view.specs.Steps.{run, padded}
 use Rattle.view.specs.Checks.{Check, wordWriteChecks}
 
--- an operand: the number of its word, and whether it is tagged as a pointer
-pub record Operand : Type 0 where
-  pub word : ℕ
-  pub tag : Bool
-
 -- whether hooking is on, and the hook address
 pub record Hook : Type 0 where
   pub on : Bool
@@ -32,11 +31,17 @@ pub data Stop : Type 0 where
   running : Stop
   onHook : ℕ → Stop
 
--- what an instruction gives: the word that it read (0 where it reads none), the incremented operand with its tag, the frame, and the stop
+-- what an instruction computes: the word that it read (0 where it reads none), the incremented operand with its tag, the frame, and the stop
 pub record InstructionResult : Type 0 where
   pub word : ℕ
   pub operand : Operand
   pub frame : Frame
+  pub stop : Stop
+
+-- what an instruction leaves: its frame, its registers, and the stop
+pub record Executed : Type 0 where
+  pub frame : Frame
+  pub registers : Registers
   pub stop : Stop
 
 -- ---- frames
@@ -52,7 +57,7 @@ staticOf l = l .«static_memory» .0
 abbrev pub withPanicked : Frame → Frame
 withPanicked f = record { gas = f .gas; heap = f .heap; aux = f .aux; «heap_bound» = f .«heap_bound»; «aux_bound» = f .«aux_bound»; panicked = true }
 
--- no word and no operand are given, and the frame is f: what a refused instruction leaves, its frame being as it was
+-- no word and no operand are given, and the frame is f: what a refused step answers, its frame being as it was
 abbrev pub frameAlone : Frame → InstructionResult
 frameAlone f = record { word = 0; operand = record { word = 0; tag = false }; frame = f; stop = running }
 
@@ -147,3 +152,25 @@ pointed v f x =
       frame = f;
       stop = running;
     }
+
+-- ---- the registers
+-- 16: a place is not one that the instruction takes; `takes` says whether all are
+abbrev pub placeChecks : {A : Type 0} → (takes : Bool) → List (Check A)
+placeChecks takes = (not takes, refused 16) ∷ []
+
+-- a load writes the word to dst0, and then dst1: the operand plus 32 where it increments, else 0
+abbrev pub loadedInto : Registers → LoadPlaces → InstructionResult → Executed
+loadedInto g p r =
+    let h = withRegister (registerNumber (p .dst0)) (r .word) false g in
+    let n = registerNumber (p .dst1) in
+    record { frame = r .frame; registers = cond (p .increment) (withRegister n (r .operand .word) (r .operand .tag) h) (cleared n h); stop = r .stop }
+
+-- a store writes the operand plus 32 to dst0 where it increments, and clears dst1
+abbrev pub storedInto : Registers → StorePlaces → InstructionResult → Executed
+storedInto g p r =
+    let h = cond (p .increment) (withRegister (registerNumber (p .dst0)) (r .operand .word) (r .operand .tag) g) g in
+    record { frame = r .frame; registers = cleared (registerNumber (p .dst1)) h; stop = r .stop }
+
+-- an EraVM panic leaves dst0 and clears dst1
+abbrev pub panickedInto : Registers → (dst1 : Place) → InstructionResult → Executed
+panickedInto g dst1 r = record { frame = r .frame; registers = cleared (registerNumber dst1) g; stop = r .stop }

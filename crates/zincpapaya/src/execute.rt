@@ -1,12 +1,17 @@
-// The five instructions. `frame` has six numbers and `out` ten; a refused instruction leaves both as they were, and a panic sets `frame` alone.
-ghost use Rattle.word.specs.Value.{limbsValue};
+// The five instructions. `frame` has six numbers and `registers` 65; a refused instruction leaves both as they were.
+// A place is a number: that of a register, or 65,536 plus an immediate; from 131,072 on it is another form. `out` of a store has one number, the hook's value.
+ghost use mathlib.Core.Path.{_≡_};
+ghost use mathlib.Core.Bool.{_&&_};
+ghost use lib.Dec.{eqb};
+ghost use lib.ListN.{length, getD};
+ghost use Rattle.registers.specs.Registers.{registersFrom, loadPlacesFrom, storePlacesFrom};
 ghost use Rattle.store.specs.Mem.{mem};
 ghost use Rattle.view.specs.Calls.{Call};
 ghost use Rattle.frames.specs.Frames.{frameFrom, areaOf};
-ghost use Rattle.abi.specs.Executing.{operandFrom, hookFrom, Executes};
+ghost use Rattle.abi.specs.Executing.{hookFrom, fit, Executes};
 use abi::executions;
-use abi::executions::OUT_LENGTH;
 use abi::status::UNFIT;
+use instructions::on_formed;
 
 // Reads the word at the operand, in the page of an area, and pays for the area's growth.
 #[no_mangle]
@@ -16,27 +21,29 @@ pub extern "C" fn zp_load(
     order: &[u32],
     words: &[u64],
     frame: &mut [u32],
+    registers: &mut [u64],
     aux: bool,
-    x0: u64,
-    x1: u64,
-    x2: u64,
-    x3: u64,
-    tagged: bool,
-    out: &mut [u64],
+    source: u32,
+    dst0: u32,
+    dst1: u32,
+    increment: bool,
 ) -> u32
-    ensures { λ r. ⌜ Executes (mem (now (bytes .entry)) (now (keys .entry)) (now (order .entry)) (now (words .entry))) (Call.Load (areaOf aux) (frameFrom (now (frame .entry))) (operandFrom x0 x1 x2 x3 tagged)) (now (frame .entry)) (now (out .entry)) r (mem (now (bytes .entry)) (now (keys .entry)) (now (order .entry)) (now (words .entry))) (now (frame .exit)) (now (out .exit)) ⌝ }
+    ensures { λ r. ⌜ Executes (mem (now (bytes .entry)) (now (keys .entry)) (now (order .entry)) (now (words .entry))) (Call.Load (areaOf aux) (frameFrom (now (frame .entry))) (registersFrom (now (registers .entry))) (loadPlacesFrom source dst0 dst1 increment)) (now (frame .entry)) (now (registers .entry)) (fit (now (frame .entry)) (now (registers .entry)) 65) r 0 (mem (now (bytes .entry)) (now (keys .entry)) (now (order .entry)) (now (words .entry))) (now (frame .exit)) (now (registers .exit)) ⌝ }
 {
-    if !executions::lengths_fit(frame, out, OUT_LENGTH) {
+    if !executions::lengths_fit(frame, registers, registers::LENGTH) {
         return UNFIT;
     }
+    if !formed::well_formed(bytes, keys, order, words) {
+        return 3;
+    }
     let before = frames::frame_of(frame);
-    let operand = executions::operand_of(x0, x1, x2, x3, tagged);
     let area = frames::area_of(aux);
-    let run = instructions::load(bytes, keys, order, words, before, area, operand);
-    executions::report(run, frame, out)
+    let places = registers::load_places(source, dst0, dst1, increment);
+    let run = on_formed::load(bytes, keys, order, words, registers, before, area, places);
+    executions::report(run, frame)
 }
 
-// Writes a word at the operand, in the page of an area, and pays for the area's growth; stops on the hook.
+// Writes the word of a register at the operand, in the page of an area, and pays for the area's growth; stops on the hook.
 #[no_mangle]
 pub extern "C" fn zp_store(
     bytes: &mut [u8],
@@ -44,32 +51,47 @@ pub extern "C" fn zp_store(
     order: &mut [u32],
     words: &mut [u64],
     frame: &mut [u32],
+    registers: &mut [u64],
     aux: bool,
-    x0: u64,
-    x1: u64,
-    x2: u64,
-    x3: u64,
-    tagged: bool,
-    limb0: u64,
-    limb1: u64,
-    limb2: u64,
-    limb3: u64,
+    source: u32,
+    value: u32,
+    dst0: u32,
+    dst1: u32,
+    increment: bool,
+    kernel: bool,
     hook: bool,
     hook_address: u32,
     out: &mut [u64],
 ) -> u32
-    ensures { λ r. ⌜ Executes (mem (now (bytes .entry)) (now (keys .entry)) (now (order .entry)) (now (words .entry))) (Call.Store (areaOf aux) (frameFrom (now (frame .entry))) (operandFrom x0 x1 x2 x3 tagged) (limbsValue limb0 limb1 limb2 limb3) (hookFrom hook «hook_address»)) (now (frame .entry)) (now (out .entry)) r (mem (now (bytes .exit)) (now (keys .exit)) (now (order .exit)) (now (words .exit))) (now (frame .exit)) (now (out .exit)) ⌝ }
+    ensures { λ r. ⌜ Executes (mem (now (bytes .entry)) (now (keys .entry)) (now (order .entry)) (now (words .entry))) (Call.Store (areaOf aux) (frameFrom (now (frame .entry))) (registersFrom (now (registers .entry))) (storePlacesFrom source value dst0 dst1 increment) kernel (hookFrom hook «hook_address»)) (now (frame .entry)) (now (registers .entry)) (fit (now (frame .entry)) (now (registers .entry)) 65 && eqb (length (now (out .entry))) 1) r (getD (now (out .exit)) 0 0) (mem (now (bytes .exit)) (now (keys .exit)) (now (order .exit)) (now (words .exit))) (now (frame .exit)) (now (registers .exit)) ⌝ }
+    ensures { λ r. ⌜ ((r ≡ 101 → ⊥) → now (out .exit) ≡ now (out .entry)) ⌝ }
 {
-    if !executions::lengths_fit(frame, out, OUT_LENGTH) {
+    if !executions::lengths_fit(frame, registers, registers::LENGTH) {
         return UNFIT;
     }
+    if out.len() != 1 {
+        return UNFIT;
+    }
+    if !formed::well_formed(bytes, keys, order, words) {
+        return 3;
+    }
     let before = frames::frame_of(frame);
-    let operand = executions::operand_of(x0, x1, x2, x3, tagged);
     let area = frames::area_of(aux);
-    let word = frames::word_of(limb0, limb1, limb2, limb3);
-    let hook = executions::hook_of(hook, hook_address);
-    let run = instructions::store(bytes, keys, order, words, before, area, operand, word, hook);
-    executions::report(run, frame, out)
+    let places = registers::store_places(source, value, dst0, dst1, increment);
+    let stop = executions::hook_of(hook, hook_address);
+    let run = on_formed::store(
+        bytes,
+        keys,
+        order,
+        words,
+        registers,
+        before,
+        area,
+        places,
+        kernel,
+        stop,
+    );
+    executions::report_stop(run, frame, out)
 }
 
 // Reads the bytes that a pointer shows from its offset on, at most 32.
@@ -80,22 +102,24 @@ pub extern "C" fn zp_load_pointer(
     order: &[u32],
     words: &[u64],
     frame: &mut [u32],
-    x0: u64,
-    x1: u64,
-    x2: u64,
-    x3: u64,
-    tagged: bool,
-    out: &mut [u64],
+    registers: &mut [u64],
+    source: u32,
+    dst0: u32,
+    dst1: u32,
+    increment: bool,
 ) -> u32
-    ensures { λ r. ⌜ Executes (mem (now (bytes .entry)) (now (keys .entry)) (now (order .entry)) (now (words .entry))) (Call.LoadPointer (frameFrom (now (frame .entry))) (operandFrom x0 x1 x2 x3 tagged)) (now (frame .entry)) (now (out .entry)) r (mem (now (bytes .entry)) (now (keys .entry)) (now (order .entry)) (now (words .entry))) (now (frame .exit)) (now (out .exit)) ⌝ }
+    ensures { λ r. ⌜ Executes (mem (now (bytes .entry)) (now (keys .entry)) (now (order .entry)) (now (words .entry))) (Call.LoadPointer (frameFrom (now (frame .entry))) (registersFrom (now (registers .entry))) (loadPlacesFrom source dst0 dst1 increment)) (now (frame .entry)) (now (registers .entry)) (fit (now (frame .entry)) (now (registers .entry)) 65) r 0 (mem (now (bytes .entry)) (now (keys .entry)) (now (order .entry)) (now (words .entry))) (now (frame .exit)) (now (registers .exit)) ⌝ }
 {
-    if !executions::lengths_fit(frame, out, OUT_LENGTH) {
+    if !executions::lengths_fit(frame, registers, registers::LENGTH) {
         return UNFIT;
     }
+    if !formed::well_formed(bytes, keys, order, words) {
+        return 3;
+    }
     let before = frames::frame_of(frame);
-    let operand = executions::operand_of(x0, x1, x2, x3, tagged);
-    let run = instructions::load_pointer(bytes, keys, order, words, before, operand);
-    executions::report(run, frame, out)
+    let places = registers::load_places(source, dst0, dst1, increment);
+    let run = on_formed::load_pointer(bytes, keys, order, words, registers, before, places);
+    executions::report(run, frame)
 }
 
 // Reads the word at the operand in the static page.
@@ -106,25 +130,27 @@ pub extern "C" fn zp_load_static(
     order: &[u32],
     words: &[u64],
     frame: &mut [u32],
-    x0: u64,
-    x1: u64,
-    x2: u64,
-    x3: u64,
-    tagged: bool,
-    out: &mut [u64],
+    registers: &mut [u64],
+    source: u32,
+    dst0: u32,
+    dst1: u32,
+    increment: bool,
 ) -> u32
-    ensures { λ r. ⌜ Executes (mem (now (bytes .entry)) (now (keys .entry)) (now (order .entry)) (now (words .entry))) (Call.LoadStatic (frameFrom (now (frame .entry))) (operandFrom x0 x1 x2 x3 tagged)) (now (frame .entry)) (now (out .entry)) r (mem (now (bytes .entry)) (now (keys .entry)) (now (order .entry)) (now (words .entry))) (now (frame .exit)) (now (out .exit)) ⌝ }
+    ensures { λ r. ⌜ Executes (mem (now (bytes .entry)) (now (keys .entry)) (now (order .entry)) (now (words .entry))) (Call.LoadStatic (frameFrom (now (frame .entry))) (registersFrom (now (registers .entry))) (loadPlacesFrom source dst0 dst1 increment)) (now (frame .entry)) (now (registers .entry)) (fit (now (frame .entry)) (now (registers .entry)) 65) r 0 (mem (now (bytes .entry)) (now (keys .entry)) (now (order .entry)) (now (words .entry))) (now (frame .exit)) (now (registers .exit)) ⌝ }
 {
-    if !executions::lengths_fit(frame, out, OUT_LENGTH) {
+    if !executions::lengths_fit(frame, registers, registers::LENGTH) {
         return UNFIT;
     }
+    if !formed::well_formed(bytes, keys, order, words) {
+        return 3;
+    }
     let before = frames::frame_of(frame);
-    let operand = executions::operand_of(x0, x1, x2, x3, tagged);
-    let run = instructions::load_static(bytes, keys, order, words, before, operand);
-    executions::report(run, frame, out)
+    let places = registers::load_places(source, dst0, dst1, increment);
+    let run = on_formed::load_static(bytes, keys, order, words, registers, before, places);
+    executions::report(run, frame)
 }
 
-// Writes a word at the operand in the static page.
+// Writes the word of a register at the operand in the static page.
 #[no_mangle]
 pub extern "C" fn zp_store_static(
     bytes: &mut [u8],
@@ -132,25 +158,24 @@ pub extern "C" fn zp_store_static(
     order: &mut [u32],
     words: &mut [u64],
     frame: &mut [u32],
-    x0: u64,
-    x1: u64,
-    x2: u64,
-    x3: u64,
-    tagged: bool,
-    limb0: u64,
-    limb1: u64,
-    limb2: u64,
-    limb3: u64,
-    out: &mut [u64],
+    registers: &mut [u64],
+    source: u32,
+    value: u32,
+    dst0: u32,
+    dst1: u32,
+    increment: bool,
+    kernel: bool,
 ) -> u32
-    ensures { λ r. ⌜ Executes (mem (now (bytes .entry)) (now (keys .entry)) (now (order .entry)) (now (words .entry))) (Call.StoreStatic (frameFrom (now (frame .entry))) (operandFrom x0 x1 x2 x3 tagged) (limbsValue limb0 limb1 limb2 limb3)) (now (frame .entry)) (now (out .entry)) r (mem (now (bytes .exit)) (now (keys .exit)) (now (order .exit)) (now (words .exit))) (now (frame .exit)) (now (out .exit)) ⌝ }
+    ensures { λ r. ⌜ Executes (mem (now (bytes .entry)) (now (keys .entry)) (now (order .entry)) (now (words .entry))) (Call.StoreStatic (frameFrom (now (frame .entry))) (registersFrom (now (registers .entry))) (storePlacesFrom source value dst0 dst1 increment) kernel) (now (frame .entry)) (now (registers .entry)) (fit (now (frame .entry)) (now (registers .entry)) 65) r 0 (mem (now (bytes .exit)) (now (keys .exit)) (now (order .exit)) (now (words .exit))) (now (frame .exit)) (now (registers .exit)) ⌝ }
 {
-    if !executions::lengths_fit(frame, out, OUT_LENGTH) {
+    if !executions::lengths_fit(frame, registers, registers::LENGTH) {
         return UNFIT;
     }
+    if !formed::well_formed(bytes, keys, order, words) {
+        return 3;
+    }
     let before = frames::frame_of(frame);
-    let operand = executions::operand_of(x0, x1, x2, x3, tagged);
-    let word = frames::word_of(limb0, limb1, limb2, limb3);
-    let run = instructions::store_static(bytes, keys, order, words, before, operand, word);
-    executions::report(run, frame, out)
+    let places = registers::store_places(source, value, dst0, dst1, increment);
+    let run = on_formed::store_static(bytes, keys, order, words, registers, before, places, kernel);
+    executions::report(run, frame)
 }

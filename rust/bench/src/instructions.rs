@@ -1,13 +1,16 @@
 //! Heap loads and stores, each with an increment and without growth, against vm2's own handlers.
 //!
-//! vm2's handler takes its operand from a register and puts its results to registers. It also looks at predicate and mode,
-//! pays the fixed cost and moves the program counter: that is part of what is timed. The rows of the
-//! harness time how much that is, by a no-op with the same registers.
+//! Both sides do the same work: the address is put to a register, and so is the word of a store; the instruction reads them there
+//! and writes its results to registers; then each limb of these is taken. The registers have the same numbers on both sides. vm2's
+//! handler also looks at predicate and mode, pays the fixed cost and moves the program counter: that is part of what is timed. The
+//! rows of the harness time how much that is, by a no-op with the same registers.
 
 use std::hint::black_box;
 
 use vm2_example::testonly::speed::Machine;
-use zincpapaya::{Area, Error, Frame, Heaps, Outcome, PageId, Word};
+use zincpapaya::{
+    Area, Frame, Heaps, LoadPlaces, Outcome, PageId, Registers, Source, StorePlaces, Word,
+};
 
 use crate::{
     both::{used, Both, WORD},
@@ -26,10 +29,70 @@ const FRAME: Frame = Frame {
     panicked: false,
 };
 
+// The registers in use, which are those of vm2's machine.
+const OPERAND: u8 = 1;
+const VALUE: u8 = 2;
+const OUT: u8 = 3;
+const NEXT: u8 = 4;
+
+const LOAD: LoadPlaces =
+    LoadPlaces { source: Source::Register(OPERAND), dst0: OUT, dst1: NEXT, increment: true };
+/// vm2's machine names no second output of a store, so it is register 0.
+const STORE: StorePlaces = StorePlaces {
+    source: Source::Register(OPERAND),
+    value: VALUE,
+    dst0: OUT,
+    dst1: 0,
+    increment: true,
+};
+/// vm2's machine is in kernel mode.
+const KERNEL: bool = true;
+
+/// A memory of the library with a frame and registers, beside vm2's machine.
+struct Ours {
+    memory: Heaps,
+    frame: Frame,
+    registers: Registers,
+}
+
+impl Ours {
+    fn of(memory: Heaps) -> Self {
+        Self { memory, frame: FRAME, registers: Registers::default() }
+    }
+
+    #[inline]
+    fn register(&self, number: u8) -> &[u64; 4] {
+        &self.registers.words()[usize::from(number)].0
+    }
+
+    /// Loads the word at an address: that word, and the address plus 32, in their registers.
+    #[inline]
+    fn load(&mut self, address: u32) -> [&[u64; 4]; 2] {
+        let Self { memory, frame, registers } = self;
+        registers.set(OPERAND, address);
+        match memory.load(frame, registers, Area::Heap, LOAD) {
+            Ok(Outcome::Running) => [self.register(OUT), self.register(NEXT)],
+            other => panic!("a load was not carried out: {other:?}"),
+        }
+    }
+
+    /// Stores a word at an address: the address plus 32, in its register.
+    #[inline]
+    fn store(&mut self, address: u32, limbs: [u64; 4]) -> &[u64; 4] {
+        let Self { memory, frame, registers } = self;
+        registers.set(OPERAND, address);
+        registers.set(VALUE, Word(limbs));
+        match memory.store(frame, registers, Area::Heap, STORE, KERNEL, None) {
+            Ok(Outcome::Running) => self.register(OUT),
+            other => panic!("a store was not carried out: {other:?}"),
+        }
+    }
+}
+
 /// A page of both sides that holds as many chunks.
-fn sides(held: Held) -> (Machine, Heaps) {
+fn sides(held: Held) -> (Machine, Ours) {
     let mut machine = Machine::new(PAGE);
-    let ours = Both::holding(held).ours;
+    let ours = Ours::of(Both::holding(held).ours);
     (0..held.chunks)
         .for_each(|chunk| _ = machine.store(chunk * 256, [chunk.into(), PAGE.into(), 3, 4]));
     (machine, ours)
@@ -39,44 +102,22 @@ fn addresses(at: Vec<(u32, u32)>) -> Vec<u32> {
     at.into_iter().map(|(_, address)| address).collect()
 }
 
-#[inline]
-fn store(memory: &mut Heaps, frame: &mut Frame, address: u32) -> Result<Outcome, Error> {
-    memory.store(frame, Area::Heap, address.into(), Word(black_box(WORD)), None)
-}
-
-/// The word and the incremented operand of an instruction that was carried out.
-#[inline]
-fn results(outcome: &Result<Outcome, Error>) -> [&[u64; 4]; 2] {
-    match outcome {
-        Ok(Outcome::Running { word, next }) => [&word.0, &next.word.0],
-        _ => panic!("an instruction was not carried out"),
-    }
-}
-
-fn compare(machine: &mut Machine, ours: &Heaps, at: &[u32]) {
-    let mut frame = FRAME;
+fn compare(machine: &mut Machine, ours: &mut Ours, at: &[u32]) {
     for &a in at {
-        let loaded = ours.load(&mut frame, Area::Heap, a.into());
-        assert_eq!(machine.load(a), results(&loaded), "address {a}");
+        assert_eq!(machine.load(a), ours.load(a), "address {a}");
     }
-    assert_eq!((machine.gas(), FRAME), (frame.gas, frame));
+    assert_eq!((machine.gas(), FRAME), (ours.frame.gas, ours.frame));
 }
 
 pub fn loads(chunks: u32, order: Walk) -> Times {
     let held = Held::by_one_page(chunks);
-    let ((mut machine, ours), at) = (sides(held), addresses(walk(held, order)));
-    let mut frame = FRAME;
+    let ((mut machine, mut ours), at) = (sides(held), addresses(walk(held, order)));
     let times = Times::of(
         at.len(),
         || each(&at, |a| _ = machine.load(a).map(used)),
-        || {
-            each(&at, |a| {
-                let loaded = ours.load(&mut frame, Area::Heap, a.into());
-                _ = results(&loaded).map(used);
-            })
-        },
+        || each(&at, |a| _ = ours.load(a).map(used)),
     );
-    compare(&mut machine, &ours, &at);
+    compare(&mut machine, &mut ours, &at);
     times
 }
 
@@ -88,17 +129,15 @@ pub fn stores(chunks: u32, order: Walk) -> Times {
 /// Stores at these places of one page.
 pub fn stores_at(held: Held, at: Vec<(u32, u32)>) -> Times {
     let ((mut machine, mut ours), at) = (sides(held), addresses(at));
-    let mut frame = FRAME;
     let times = Times::of(
         at.len(),
         || each(&at, |a| used(machine.store(a, black_box(WORD)))),
-        || each(&at, |a| used(results(&store(&mut ours, &mut frame, a))[1])),
+        || each(&at, |a| used(ours.store(a, black_box(WORD)))),
     );
     for &a in &at {
-        let stored = store(&mut ours, &mut frame, a);
-        assert_eq!(machine.store(a, WORD), results(&stored)[1], "address {a}");
+        assert_eq!(machine.store(a, WORD), ours.store(a, WORD), "address {a}");
     }
-    compare(&mut machine, &ours, &at);
+    compare(&mut machine, &mut ours, &at);
     times
 }
 

@@ -1,12 +1,16 @@
 //! Plain types for a call on vm2's memory and for its answer, the same for every layout.
 
+mod instruction;
 mod layout;
 mod panics;
 mod view;
 mod word;
 
+pub use instruction::{
+    form, immediate, Form, HeapInstruction, Left, Op, Operand, Places, Registers, OTHER_FORM,
+};
 pub use layout::{Kind, Layout, Place};
-pub use panics::{catch, refusal, RustPanic};
+pub use panics::{catch, refusal, RustPanic, TAKES_A_REGISTER};
 pub use view::{differences, view_of, Chunk, Page, View};
 pub use word::Word;
 
@@ -25,13 +29,6 @@ pub struct Frame {
     pub aux: u32,
     pub heap_bound: u32,
     pub aux_bound: u32,
-}
-
-/// The first operand of an instruction.
-#[derive(Debug, Clone, Copy, PartialEq, Eq)]
-pub enum Operand {
-    Register { word: Word, tagged: bool },
-    Immediate(u16),
 }
 
 /// The functions of `page_ids.rs`.
@@ -148,7 +145,7 @@ pub enum Call {
     },
     Instruction {
         frame: Frame,
-        instruction: HeapInstruction,
+        instruction: Box<HeapInstruction>,
     },
 }
 
@@ -156,12 +153,7 @@ impl Call {
     /// Whether the call can change the memory that it is put to.
     pub fn changes(&self) -> bool {
         match self {
-            Self::Instruction { instruction, .. } => {
-                matches!(
-                    instruction,
-                    HeapInstruction::Store { .. } | HeapInstruction::StoreStatic { .. }
-                )
-            }
+            Self::Instruction { instruction, .. } => instruction.op.stores(),
             _ => matches!(
                 self,
                 Self::Open { .. }
@@ -177,50 +169,6 @@ impl Call {
             ),
         }
     }
-}
-
-/// One of the five heap instructions. `increment` asks for the incremented operand.
-#[derive(Debug, Clone, Copy, PartialEq, Eq)]
-pub enum HeapInstruction {
-    Load {
-        area: Area,
-        operand: Operand,
-        increment: bool,
-    },
-    /// `hook` is the hook address when hooking is on.
-    Store {
-        area: Area,
-        operand: Operand,
-        value: Word,
-        increment: bool,
-        hook: Option<u32>,
-    },
-    LoadPointer {
-        word: Word,
-        tagged: bool,
-        increment: bool,
-    },
-    LoadStatic {
-        operand: Operand,
-        increment: bool,
-    },
-    StoreStatic {
-        operand: Operand,
-        value: Word,
-        increment: bool,
-    },
-}
-
-/// What an instruction that was carried out gave.
-#[derive(Debug, Clone, Copy, PartialEq, Eq)]
-pub struct Ran {
-    pub frame: Frame,
-    /// The word that a load gave.
-    pub word: Option<Word>,
-    /// The incremented operand, where asked for, and its tag.
-    pub next: Option<(Word, bool)>,
-    /// The value with which a hook stopped the run.
-    pub stop: Option<u32>,
 }
 
 #[derive(Debug, Clone, PartialEq, Eq)]
@@ -240,10 +188,11 @@ pub enum Answer {
     Pointer(Pointer),
     /// Of `use_gas` and `grow_heap`: whether it was paid, and the frame afterwards.
     Paid(bool, Frame),
-    Ran(Ran),
-    /// The instruction panicked as EraVM does; the frame afterwards.
-    EraPanic(Frame),
-    /// The Rust panicked; the memory is as before the call.
+    /// The instruction was carried out; the value with which a hook stopped the run, if one did.
+    Ran(Box<Left>, Option<u32>),
+    /// The instruction panicked as EraVM does.
+    EraPanic(Box<Left>),
+    /// The Rust panicked; memory, frame and registers are as before the call.
     RustPanic(RustPanic),
     /// Not put to the Rust, and why. No comparison may count such a call.
     NotRun(&'static str),

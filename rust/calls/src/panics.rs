@@ -7,7 +7,7 @@ use std::{
     sync::Once,
 };
 
-use crate::{Call, HeapInstruction, Layout};
+use crate::{Call, Layout, Op};
 
 /// A panic of the Rust.
 #[derive(Debug, Clone, PartialEq, Eq)]
@@ -80,11 +80,19 @@ pub fn refusal(call: &Call, panic: &RustPanic, layout: &Layout) -> Option<u8> {
         Call::Rollback { .. } if says("out of range for slice") => Some(12),
         Call::TruncateDynamicTo { .. } if says("cannot restore dynamic heap length") => Some(13),
         Call::PageIds(_) if overflow && panic.file == "page_ids.rs" => Some(4),
-        Call::Instruction { instruction, .. } => match instruction {
-            HeapInstruction::LoadPointer { .. } if overflow => Some(14),
-            HeapInstruction::Store { .. } if says("casting to u32") => Some(15),
+        Call::Instruction { .. } if NOT_TAKEN.into_iter().any(says) => Some(16),
+        Call::Instruction { instruction, .. } => match instruction.op {
+            Op::LoadPointer if overflow => Some(14),
+            Op::Store { .. } if says("casting to u32") => Some(15),
             _ => None,
         },
         _ => None,
     }
 }
+
+/// Said by a constructor whose type takes registers alone, where it is given another form.
+pub const TAKES_A_REGISTER: &str = "the constructor takes nothing but a register here";
+
+/// What is said of a place that an instruction does not take: by `Register::new`, by the conversion to
+/// `RegisterOrImmediate`, and for the constructors.
+const NOT_TAKEN: [&str; 3] = ["EraVM has 16 registers", "NotRegisterOrImmediate", TAKES_A_REGISTER];

@@ -2,7 +2,7 @@
 
 use std::ops::Range;
 
-use oracle::{Area, Call, Frame, HeapInstruction, Layout};
+use oracle::{form, Answer, Area, Call, Form, Frame, HeapInstruction, Layout, Op};
 use zincpapaya::{Capacity, Error, PageId, Usage, Word};
 
 use crate::{
@@ -11,6 +11,7 @@ use crate::{
     model::{self, Model},
     ours::{self, Reply, UNWRITTEN},
     rng::Rng,
+    rules::{self, Ending},
 };
 
 fn expect<T: PartialEq + std::fmt::Debug>(what: &str, due: T, given: T) -> Result<(), Mismatch> {
@@ -51,13 +52,13 @@ pub fn outputs_of_wrong_lengths(
 pub fn not_run(both: &Both, model: &Model, call: &Call) -> Result<Option<&'static str>, Mismatch> {
     match *call {
         Call::Chunk { .. } => {
-            let due = Reply::Answer(oracle::Answer::Bytes(vec![0; 256]));
+            let due = Reply::Answer(Answer::Bytes(vec![0; 256]));
             expect("a chunk past the last", due, answer_on_copy(both, call).1)?;
             Ok(Some("chunks past the last"))
         }
         Call::Decode { page } => {
             let given = answer_on_copy(both, call).1;
-            let due = oracle::Answer::Decoded(model::place(&model.layout, page));
+            let due = Answer::Decoded(model::place(&model.layout, page));
             expect("a decode of a far page", Reply::Answer(due), given)?;
             Ok(Some("far pages decoded"))
         }
@@ -67,15 +68,29 @@ pub fn not_run(both: &Both, model: &Model, call: &Call) -> Result<Option<&'stati
             expect("a free of a far page", (Reply::Refused(7), true), (given, unchanged))?;
             Ok(Some("far pages not freed"))
         }
-        Call::Instruction {
-            frame,
-            instruction: HeapInstruction::Store { area: Area::Aux, hook: Some(_), .. },
-        } => {
-            aux_hook(both, call, &frame)?;
-            Ok(Some("aux stores with a hook"))
+        Call::Instruction { frame, ref instruction } => {
+            instruction_not_run(both, model, call, &frame, instruction)
         }
         _ => far_write(both, model, call),
     }
+}
+
+fn instruction_not_run(
+    both: &Both,
+    model: &Model,
+    call: &Call,
+    frame: &Frame,
+    run: &HeapInstruction,
+) -> Result<Option<&'static str>, Mismatch> {
+    if let Op::Store { area: Area::Aux, hook: Some(_) } = run.op {
+        aux_hook(both, call, frame)?;
+        return Ok(Some("aux stores with a hook"));
+    }
+    if let Some(twin) = without_erasure(run) {
+        erased_value(both, call, *frame, &twin)?;
+        return Ok(Some("stores of a pointer outside kernel mode"));
+    }
+    far_write(both, model, call)
 }
 
 fn answer_on_copy(both: &Both, call: &Call) -> (Both, Reply) {
@@ -89,7 +104,7 @@ fn answer_on_copy(both: &Both, call: &Call) -> (Both, Reply) {
 fn far_write(both: &Both, model: &Model, call: &Call) -> Result<Option<&'static str>, Mismatch> {
     let Some(writes) = model.writes(call) else { return Ok(None) };
     let (mut copy, given) = answer_on_copy(both, call);
-    if model::hook_value_too_great(call) {
+    if hook_value_too_great(model, call) {
         let unchanged = copy.has_the_numbers_of(both);
         expect("a hook on a far page", (Reply::Refused(15), true), (given, unchanged))?;
         return Ok(Some("far pages not written"));
@@ -107,14 +122,22 @@ fn far_write(both: &Both, model: &Model, call: &Call) -> Result<Option<&'static 
     Ok(Some("far pages written"))
 }
 
+/// Whether the call is a store that its hook would stop with a value of more than 32 bits.
+fn hook_value_too_great(model: &Model, call: &Call) -> bool {
+    match call {
+        Call::Instruction { frame, instruction } => {
+            rules::due(&model.layout, frame, instruction).ending == Ending::Refused(15)
+        }
+        _ => false,
+    }
+}
+
 /// The bytes that a call writes.
 fn bytes_of(call: &Call) -> Vec<u8> {
     let word = |value: &oracle::Word| Word(value.0).to_big_endian().to_vec();
     match call {
-        Call::WriteU256 { value, .. }
-        | Call::Instruction { instruction: HeapInstruction::Store { value, .. }, .. } => {
-            word(value)
-        }
+        Call::WriteU256 { value, .. } => word(value),
+        Call::Instruction { instruction, .. } => word(&rules::value(instruction)),
         Call::WriteBytes { bytes, .. } | Call::AllocateWithContentAt { content: bytes, .. } => {
             bytes.clone()
         }
@@ -132,21 +155,67 @@ fn aux_hook(both: &Both, call: &Call, frame: &Frame) -> Result<(), Mismatch> {
         aux_bound: frame.heap_bound,
     };
     let mut twin = call.clone();
-    if let Call::Instruction { frame: other, instruction: HeapInstruction::Store { area, .. } } =
-        &mut twin
-    {
-        (*other, *area) = (exchanged(frame), Area::Heap);
+    if let Call::Instruction { frame: other, instruction } = &mut twin {
+        *other = exchanged(frame);
+        if let Op::Store { area, .. } = &mut instruction.op {
+            *area = Area::Heap;
+        }
     }
     let (copy, mut given) = answer_on_copy(both, call);
-    if let Reply::Answer(oracle::Answer::Ran(ran)) = &mut given {
-        ran.frame = exchanged(&ran.frame);
-    }
-    if let Reply::Answer(oracle::Answer::EraPanic(after)) = &mut given {
-        *after = exchanged(after);
+    if let Reply::Answer(Answer::Ran(left, _) | Answer::EraPanic(left)) = &mut given {
+        left.frame = exchanged(&left.frame);
     }
     let (other, due) = answer_on_copy(both, &twin);
     expect("an aux store with a hook", due, given)?;
     expect("what it wrote", true, copy.has_the_numbers_of(&other))
+}
+
+/// The same store in kernel mode, whose value is the erased word, in a register that the store has no
+/// other use for; and the number of that register. None where nothing is erased.
+fn without_erasure(run: &HeapInstruction) -> Option<(HeapInstruction, usize)> {
+    if !run.op.stores() || run.kernel || !rules::takes(run) {
+        return None;
+    }
+    let (word, tagged) = run.registers.get(run.places.value as usize);
+    let places = run.places;
+    let used = [places.source, places.value, places.dst0, places.dst1].map(form);
+    let spare = (1..16).find(|number| !used.contains(&Form::Register(*number)))?;
+    let mut twin = HeapInstruction { kernel: true, ..*run };
+    twin.registers.put(spare.into(), rules::erased(word), true);
+    twin.places.value = spare.into();
+    tagged.then_some((twin, spare.into()))
+}
+
+/// A store that erases its value does what the store of the erased word does. vm2's function that
+/// erases is not at hand, so what it takes from a word is the rule's alone.
+fn erased_value(
+    both: &Both,
+    call: &Call,
+    frame: Frame,
+    (twin, spare): &(HeapInstruction, usize),
+) -> Result<(), Mismatch> {
+    let (copy, given) = answer_on_copy(both, call);
+    let (other, mut due) = answer_on_copy(both, &twin.on(frame));
+    if let (
+        Reply::Answer(Answer::Ran(left, _) | Answer::EraPanic(left)),
+        Call::Instruction { instruction, .. },
+    ) = (&mut due, call)
+    {
+        let (word, tagged) = instruction.registers.get(*spare);
+        left.registers.put(*spare, word, tagged);
+    }
+    expect("a store of a pointer outside kernel mode", due, given)?;
+    expect("what it wrote", true, copy.has_the_numbers_of(&other))
+}
+
+/// Instructions on a memory that is not well formed: 3 comes before all else, and frame and registers
+/// stay. Only a lent memory can be so.
+pub fn on_damaged(both: &mut Both, frame: &Frame, run: &HeapInstruction) -> Result<(), Mismatch> {
+    let entered = (ours::our_frame(frame, false), ours::our_registers(&run.registers));
+    let (mut frame, mut registers) = entered;
+    let refused = ours::put(&mut both.lend(), &mut frame, &mut registers, run);
+    let given = (refused, (frame, registers));
+    expect("an instruction on a damaged memory", (Err(Error::NotFormed), entered), given)
 }
 
 /// Refusals of openings and comparisons: vm2 has none of them.

@@ -87,7 +87,6 @@ impl Both {
     }
 
     /// Damages the lent memory: the count of its held chunks.
-    #[cfg(test)]
     pub fn damage(&mut self) {
         self.host.words[9] += 1;
     }

@@ -2,12 +2,13 @@
 //! charges of each area sum to its last bound less its first. Each side is followed by its own
 //! answers alone: a charge is the gas that was given less the gas that is left.
 
-use oracle::{Answer, Area, Call, HeapInstruction, Operand, Ran};
+use oracle::{Answer, Area, Call, Left, Op, Word};
 
 use crate::{
     list::{Handed, Mismatch, Step},
-    model::{area_of, operand_word},
+    model::area_of,
     ours::Reply,
+    rules,
 };
 
 /// Bytes of a word: an access needs a bound of its address and these.
@@ -27,22 +28,18 @@ struct Access {
 
 impl Access {
     /// None where the call is not a load or store of an area.
-    fn of(step: &Step, ran: &Ran) -> Option<Self> {
+    fn of(step: &Step, left: &Left, stop: Option<u32>) -> Option<Self> {
         let given = step.given()?;
         let Call::Instruction { instruction, .. } = &step.call else { return None };
-        let (HeapInstruction::Load { area, operand, .. }
-        | HeapInstruction::Store { area, operand, .. }) = *instruction
-        else {
-            return None;
-        };
+        let (Op::Load(area) | Op::Store { area, .. }) = instruction.op else { return None };
+        let address = number(rules::operand(instruction).0);
         // The mark stays: where the library's does not, its answer is wrong by itself.
-        let left = Handed { frame: ran.frame, ..given };
-        Some(Self { area, address: number(operand), given, left, stopped: ran.stop.is_some() })
+        let left = Handed { frame: left.frame, ..given };
+        Some(Self { area, address, given, left, stopped: stop.is_some() })
     }
 }
 
-fn number(operand: Operand) -> u64 {
-    let [low, rest @ ..] = operand_word(operand).0 .0;
+fn number(Word([low, rest @ ..]): Word) -> u64 {
     if rest == [0; 3] {
         low
     } else {
@@ -145,7 +142,9 @@ impl Charges {
     /// as it is.
     fn answered(&mut self, step: &Step, answer: &Answer) -> Result<Option<Run>, String> {
         match answer {
-            Answer::Ran(ran) => Access::of(step, ran).map_or(Ok(None), |access| self.take(&access)),
+            Answer::Ran(left, stop) => {
+                Access::of(step, left, *stop).map_or(Ok(None), |access| self.take(&access))
+            }
             Answer::EraPanic(_) => Ok(self.end()),
             _ => Ok(None),
         }
@@ -195,7 +194,7 @@ impl Sides {
 
 #[cfg(test)]
 mod tests {
-    use oracle::{Frame, RustPanic, Word};
+    use oracle::{Frame, HeapInstruction, Operand, Registers, RustPanic};
 
     use super::*;
 
@@ -221,12 +220,16 @@ mod tests {
     /// A load of the aux heap.
     fn load(frame: Frame, word: Word) -> Step {
         let operand = Operand::Register { word, tagged: false };
-        let instruction = HeapInstruction::Load { area: Area::Aux, operand, increment: false };
-        Step { memory: 0, call: Call::Instruction { frame, instruction }, marked: false }
+        let load = HeapInstruction::on_operands(Op::Load(Area::Aux), operand, Word::default());
+        Step { memory: 0, call: load.on(frame), marked: false }
+    }
+
+    fn left(frame: Frame) -> Box<Left> {
+        Left { frame, registers: Registers::default() }.into()
     }
 
     fn ran(frame: Frame) -> Answer {
-        Answer::Ran(Ran { frame, word: None, next: None, stop: None })
+        Answer::Ran(left(frame), None)
     }
 
     #[test]
@@ -315,7 +318,7 @@ mod tests {
         assert!(refused.is_ok_and(|ended| ended.is_none()));
         let goes_on = sides.answered(&between, &ran(THIRD), &Reply::Answer(ran(THIRD)));
         assert!(goes_on.is_ok_and(|ended| ended.is_none()));
-        let panic = Answer::EraPanic(THIRD);
+        let panic = Answer::EraPanic(left(THIRD));
         let ended = sides.answered(&load(THIRD, 0.into()), &panic, &Reply::Answer(panic.clone()));
         assert_eq!(ended.expect("it adds up").map(|run| run.accesses), Some(2));
         assert!(sides.end().is_none() && sides.library.end().is_none());

@@ -2,7 +2,7 @@
 //! hook, marks, and the refusals of pages. Random lists come near all of them, but need not meet each on every layout.
 //! A second list for each layout has runs of loads and stores, each given the frame that the last one left.
 
-use oracle::{Area, Call, Frame, HeapInstruction, Kind, Layout, Operand, PageIds, Place, Word};
+use oracle::{Area, Call, Frame, HeapInstruction, Kind, Layout, Op, Operand, PageIds, Place, Word};
 
 use crate::{
     generate::pattern,
@@ -17,11 +17,17 @@ const LAST_OPERAND: u64 = 4_294_967_263;
 const FREE: Frame = Frame { gas: u32::MAX, heap: 0, aux: 0, heap_bound: 0, aux_bound: 0 };
 
 /// Heap and aux heap of the first group.
-fn first_group(layout: &Layout) -> [u32; 2] {
+pub fn first_group(layout: &Layout) -> [u32; 2] {
     [Kind::Heap, Kind::Aux].map(|kind| {
         let place = Place::Dynamic { group: 0, kind };
         layout.id(place).expect("every layout has a group 0")
     })
+}
+
+/// An id that is no page.
+pub fn no_page(layout: &Layout) -> u32 {
+    let no_page = (0..).find(|page| place(layout, *page).is_none());
+    no_page.expect("every layout has ids that are no pages")
 }
 
 /// The calls, all on the first memory.
@@ -106,19 +112,34 @@ fn ranges(page: u32) -> Vec<Call> {
 }
 
 fn run(frame: Frame, instruction: HeapInstruction) -> Call {
-    Call::Instruction { frame, instruction }
+    instruction.on(frame)
 }
 
-fn register(low: u64) -> Operand {
-    Operand::Register { word: Word([low, 0, 0, 0]), tagged: false }
+/// An instruction whose operand is this number, without a tag.
+fn on(op: Op, low: u64, value: Word) -> HeapInstruction {
+    let operand = Operand::Register { word: Word([low, 0, 0, 0]), tagged: false };
+    HeapInstruction::on_operands(op, operand, value)
 }
 
 fn store(area: Area, low: u64, value: Word, hook: Option<u32>) -> HeapInstruction {
-    HeapInstruction::Store { area, operand: register(low), value, increment: true, hook }
+    on(Op::Store { area, hook }, low, value)
 }
 
 fn load(area: Area, low: u64) -> HeapInstruction {
-    HeapInstruction::Load { area, operand: register(low), increment: true }
+    on(Op::Load(area), low, Word::default())
+}
+
+fn load_static(low: u64) -> HeapInstruction {
+    on(Op::LoadStatic, low, Word::default())
+}
+
+fn store_static(low: u64, value: Word) -> HeapInstruction {
+    on(Op::StoreStatic, low, value)
+}
+
+fn load_pointer(word: Word, tagged: bool) -> HeapInstruction {
+    let operand = Operand::Register { word, tagged };
+    HeapInstruction::on_operands(Op::LoadPointer, operand, Word::default())
 }
 
 /// The operand limit, the bounds of document 01, and the hook.
@@ -127,14 +148,12 @@ fn instructions(frame: Frame) -> Vec<Call> {
     for low in [LAST_OPERAND, LAST_OPERAND + 1] {
         calls.push(run(frame, load(Area::Heap, low)));
         calls.push(run(frame, load(Area::Aux, low)));
-        let operand = register(low);
-        calls.push(run(frame, HeapInstruction::LoadStatic { operand, increment: true }));
+        calls.push(run(frame, load_static(low)));
     }
     for low in [LAST_OPERAND, LAST_OPERAND + 1] {
         calls.push(run(frame, store(Area::Heap, low, value(5), None)));
         calls.push(run(frame, store(Area::Aux, low, value(5), None)));
-        let (operand, value) = (register(low), value(6));
-        calls.push(run(frame, HeapInstruction::StoreStatic { operand, value, increment: true }));
+        calls.push(run(frame, store_static(low, value(6))));
     }
     for gas in [1, 0] {
         let paid = Frame { gas, heap_bound: 4096, aux_bound: 4096, ..frame };
@@ -155,7 +174,7 @@ fn pointers(frame: Frame, page: u32) -> Vec<Call> {
     let pointer = |offset: u32, start: u32, length: u32, tagged| {
         let low = u64::from(page) << 32 | u64::from(offset);
         let word = Word([low, u64::from(length) << 32 | u64::from(start), 9, 9]);
-        run(frame, HeapInstruction::LoadPointer { word, tagged, increment: true })
+        run(frame, load_pointer(word, tagged))
     };
     let limit = LAST_OPERAND as u32;
     vec![
@@ -234,8 +253,7 @@ pub type Link = (Option<Frame>, HeapInstruction);
 pub fn runs(layout: &Layout) -> Vec<Link> {
     let [heap, aux] = first_group(layout);
     let frame = Frame { gas: 1000, heap, aux, ..FREE };
-    let no_page = (0..).find(|page| place(layout, *page).is_none());
-    let no_page = no_page.expect("every layout has ids that are no pages");
+    let no_page = no_page(layout);
     let mut links = Vec::from(worked(heap, aux));
     for (area, other) in [(Area::Heap, Area::Aux), (Area::Aux, Area::Heap)] {
         let free = Frame { heap, aux, ..FREE };
@@ -347,20 +365,19 @@ fn stops() -> [HeapInstruction; 5] {
 /// Static and pointer instructions, which leave the frame as it is.
 fn between(page: u32) -> [HeapInstruction; 6] {
     let pointer = Word([u64::from(page) << 32 | 3, 40 << 32, 0, 0]);
-    let operand = register(5000);
     [
         load(Area::Heap, 0),
-        HeapInstruction::LoadStatic { operand, increment: true },
+        load_static(5000),
         load(Area::Heap, 1),
-        HeapInstruction::StoreStatic { operand, value: value(10), increment: true },
-        HeapInstruction::LoadPointer { word: pointer, tagged: true, increment: true },
+        store_static(5000, value(10)),
+        load_pointer(pointer, true),
         store(Area::Aux, 10, value(11), None),
     ]
 }
 
 /// Panics that end a run: by the gas, by the operand, and of a pointer without a tag.
 fn endings() -> [[HeapInstruction; 3]; 3] {
-    let untagged = HeapInstruction::LoadPointer { word: value(0), tagged: false, increment: true };
+    let untagged = load_pointer(value(0), false);
     let ends = [load(Area::Heap, 9), load(Area::Aux, LAST_OPERAND + 1), untagged];
     ends.map(|end| [load(Area::Heap, 0), store(Area::Heap, 8, value(12), None), end])
 }

@@ -2,11 +2,12 @@
 //! one, operands around their limit, with and without a tag. In lists that hand frames on, most
 //! instructions are given the frame that the last one left.
 
-use oracle::{Area, Call, Frame, HeapInstruction, Operand, Word};
+use oracle::{Area, Call, Frame, HeapInstruction, Op, Operand, Word};
 
 use crate::{
     generate::{Generator, Seen},
     model::{area_of, LAST_ADDRESS},
+    scatter::scattered,
 };
 
 impl Generator {
@@ -101,6 +102,23 @@ impl Generator {
         !self.rng.one_in(4)
     }
 
+    /// An instruction with its operands in registers, and with outputs. These are drawn apart, so that
+    /// a list is otherwise the same without them.
+    fn run(
+        &mut self,
+        frame: Frame,
+        op: Op,
+        operand: Operand,
+        value: Word,
+        increment: bool,
+    ) -> Call {
+        let run = HeapInstruction::on_operands(op, operand, value).incrementing(increment);
+        match &mut self.places {
+            Some(rng) => scattered(rng, run).on(frame),
+            None => run.on(frame),
+        }
+    }
+
     pub(crate) fn use_gas(&mut self, _: &Seen) -> Call {
         let address = self.address();
         let frame = self.frame(Area::Heap, address);
@@ -129,8 +147,7 @@ impl Generator {
         let address = self.accessed(area);
         let frame = self.frame_of_instruction(area, address);
         let (operand, increment) = (self.operand(address), self.increment());
-        let instruction = HeapInstruction::Load { area, operand, increment };
-        Call::Instruction { frame, instruction }
+        self.run(frame, Op::Load(area), operand, Word::default(), increment)
     }
 
     pub(crate) fn store(&mut self, _: &Seen) -> Call {
@@ -150,8 +167,7 @@ impl Generator {
             1 => self.rng.pick(&[7, u32::MAX - 1, u32::MAX]).into(),
             _ => Word([self.rng.pick(&[u64::from(u32::MAX), 1 << 32, 9]), 0, 0, 0]),
         };
-        let instruction = HeapInstruction::Store { area, operand, value, increment, hook };
-        Call::Instruction { frame, instruction }
+        self.run(frame, Op::Store { area, hook }, operand, value, increment)
     }
 
     pub(crate) fn load_pointer(&mut self, _: &Seen) -> Call {
@@ -177,16 +193,15 @@ impl Generator {
         }
         let (tagged, increment) = (!self.rng.one_in(8), self.increment());
         let frame = self.frame_of_instruction(Area::Heap, start);
-        let instruction = HeapInstruction::LoadPointer { word, tagged, increment };
-        Call::Instruction { frame, instruction }
+        let operand = Operand::Register { word, tagged };
+        self.run(frame, Op::LoadPointer, operand, Word::default(), increment)
     }
 
     pub(crate) fn load_static(&mut self, _: &Seen) -> Call {
         let address = self.address();
         let frame = self.frame_of_instruction(Area::Heap, address);
-        let operand = self.operand(address);
-        let instruction = HeapInstruction::LoadStatic { operand, increment: self.increment() };
-        Call::Instruction { frame, instruction }
+        let (operand, increment) = (self.operand(address), self.increment());
+        self.run(frame, Op::LoadStatic, operand, Word::default(), increment)
     }
 
     pub(crate) fn store_static(&mut self, _: &Seen) -> Call {
@@ -194,7 +209,6 @@ impl Generator {
         let frame = self.frame_of_instruction(Area::Heap, address);
         let operand = self.operand(address);
         let (value, increment) = (self.word(), self.increment());
-        let instruction = HeapInstruction::StoreStatic { operand, value, increment };
-        Call::Instruction { frame, instruction }
+        self.run(frame, Op::StoreStatic, operand, value, increment)
     }
 }

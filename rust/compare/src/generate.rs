@@ -60,6 +60,9 @@ pub struct Generator {
     /// Memories and places that were written far up.
     peaks: BTreeSet<(usize, Place)>,
     pending: Option<Step>,
+    /// Draws the registers and the places of instructions; none where these are told by their operands
+    /// alone.
+    pub(crate) places: Option<Rng>,
     /// Whether most instructions are given the frame that the last one left.
     pub(crate) hands_on: bool,
     /// The frame that the next instruction is given; none where it has one of its own.
@@ -148,6 +151,7 @@ impl Generator {
             marks: Vec::new(),
             peaks: BTreeSet::new(),
             pending: None,
+            places: None,
             hands_on: false,
             handed: None,
             calls,
@@ -166,6 +170,11 @@ impl Generator {
     /// Keeps every write to this many bytes.
     pub fn with_longest(self, longest: u64) -> Self {
         Self { longest, ..self }
+    }
+
+    /// Draws registers and places for the instructions.
+    pub fn with_places(self, rng: Rng) -> Self {
+        Self { places: Some(rng), ..self }
     }
 
     /// Makes lists in which most instructions are given the frame that the last one left.

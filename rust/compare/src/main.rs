@@ -7,13 +7,17 @@ mod charges;
 mod edges;
 mod framed;
 mod generate;
+mod kept;
 mod list;
 mod model;
 mod options;
 mod ours;
+mod outputs;
 mod pair;
 mod quotes;
 mod rng;
+mod rules;
+mod scatter;
 mod shrink;
 mod small;
 mod store;
@@ -62,7 +66,8 @@ impl Shard {
     fn run(&mut self) -> Result<(), Box<Finding>> {
         self.edge_lists()?;
         let mut number = self.number;
-        while self.tally.calls < self.options.calls.div_ceil(SHARDS) {
+        let enough = self.tally.calls + self.options.calls.div_ceil(SHARDS);
+        while self.tally.calls < enough {
             self.random_list(number)?;
             number += SHARDS;
         }
@@ -88,6 +93,7 @@ impl Shard {
                 .edges(&mut Rng::new(self.options.seed, 0))
                 .map_err(|mismatch| after_list(name, &memories, mismatch))?;
             edge_runs(bank.as_mut(), &mut self.tally, list)?;
+            all_outputs(bank.as_mut(), &mut self.tally, name)?;
         }
         Ok(())
     }
@@ -115,6 +121,7 @@ impl Shard {
         let extra_rng = &mut Rng::new(self.options.seed, !number);
         let hands_on = !rng.one_in(4);
         let generator = Generator::new(rng, bank.layout(), sort, capacities, calls);
+        let generator = generator.with_places(Rng::new(!self.options.seed, number));
         let mut generator = if hands_on { generator.handing_on() } else { generator };
         let next = |models: &_, left| generator.next(models, left);
         let closer = if sort.is_dear() { looks } else { Looks::Always };
@@ -174,6 +181,28 @@ fn compare_list(
 fn edge_runs(bank: &mut dyn Bank, tally: &mut Tally, list: List) -> Result<(), Box<Finding>> {
     let next = edges::steps(edges::runs(&bank.layout()));
     compare_list(bank, tally, list, [Looks::Always; 2], next).map(|_| ())
+}
+
+/// Every pair of outputs of every instruction, for each way in which it ends.
+fn all_outputs(
+    bank: &mut dyn Bank,
+    tally: &mut Tally,
+    layout: &'static str,
+) -> Result<(), Box<Finding>> {
+    let numbers = bank.layout();
+    for case in outputs::cases(&numbers) {
+        let list = List { layout, capacities: [case.capacity; 2], steps: Vec::new() };
+        let mut steps = case.steps().into_iter();
+        let looks = [Looks::Every(512), Looks::Always];
+        let mut memories = compare_list(bank, tally, list, looks, |_, _| steps.next())?;
+        memories[0].damage();
+        for run in case.forms().into_iter().flat_map(outputs::pairs) {
+            tally.count_alone("instructions on a damaged memory");
+            alone::on_damaged(&mut memories[0], &case.frame, &run)
+                .map_err(|mismatch| after_list(layout, &memories, mismatch))?;
+        }
+    }
+    Ok(())
 }
 
 /// What differs on the memories that a list has left. The list's calls are not told: quotes and

@@ -6,8 +6,10 @@
 
 use std::collections::{BTreeMap, BTreeSet};
 
-use oracle::{Area, Call, Frame, HeapInstruction, Kind, Layout, Operand, Place, View};
+use oracle::{Area, Call, Frame, Kind, Layout, Place, View};
 use zincpapaya::Capacity;
+
+use crate::rules;
 
 pub const CHUNK: u64 = 256;
 /// Addresses end here.
@@ -34,36 +36,6 @@ pub fn place(layout: &Layout, page: u32) -> Option<Place> {
         _ => return None,
     };
     Some(Place::Dynamic { group: rel / layout.stride, kind })
-}
-
-/// The word of an operand, and its tag.
-pub fn operand_word(operand: Operand) -> (oracle::Word, bool) {
-    match operand {
-        Operand::Register { word, tagged } => (word, tagged),
-        Operand::Immediate(number) => (u32::from(number).into(), false),
-    }
-}
-
-/// The address of an operand that is not above the limit.
-pub fn operand_address(operand: Operand) -> Option<u32> {
-    let [low, rest @ ..] = operand_word(operand).0 .0;
-    let low = u32::try_from(low).ok().filter(|low| *low <= LAST_ADDRESS)?;
-    (rest == [0; 3]).then_some(low)
-}
-
-/// Whether the call is a store that its hook stops with a value of more than 32 bits.
-pub fn hook_value_too_great(call: &Call) -> bool {
-    match call {
-        Call::Instruction {
-            instruction: HeapInstruction::Store { operand, value, hook: Some(hook), .. },
-            ..
-        } => {
-            let [low, rest @ ..] = value.0;
-            let too_great = low > u32::MAX.into() || rest != [0; 3];
-            too_great && operand_address(*operand) == Some(*hook)
-        }
-        _ => false,
-    }
 }
 
 /// Page and bound of one of a frame's areas.
@@ -142,7 +114,7 @@ impl Model {
     }
 
     /// What the call writes; none for a call that writes nothing, panics as the EraVM does, or is
-    /// refused with one of 4 to 8.
+    /// refused with one of 4 to 8, or with 16.
     pub fn writes(&self, call: &Call) -> Option<Writes> {
         let place = |page: u32| place(&self.layout, page);
         let unallocated =
@@ -157,18 +129,10 @@ impl Model {
             Call::WriteBytes { page, start, bytes } => {
                 Writes::bytes(place(*page)?, *start, bytes.len())
             }
-            Call::Instruction { frame, instruction } => match *instruction {
-                HeapInstruction::Store { area, operand, .. } => {
-                    let address = operand_address(operand)?;
-                    let (page, bound) = area_of(frame, area);
-                    let due = (address + 32).saturating_sub(bound);
-                    (due <= frame.gas).then_some(Writes::word(place(page)?, address))
-                }
-                HeapInstruction::StoreStatic { operand, .. } => {
-                    Some(Writes::word(Place::Static, operand_address(operand)?))
-                }
-                _ => None,
-            },
+            Call::Instruction { frame, instruction } if instruction.op.stores() => {
+                let written = rules::due(&self.layout, frame, instruction).access?;
+                Some(Writes::word(place(written.page)?, written.start))
+            }
             _ => None,
         }
     }

@@ -2,17 +2,17 @@
 
 use std::{collections::BTreeSet, ops::Range};
 
-use oracle::{Answer, Area, Call, HeapInstruction, Kind, Operand, PageIds, Place, Pointer, Ran};
+use oracle::{
+    Answer, Area, Call, HeapInstruction, Kind, Left, Op, PageIds, Place, Places, Pointer,
+};
 use zincpapaya::{
     aux_heap_page_from_base, base_page_from_heap, code_page_from_base, heap_page_from_base,
-    Buffers, Capacity, DecodedPage, Error, FatPointer, Frame, Layout, Outcome, PageId, Snapshot,
-    Word,
+    raw::{Instructions, LoadCodes, StoreCodes},
+    Buffers, Capacity, DecodedPage, Error, FatPointer, Frame, Layout, Outcome, PageId, Registers,
+    Snapshot, Word,
 };
 
-use crate::{
-    both::{on_both, same, Both},
-    model::operand_word,
-};
+use crate::both::{on_both, same, Both};
 
 /// What the library answered.
 #[derive(Debug, PartialEq)]
@@ -219,7 +219,7 @@ fn page_number(layout: &Layout, of: PageIds) -> Result<u32, Error> {
     })
 }
 
-fn our_frame(frame: &oracle::Frame, panicked: bool) -> Frame {
+pub fn our_frame(frame: &oracle::Frame, panicked: bool) -> Frame {
     let oracle::Frame { gas, heap, aux, heap_bound, aux_bound } = *frame;
     Frame { gas, heap: PageId(heap), aux: PageId(aux), heap_bound, aux_bound, panicked }
 }
@@ -236,13 +236,20 @@ fn our_area(area: Area) -> zincpapaya::Area {
     }
 }
 
-fn our_operand(operand: Operand) -> zincpapaya::Operand {
-    let (word, tagged) = operand_word(operand);
-    zincpapaya::Operand { word: Word(word.0), tagged }
+pub fn our_registers(registers: &oracle::Registers) -> Registers {
+    Registers::new(registers.words.map(|word| Word(word.0)), registers.flags)
+}
+
+fn their_registers(registers: &Registers) -> oracle::Registers {
+    // vm2 has 16 bits of flags. The library has 64, and no instruction may set one of the others.
+    let narrow = Registers::new(*registers.words(), registers.pointer_flags());
+    assert_eq!(*registers, narrow, "a flag above those of the sixteen registers is set");
+    let words = registers.words().map(|word| oracle::Word(word.0));
+    oracle::Registers { words, flags: registers.pointer_flags() }
 }
 
 /// Calls with a frame. What vm2's frame does not have is looked at here: the mark is set by a panic
-/// and by nothing else, and a refusal changes no field.
+/// and by nothing else, and a refusal changes no field and no register.
 fn framed(both: &mut Both, entered: &Frame, call: &Call) -> Replied {
     let mut frame = *entered;
     let answer = match call {
@@ -254,8 +261,7 @@ fn framed(both: &mut Both, entered: &Frame, call: &Call) -> Replied {
             let paid = frame.grow_heap(our_area(*area), *new_bound);
             Ok(Answer::Paid(paid, their_frame(&frame)))
         }
-        Call::Instruction { instruction, .. } => run(both, &mut frame, instruction)
-            .and_then(|outcome| told(&frame, instruction, outcome)),
+        Call::Instruction { instruction, .. } => executed(both, &mut frame, instruction),
         _ => unreachable!("this call takes no frame"),
     };
     if matches!(answer, Err(Reply::Wrong(_))) {
@@ -271,59 +277,60 @@ fn framed(both: &mut Both, entered: &Frame, call: &Call) -> Replied {
     answer
 }
 
-/// Runs an instruction on both memories. The frames that it leaves must be the same, too.
+/// An instruction: how it ended, with the frame and all registers that it left.
+fn executed(both: &mut Both, frame: &mut Frame, instruction: &HeapInstruction) -> Replied {
+    let entered = our_registers(&instruction.registers);
+    let mut registers = entered;
+    let outcome = run(both, frame, &mut registers, instruction);
+    if matches!(outcome, Err(Reply::Refused(_))) && registers != entered {
+        return Err(Reply::Wrong(format!("refused, and the registers are {registers:?}")));
+    }
+    let left = Left { frame: their_frame(frame), registers: their_registers(&registers) };
+    let left = Box::new(left);
+    Ok(match outcome? {
+        Outcome::Running => Answer::Ran(left, None),
+        Outcome::SuspendedOnHook(value) => Answer::Ran(left, Some(value)),
+        Outcome::Panicked => Answer::EraPanic(left),
+    })
+}
+
+/// Runs an instruction on both memories. The frames and the registers that it leaves must be the same,
+/// too.
 fn run(
     both: &mut Both,
     frame: &mut Frame,
+    registers: &mut Registers,
     instruction: &HeapInstruction,
 ) -> Result<Outcome, Reply> {
-    let mut lent = *frame;
-    macro_rules! run {
-        ($call:ident($($arg:expr),*)) => {
-            same(both.owned.$call(frame, $($arg),*), both.lend().$call(&mut lent, $($arg),*))
-        };
-    }
-    let outcome = match *instruction {
-        HeapInstruction::Load { area, operand, .. } => {
-            run!(load(our_area(area), our_operand(operand)))
-        }
-        HeapInstruction::Store { area, operand, value, hook, .. } => {
-            run!(store(our_area(area), our_operand(operand), Word(value.0), hook))
-        }
-        HeapInstruction::LoadPointer { word, tagged, .. } => {
-            run!(load_pointer(zincpapaya::Operand { word: Word(word.0), tagged }))
-        }
-        HeapInstruction::LoadStatic { operand, .. } => run!(load_static(our_operand(operand))),
-        HeapInstruction::StoreStatic { operand, value, .. } => {
-            run!(store_static(our_operand(operand), Word(value.0)))
-        }
-    };
-    same(Ok(*frame), Ok(lent))?;
+    let (mut lent, mut in_lent) = (*frame, *registers);
+    let outcome = same(
+        put(&mut both.owned, frame, registers, instruction),
+        put(&mut both.lend(), &mut lent, &mut in_lent, instruction),
+    );
+    same(Ok((*frame, *registers)), Ok((lent, in_lent)))?;
     outcome
 }
 
-/// An outcome as vm2 tells it: the word of a load alone, and the incremented operand where it was
-/// asked for.
-fn told(frame: &Frame, instruction: &HeapInstruction, outcome: Outcome) -> Replied {
-    let (loads, increment) = match *instruction {
-        HeapInstruction::Load { increment, .. }
-        | HeapInstruction::LoadPointer { increment, .. }
-        | HeapInstruction::LoadStatic { increment, .. } => (true, increment),
-        HeapInstruction::Store { increment, .. }
-        | HeapInstruction::StoreStatic { increment, .. } => (false, increment),
-    };
-    let frame = their_frame(frame);
-    let (word, next, stop) = match outcome {
-        Outcome::Panicked => return Ok(Answer::EraPanic(frame)),
-        Outcome::Running { word, next } => (word, next, None),
-        Outcome::SuspendedOnHook { value, next } => (Word::ZERO, next, Some(value)),
-    };
-    if !loads && word != Word::ZERO {
-        return Err(Reply::Wrong(format!("a store gave the word {word:?}")));
+/// Puts an instruction to one memory.
+pub fn put(
+    memory: &mut impl Instructions,
+    frame: &mut Frame,
+    registers: &mut Registers,
+    instruction: &HeapInstruction,
+) -> Result<Outcome, Error> {
+    let HeapInstruction { increment, kernel, .. } = *instruction;
+    let Places { source, value, dst0, dst1 } = instruction.places;
+    let load = LoadCodes { source, dst0, dst1, increment };
+    let store = StoreCodes { source, value, dst0, dst1, increment };
+    match instruction.op {
+        Op::Load(area) => memory.raw_load(frame, registers, our_area(area), load),
+        Op::Store { area, hook } => {
+            memory.raw_store(frame, registers, our_area(area), store, kernel, hook)
+        }
+        Op::LoadPointer => memory.raw_load_pointer(frame, registers, load),
+        Op::LoadStatic => memory.raw_load_static(frame, registers, load),
+        Op::StoreStatic => memory.raw_store_static(frame, registers, store, kernel),
     }
-    let word = loads.then_some(oracle::Word(word.0));
-    let next = increment.then_some((oracle::Word(next.word.0), next.tagged));
-    Ok(Answer::Ran(Ran { frame, word, next, stop }))
 }
 
 /// A page of a memory's buffers and the number of a chunk that it holds.

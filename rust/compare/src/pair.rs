@@ -2,7 +2,7 @@
 //! that is lent.
 
 use lines::show;
-use oracle::{catch, Answer, Bank, Call, Chunk, View, Word};
+use oracle::{catch, Answer, Bank, Call, Chunk, Frame, HeapInstruction, Left, View, Word};
 use zincpapaya::{Capacity, PageId};
 
 use crate::{
@@ -12,6 +12,7 @@ use crate::{
     list::{Finding, Handed, List, Mismatch, Step},
     model::{Model, CHUNK},
     ours::{self, Reply},
+    rules::{self, Access, Due, Ending},
     tally::Tally,
 };
 
@@ -123,6 +124,10 @@ impl<'a> Pair<'a> {
             return Err(Mismatch { what: "the answers differ".into(), vm2, library });
         }
         self.tally.count(call, &theirs);
+        if let Call::Instruction { frame, instruction } = call {
+            let ending = self.by_the_rules(at, frame, instruction, &theirs)?;
+            self.tally.registers.count(call, instruction, ending);
+        }
         self.hand_on(step, &theirs, &ours)?;
         let carried_out = !matches!(theirs, Answer::RustPanic(_) | Answer::EraPanic(_));
         if call.changes() {
@@ -143,6 +148,43 @@ impl<'a> Pair<'a> {
         answered.unwrap_or_else(|panic| Reply::Wrong(panic.message))
     }
 
+    /// Holds vm2's answer to the rules: how the instruction ended, its frame, and every register with
+    /// its flag. The word of a load is what vm2 reads there.
+    fn by_the_rules(
+        &mut self,
+        at: usize,
+        frame: &Frame,
+        run: &HeapInstruction,
+        theirs: &Answer,
+    ) -> Result<Ending, Mismatch> {
+        let due @ Due { ending, stop, .. } = rules::due(&self.bank.layout(), frame, run);
+        let read = due.access.filter(|_| !run.op.stores());
+        let word = read.map_or(Word::default(), |access| self.word_at(at, access));
+        let registers = rules::registers_after(run, ending, word);
+        let left = Left { frame: due.frame, registers };
+        let agrees = match (ending, theirs) {
+            (Ending::Running | Ending::Stopped, Answer::Ran(given, stopped)) => {
+                (**given, *stopped) == (left, stop)
+            }
+            (Ending::Panicked(_), Answer::EraPanic(given)) => **given == left,
+            (Ending::Refused(number), Answer::RustPanic(panic)) => panic.refusal == Some(number),
+            _ => false,
+        };
+        if agrees {
+            return Ok(ending);
+        }
+        let library = format!("not asked; by the rules {ending:?}, {stop:?}, {left:?}");
+        let what = "an instruction, and what the rules say of it".into();
+        Err(Mismatch { what, vm2: show::answer(theirs), library })
+    }
+
+    fn word_at(&mut self, at: usize, Access { page, start, end }: Access) -> Word {
+        match self.bank.answer(at, &Call::ReadU256Partially { page, start, end }) {
+            Answer::Word(word) => word,
+            answer => unreachable!("a read of at most 32 bytes: {answer:?}"),
+        }
+    }
+
     fn refused_for_want_of_room(&mut self, step: &Step, number: u8) -> Result<(), Mismatch> {
         let ours = self.answer(step);
         if ours != Reply::Refused(number) {
@@ -151,6 +193,9 @@ impl<'a> Pair<'a> {
             return Err(Mismatch { what, vm2, library: shown(&ours) });
         }
         *self.tally.no_room.entry(number).or_default() += 1;
+        if let Call::Instruction { instruction, .. } = &step.call {
+            self.tally.registers.count(&step.call, instruction, Ending::Refused(number));
+        }
         self.left = step.given().or(self.left);
         self.after(step, false)
     }
@@ -159,7 +204,7 @@ impl<'a> Pair<'a> {
     fn hand_on(&mut self, step: &Step, theirs: &Answer, ours: &Reply) -> Result<(), Mismatch> {
         let Some(given) = step.given() else { return Ok(()) };
         self.left = match theirs {
-            Answer::Ran(ran) => Some(Handed { frame: ran.frame, ..given }),
+            Answer::Ran(left, _) => Some(Handed { frame: left.frame, ..given }),
             Answer::EraPanic(_) => None,
             // It was refused.
             _ => Some(given),

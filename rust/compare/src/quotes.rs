@@ -4,7 +4,7 @@
 
 use std::fmt::Debug;
 
-use oracle::{Answer, Area, Bank, Call, Frame, HeapInstruction, Layout, Operand};
+use oracle::{Answer, Area, Bank, Frame, HeapInstruction, Layout, Op, Operand, Word};
 use zincpapaya::{Error, Quote};
 
 use crate::{
@@ -146,19 +146,20 @@ impl<'a> Quotes<'a> {
         let mut frame = loads.first;
         for (position, address) in loads.asked.list.iter().enumerate() {
             let operand = Operand::Register { word: (*address).into(), tagged: false };
-            let instruction = HeapInstruction::Load { area: loads.area, operand, increment: false };
-            let call = Call::Instruction { frame, instruction };
+            let op = Op::Load(loads.area);
+            let load = HeapInstruction::on_operands(op, operand, Word::default());
+            let call = load.incrementing(false).on(frame);
             let step = Step { memory: 0, call, marked: false };
             let theirs = self.bank.answer(step.memory, &step.call);
             let ours = ours::answer(&mut self.ours, step.memory, &step.call, step.marked);
             self.tally.quotes.loads += 1;
             match &theirs {
-                Answer::Ran(ran) if ours.agrees_with(&theirs) => {
+                Answer::Ran(left, _) if ours.agrees_with(&theirs) => {
                     sides.answered(&step, &theirs, &ours).map_err(|found| found.within(loads))?;
-                    frame = ran.frame;
+                    frame = left.frame;
                 }
-                Answer::EraPanic(last) if ours.agrees_with(&theirs) => {
-                    return Ok((*last, position))
+                Answer::EraPanic(left) if ours.agrees_with(&theirs) => {
+                    return Ok((left.frame, position))
                 }
                 _ => {
                     let what = format!("the load at position {position} of {loads:?}");

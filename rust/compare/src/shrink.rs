@@ -3,7 +3,7 @@
 
 use std::time::{Duration, Instant};
 
-use oracle::{Bank, Call, Frame, HeapInstruction, Operand, PageIds, Pointer, Word};
+use oracle::{Bank, Call, Frame, HeapInstruction, Op, PageIds, Places, Pointer, Registers, Word};
 
 use crate::{
     list::{Finding, List, Step},
@@ -128,7 +128,13 @@ fn simpler(step: &Step) -> Vec<Step> {
     for shorter in SHORTER {
         put(&|call| bytes(call).is_some_and(|bytes| set(bytes, shorter)));
     }
-    put(&unhooked);
+    for plainer in PLAINER {
+        put(&|call| instruction(call).is_some_and(|run| set(run, plainer)));
+    }
+    for at in 0..16 {
+        let unset = |flags| flags & !(1 << at);
+        put(&|call| instruction(call).is_some_and(|run| set(&mut run.registers.flags, unset)));
+    }
     steps
 }
 
@@ -152,17 +158,31 @@ const SHORTER: [fn(Vec<u8>) -> Vec<u8>; 3] = [
     |bytes| vec![1; bytes.len()],
 ];
 
+/// Ways to make an instruction plainer: no hook, no increment, kernel mode, no flags.
+const PLAINER: [fn(HeapInstruction) -> HeapInstruction; 4] = [
+    |mut run| {
+        if let Op::Store { hook, .. } = &mut run.op {
+            *hook = None;
+        }
+        run
+    },
+    |run| HeapInstruction { increment: false, ..run },
+    |run| HeapInstruction { kernel: true, ..run },
+    |run| {
+        let registers = Registers { flags: 0, ..run.registers };
+        HeapInstruction { registers, ..run }
+    },
+];
+
 fn set<T: Clone>(place: &mut T, change: impl Fn(T) -> T) -> bool {
     *place = change(place.clone());
     true
 }
 
-fn unhooked(call: &mut Call) -> bool {
+fn instruction(call: &mut Call) -> Option<&mut HeapInstruction> {
     match call {
-        Call::Instruction { instruction: HeapInstruction::Store { hook, .. }, .. } => {
-            hook.take().is_some()
-        }
-        _ => false,
+        Call::Instruction { instruction, .. } => Some(instruction),
+        _ => None,
     }
 }
 
@@ -197,7 +217,12 @@ fn numbers(call: &mut Call) -> Vec<&mut u32> {
             numbers.push(number);
             numbers
         }
-        Call::Instruction { frame, .. } => frame_numbers(frame),
+        Call::Instruction { frame, instruction } => {
+            let Places { source, value, dst0, dst1 } = &mut instruction.places;
+            let mut numbers = frame_numbers(frame);
+            numbers.extend([source, value, dst0, dst1]);
+            numbers
+        }
         _ => Vec::new(),
     }
 }
@@ -221,26 +246,8 @@ fn words(call: &mut Call) -> Vec<&mut Word> {
     match call {
         Call::WriteU256 { value, .. } => vec![value],
         Call::FatPointerFrom { word } => vec![word],
-        Call::Instruction { instruction, .. } => match instruction {
-            HeapInstruction::Load { operand, .. } | HeapInstruction::LoadStatic { operand, .. } => {
-                operand_words(operand)
-            }
-            HeapInstruction::Store { operand, value, .. }
-            | HeapInstruction::StoreStatic { operand, value, .. } => {
-                let mut words = operand_words(operand);
-                words.push(value);
-                words
-            }
-            HeapInstruction::LoadPointer { word, .. } => vec![word],
-        },
+        Call::Instruction { instruction, .. } => instruction.registers.words.iter_mut().collect(),
         _ => Vec::new(),
-    }
-}
-
-fn operand_words(operand: &mut Operand) -> Vec<&mut Word> {
-    match operand {
-        Operand::Register { word, .. } => vec![word],
-        Operand::Immediate(_) => Vec::new(),
     }
 }
 

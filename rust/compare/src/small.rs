@@ -1,7 +1,7 @@
 //! Every list of up to five calls over a few small alphabets, on memories so small that each list
 //! soon meets their limits.
 
-use oracle::{Area, Call, Frame, HeapInstruction, Operand, Word};
+use oracle::{Area, Call, Frame, HeapInstruction, Op, Operand, Word};
 use zincpapaya::Capacity;
 
 use crate::{
@@ -94,28 +94,20 @@ fn pages() -> Alphabet {
 /// Instructions, and the comparison of two memories.
 fn instructions() -> Alphabet {
     let frame = Frame { gas: 1, heap: 66, aux: 5, heap_bound: 256, aux_bound: 31 };
-    let instruction = |instruction| Call::Instruction { frame, instruction };
+    let run = |op, operand, value| HeapInstruction::on_operands(op, operand, value).on(frame);
     let store = |area, address, value, hook| {
-        let (operand, increment) = (Operand::Immediate(address), true);
-        instruction(HeapInstruction::Store { area, operand, value, increment, hook })
+        run(Op::Store { area, hook }, Operand::Immediate(address), value)
     };
-    let pointer = Word([66 << 32 | 3, 40 << 32 | 220, 0, 0]);
+    let word = Word([66 << 32 | 3, 40 << 32 | 220, 0, 0]);
+    let pointer = Operand::Register { word, tagged: true };
     let calls = vec![
         store(Area::Heap, 224, 7.into(), Some(224)),
         store(Area::Heap, 225, Word([1 << 32, 0, 0, 0]), Some(225)),
         store(Area::Heap, 226, 7.into(), None),
         store(Area::Aux, 0, 9.into(), None),
-        instruction(HeapInstruction::Load {
-            area: Area::Heap,
-            operand: Operand::Immediate(225),
-            increment: true,
-        }),
-        instruction(HeapInstruction::LoadPointer { word: pointer, tagged: true, increment: true }),
-        instruction(HeapInstruction::StoreStatic {
-            operand: Operand::Immediate(225),
-            value: 3.into(),
-            increment: true,
-        }),
+        run(Op::Load(Area::Heap), Operand::Immediate(225), Word::default()),
+        run(Op::LoadPointer, pointer, Word::default()),
+        run(Op::StoreStatic, Operand::Immediate(225), 3.into()),
         Call::Compare { other: 1 },
     ];
     let same = Call::WriteU256 { page: 66, address: 224, value: 7.into() };

@@ -3,12 +3,13 @@
 
 use std::{fs, io};
 
-use oracle::{Answer, Bank, Call, HeapInstruction, LAYOUTS};
+use oracle::{Answer, Bank, Call, LAYOUTS};
 use zincpapaya::Capacity;
 
 use crate::{
     edges::edges,
     generate::{Generator, Sort},
+    kept,
     list::Step,
     model::{place, Model},
     ours::LAST_CHUNK,
@@ -31,11 +32,11 @@ const HEAD: &str = "\
 # Memories of 96 chunks, 24 pages and 128 words of each journal have room for all of them.
 # rust/README.md describes the lines.";
 
-struct Sample<'a> {
+pub struct Sample<'a> {
     bank: &'a mut dyn Bank,
     models: [Model; 2],
-    lines: Vec<String>,
-    calls: usize,
+    pub lines: Vec<String>,
+    pub calls: usize,
 }
 
 /// Writes the sample; gives the number of its calls.
@@ -48,6 +49,11 @@ pub fn store(file: &str, seed: u64) -> io::Result<usize> {
         lines.extend(of_layout);
         calls += many;
     }
+    let mut bank = oracle::bank(kept::LAYOUT).expect("a listed layout");
+    lines.push(format!("\n{}", kept::HEAD));
+    let (of_registers, many) = kept::sample(bank.as_mut(), seed);
+    lines.extend(of_registers);
+    calls += many;
     lines.push(String::new());
     fs::write(file, lines.join("\n"))?;
     Ok(calls)
@@ -79,7 +85,7 @@ fn sample(bank: &mut dyn Bank, seed: u64) -> (Vec<String>, usize) {
 }
 
 impl<'a> Sample<'a> {
-    fn start(bank: &'a mut dyn Bank) -> Self {
+    pub fn start(bank: &'a mut dyn Bank) -> Self {
         let layout = bank.layout();
         let mut lines = Vec::new();
         for at in 0..2 {
@@ -103,22 +109,34 @@ impl<'a> Sample<'a> {
     }
 
     /// Puts a call to vm2 and writes it with its answer, if both have a place in the sample.
-    fn step(&mut self, Step { memory: at, mut call, .. }: Step) {
-        if self.models[at].no_room(&call, CAPACITY).is_some() {
-            return;
-        }
+    pub fn step(&mut self, Step { memory: at, mut call, .. }: Step) {
         increment(&mut call);
-        let answer = self.bank.answer(at, &call);
-        let refused = matches!(answer, Answer::RustPanic(_) | Answer::EraPanic(_));
+        let Some(answer) = self.ask(at, &call) else { return };
         let not_run = matches!(answer, Answer::NotRun(_));
         let answer = self.whole_chunk(at, &call, answer);
-        if !refused && !not_run && call.changes() {
-            self.models[at].carry_out(&call);
-        }
         let line = written(at, &self.bank.layout(), &call, &answer);
         assert!(line.is_some() || !call.changes() || not_run, "a change that cannot be written");
-        self.calls += usize::from(line.is_some());
-        self.lines.extend(line);
+        line.into_iter().for_each(|line| self.push(line));
+    }
+
+    /// vm2's answer to a call; none where there is no room for the call.
+    pub fn ask(&mut self, at: usize, call: &Call) -> Option<Answer> {
+        if self.models[at].no_room(call, CAPACITY).is_some() {
+            return None;
+        }
+        let answer = self.bank.answer(at, call);
+        let refused = matches!(answer, Answer::RustPanic(_) | Answer::EraPanic(_));
+        let not_run = matches!(answer, Answer::NotRun(_));
+        if !refused && !not_run && call.changes() {
+            self.models[at].carry_out(call);
+        }
+        Some(answer)
+    }
+
+    /// Writes the line of a call.
+    pub fn push(&mut self, line: String) {
+        self.lines.push(line);
+        self.calls += 1;
     }
 
     /// Of the last chunk vm2's reads show 31 bytes; the others stand in its state.
@@ -137,15 +155,14 @@ impl<'a> Sample<'a> {
     }
 
     /// Writes what both memories hold in vm2, where that is what document 01 counts.
-    fn held(&mut self) {
+    pub fn held(&mut self) {
         for at in 0..2 {
             let view = self.bank.view(at);
             let chunks = view.pages.iter().map(|page| page.chunks.len() as u64).sum();
             let [heap, aux] =
                 [&view.journals[0], &view.journals[1]].map(|journal| journal.len() as u64);
             if self.models[at].differs_from(&view).is_none() {
-                self.lines.push(held(at, [chunks, view.dynamic_len, heap, aux]));
-                self.calls += 1;
+                self.push(held(at, [chunks, view.dynamic_len, heap, aux]));
             }
         }
     }
@@ -154,11 +171,6 @@ impl<'a> Sample<'a> {
 /// Every stored instruction tells its incremented operand.
 fn increment(call: &mut Call) {
     if let Call::Instruction { instruction, .. } = call {
-        let (HeapInstruction::Load { increment, .. }
-        | HeapInstruction::Store { increment, .. }
-        | HeapInstruction::LoadPointer { increment, .. }
-        | HeapInstruction::LoadStatic { increment, .. }
-        | HeapInstruction::StoreStatic { increment, .. }) = instruction;
-        *increment = true;
+        instruction.increment = true;
     }
 }

@@ -3,9 +3,13 @@
 use std::{collections::BTreeMap, fmt};
 
 use lines::spell;
-use oracle::{Answer, Call};
+use oracle::{Answer, Call, HeapInstruction};
 
-use crate::{charges::Run, model::LAST_ADDRESS};
+use crate::{
+    charges::Run,
+    model::LAST_ADDRESS,
+    rules::{Ending, Panic},
+};
 
 #[derive(Default)]
 pub struct Tally {
@@ -24,6 +28,7 @@ pub struct Tally {
     pub alone: BTreeMap<&'static str, u64>,
     pub quotes: QuoteCounts,
     pub runs: RunCounts,
+    pub registers: RegisterCounts,
     /// Looks at all that a memory holds, on both sides.
     pub looks: u64,
     /// Chunks compared byte by byte, and journalled words.
@@ -109,6 +114,91 @@ impl fmt::Display for RunCounts {
     }
 }
 
+/// Instructions after which all registers were compared, by name and ending. Those that are refused for
+/// want of room are not put to vm2.
+#[derive(Default)]
+pub struct RegisterCounts {
+    classes: BTreeMap<(&'static str, Ending), Class>,
+}
+
+#[derive(Default)]
+struct Class {
+    calls: u64,
+    /// The second outputs that were met beside each first one, as a set of bits: with an increment, and
+    /// without.
+    pairs: [[u16; 16]; 2],
+}
+
+/// Pairs of outputs, with an increment and without.
+pub const PAIRS: u32 = 2 * 16 * 16;
+
+impl Class {
+    fn met(&self) -> u32 {
+        self.pairs.as_flattened().iter().map(|set| set.count_ones()).sum()
+    }
+
+    fn add(&mut self, other: &Self) {
+        self.calls += other.calls;
+        let sets = self.pairs.as_flattened_mut().iter_mut();
+        sets.zip(other.pairs.as_flattened()).for_each(|(set, more)| *set |= more);
+    }
+}
+
+impl RegisterCounts {
+    pub fn count(&mut self, call: &Call, run: &HeapInstruction, ending: Ending) {
+        let class = self.classes.entry((spell::name(call), ending)).or_default();
+        class.calls += 1;
+        let [dst0, dst1] = [run.places.dst0, run.places.dst1].map(|code| code as usize);
+        if dst0 < 16 && dst1 < 16 {
+            class.pairs[usize::from(!run.increment)][dst0] |= 1 << dst1;
+        }
+    }
+
+    /// How many pairs of outputs each class has met.
+    #[cfg(test)]
+    pub fn met(&self) -> BTreeMap<(&'static str, Ending), u32> {
+        self.classes.iter().map(|(class, counts)| (*class, counts.met())).collect()
+    }
+
+    fn add(&mut self, other: &Self) {
+        for (class, counts) in &other.classes {
+            self.classes.entry(*class).or_default().add(counts);
+        }
+    }
+}
+
+impl fmt::Display for RegisterCounts {
+    fn fmt(&self, out: &mut fmt::Formatter<'_>) -> fmt::Result {
+        let all: u64 = self.classes.values().map(|class| class.calls).sum();
+        writeln!(
+            out,
+            "{all} instructions, after each of which all 16 words and flags were compared:"
+        )?;
+        for ((name, ending), class) in &self.classes {
+            let (calls, met) = (class.calls, class.met());
+            writeln!(
+                out,
+                "  {name:<12} {:<26} {calls:>9} calls, {met} of {PAIRS} pairs of outputs",
+                ending_name(*ending)
+            )?;
+        }
+        Ok(())
+    }
+}
+
+fn ending_name(ending: Ending) -> String {
+    match ending {
+        Ending::Running => "ran".into(),
+        Ending::Stopped => "stopped on the hook".into(),
+        Ending::Panicked(Panic::Operand) => "panic: operand".into(),
+        Ending::Panicked(Panic::Growth) => "panic: growth".into(),
+        Ending::Panicked(Panic::Untagged) => "panic: no tag".into(),
+        Ending::Panicked(Panic::Offset) => "panic: offset".into(),
+        Ending::Refused(number @ 9..=11) => format!("refused {number}, not by vm2"),
+        Ending::Refused(number) => format!("refused {number}"),
+    }
+}
+
 impl Tally {
     /// Counts a call that both sides answered alike.
     pub fn count(&mut self, call: &Call, answer: &Answer) {
@@ -144,6 +234,7 @@ impl Tally {
         self.quotes.panics += other.quotes.panics;
         self.quotes.high += other.quotes.high;
         self.runs.add(&other.runs);
+        self.registers.add(&other.registers);
         for (name, (all, carried_out)) in &other.names {
             let sum = self.names.entry(name).or_default();
             *sum = (sum.0 + all, sum.1 + carried_out);
@@ -190,7 +281,7 @@ impl fmt::Display for Tally {
             "{all} quotes compared with {loads} loads: {panics} end at a panic, {high} of them at the \
              operand limit"
         )?;
-        write!(out, "{}", self.runs)?;
+        write!(out, "{}{}", self.runs, self.registers)?;
         let Self { looks, chunks, words, .. } = self;
         writeln!(
             out,

@@ -1,14 +1,15 @@
 //! That the comparison finds what is wrong: vm2's answers are tampered with on their way, or the
 //! library's quotes are, or one of its two memories. And that its lists have runs of several loads and
-//! stores.
+//! stores, and every pair of outputs.
 
 use oracle::{
-    Answer, Area, Bank, Call, Frame, HeapInstruction, Layout, Operand, Ran, RustPanic, View,
-    LAYOUTS,
+    Answer, Area, Bank, Call, Frame, HeapInstruction, Layout, Left, Op, Operand, Registers,
+    RustPanic, View, LAYOUTS,
 };
 use zincpapaya::{quote, Capacity, Error, PageId, Quote, Word};
 
 use crate::{
+    all_outputs,
     both::Both,
     edge_runs, edges,
     generate::{Generator, Sort},
@@ -19,8 +20,9 @@ use crate::{
     pair::{self, Looks},
     quotes::{Asked, Quoter, Quotes},
     rng::Rng,
+    rules::{Ending, Panic},
     store,
-    tally::{RunCounts, Tally},
+    tally::{RunCounts, Tally, PAIRS},
     Shard,
 };
 
@@ -112,9 +114,9 @@ fn a_wrong_refusal_is_found() {
 
 #[test]
 fn wrong_gas_is_found() {
-    let cheaper = |_: &Call, answer| match answer {
-        Answer::Ran(ran @ Ran { word: Some(_), .. }) if ran.frame.gas == 1 => {
-            Answer::Ran(Ran { frame: Frame { gas: 2, ..ran.frame }, ..ran })
+    let cheaper = |call: &Call, answer| match answer {
+        Answer::Ran(left, stop) if left.frame.gas == 1 && !call.changes() => {
+            Answer::Ran(Left { frame: Frame { gas: 2, ..left.frame }, ..*left }.into(), stop)
         }
         answer => answer,
     };
@@ -148,6 +150,189 @@ fn a_wrong_word_of_a_journal_is_found() {
     assert!(steps(&finding).len() <= 2, "{:?}", finding.lines());
 }
 
+/// Changes the registers that vm2 leaves after an instruction. `change` is told whether it was carried out.
+fn registers_changed(
+    call: &Call,
+    mut answer: Answer,
+    change: fn(&HeapInstruction, bool, &mut Registers),
+) -> Answer {
+    let ran = matches!(answer, Answer::Ran(..));
+    if let (Answer::Ran(left, _) | Answer::EraPanic(left), Call::Instruction { instruction, .. }) =
+        (&mut answer, call)
+    {
+        change(instruction, ran, &mut left.registers);
+    }
+    answer
+}
+
+/// Puts back what a register held before the instruction.
+fn put_back(run: &HeapInstruction, left: &mut Registers, number: u32) {
+    let (word, tagged) = run.registers.get(number as usize);
+    left.put(number as usize, word, tagged);
+}
+
+type Tampering = fn(&Call, Answer) -> Answer;
+
+const WRONG_REGISTERS: [(&str, Tampering); 10] = [
+    ("a panic leaves the second output", |call, answer| {
+        registers_changed(call, answer, |run, ran, left| {
+            if !ran {
+                put_back(run, left, run.places.dst1);
+            }
+        })
+    }),
+    ("a panic clears the first output", |call, answer| {
+        registers_changed(call, answer, |run, ran, left| {
+            if !ran {
+                left.put(run.places.dst0 as usize, 0.into(), false);
+            }
+        })
+    }),
+    ("a load that does not increment leaves the second output", |call, answer| {
+        registers_changed(call, answer, |run, ran, left| {
+            if ran && !run.op.stores() && !run.increment && run.places.dst0 != run.places.dst1 {
+                put_back(run, left, run.places.dst1);
+            }
+        })
+    }),
+    ("a store that increments leaves the second output", |call, answer| {
+        registers_changed(call, answer, |run, ran, left| {
+            if ran && run.op.stores() && run.increment && run.places.dst0 != run.places.dst1 {
+                put_back(run, left, run.places.dst1);
+            }
+        })
+    }),
+    ("a store that does not increment clears the first output", |call, answer| {
+        registers_changed(call, answer, |run, ran, left| {
+            if ran && run.op.stores() && !run.increment {
+                left.put(run.places.dst0 as usize, 0.into(), false);
+            }
+        })
+    }),
+    ("a load loses its operand's tag", |call, answer| {
+        registers_changed(call, answer, |run, ran, left| {
+            if ran && matches!(run.op, Op::Load(_)) {
+                left.flags &= !(1 << run.places.dst1);
+            }
+        })
+    }),
+    ("a static store keeps its operand's tag", |call, answer| {
+        registers_changed(call, answer, |run, ran, left| {
+            if ran && run.op == Op::StoreStatic && run.increment {
+                let tagged = run.registers.get(run.places.source as usize % 16).1;
+                left.flags |= u16::from(tagged) << run.places.dst0;
+            }
+        })
+    }),
+    ("register 0 is written", |call, answer| {
+        registers_changed(call, answer, |run, ran, left| {
+            if ran && run.places.dst0 == 0 {
+                left.put(0, 0.into(), false);
+            }
+        })
+    }),
+    ("the first output is written last", |call, answer| {
+        registers_changed(call, answer, |run, ran, left| {
+            let both = run.places.dst0 == run.places.dst1;
+            if ran && both && run.op == Op::LoadStatic && run.increment {
+                left.put(run.places.dst0 as usize, 1.into(), false);
+            }
+        })
+    }),
+    ("a flag of another register changes", |call, answer| {
+        registers_changed(call, answer, |run, ran, left| {
+            if ran && run.op == Op::LoadPointer && ![run.places.dst0, run.places.dst1].contains(&9)
+            {
+                left.flags ^= 1 << 9;
+            }
+        })
+    }),
+];
+
+#[test]
+fn wrong_registers_are_found_among_all_outputs() {
+    for (what, answer) in WRONG_REGISTERS {
+        let mut bank = Tampered { answer, ..Tampered::new() };
+        let found = all_outputs(&mut bank, &mut Tally::default(), "example").expect_err(what);
+        let one = matches!(steps(&found)[..], [Call::Instruction { .. }]);
+        assert!(one || steps(&found).len() == 2, "{what}: {:?}", found.lines());
+    }
+}
+
+#[test]
+fn wrong_registers_are_found_in_random_lists_and_shrunk() {
+    for (what, answer) in WRONG_REGISTERS {
+        let mut shard = shard(Tampered { answer, ..Tampered::new() });
+        let found = (0..2_000).try_for_each(|number| shard.random_list(number)).expect_err(what);
+        assert!(steps(&found).len() <= 2, "{what}: {:?}", found.lines());
+        let lines = found.lines();
+        assert!(lines.iter().any(|line| line.starts_with("run ")), "{what}: {lines:?}");
+    }
+}
+
+#[test]
+fn a_place_that_vm2_takes_and_the_library_does_not_is_found() {
+    let answer = |call: &Call, answer| match (call, answer) {
+        (Call::Instruction { frame, instruction }, Answer::RustPanic(panic))
+            if panic.refusal == Some(16) && instruction.places.dst1 == 16 =>
+        {
+            Answer::Ran(Left { frame: *frame, registers: instruction.registers }.into(), None)
+        }
+        (_, answer) => answer,
+    };
+    let found = find(Tampered { answer, ..Tampered::new() }).expect("16 is no refusal");
+    let lines = found.lines();
+    assert!(lines.iter().any(|line| line.contains(" r16")), "{lines:?}");
+}
+
+#[test]
+fn what_the_rules_say_is_compared() {
+    let answer = |call: &Call, answer| match (call, answer) {
+        (Call::ReadU256Partially { start: 8, end: 40, .. }, Answer::Word(mut word)) => {
+            word.0[3] ^= 1;
+            Answer::Word(word)
+        }
+        (_, answer) => answer,
+    };
+    let mut bank = Tampered { answer, ..Tampered::new() };
+    let found = all_outputs(&mut bank, &mut Tally::default(), "example");
+    let found = found.expect_err("loads read something else");
+    assert!(found.mismatch.what.contains("what the rules say"), "{:?}", found.lines());
+}
+
+#[test]
+fn every_layout_has_all_pairs_of_outputs_for_every_ending() {
+    let [ran, operand, growth] =
+        [Ending::Running, Ending::Panicked(Panic::Operand), Ending::Panicked(Panic::Growth)];
+    let [no_tag, offset] = [Panic::Untagged, Panic::Offset].map(Ending::Panicked);
+    let refused = Ending::Refused;
+    let due = [
+        ("load", vec![ran, operand, growth, refused(16)]),
+        (
+            "store",
+            [4, 9, 10, 11, 15, 16]
+                .map(refused)
+                .into_iter()
+                .chain([ran, Ending::Stopped, operand, growth])
+                .collect(),
+        ),
+        ("load_pointer", vec![ran, no_tag, offset, refused(14), refused(16)]),
+        ("load_static", vec![ran, operand, refused(16)]),
+        ("store_static", vec![ran, operand, refused(10), refused(16)]),
+    ];
+    let due = due
+        .into_iter()
+        .flat_map(|(name, endings)| endings.into_iter().map(move |ending| ((name, ending), PAIRS)));
+    let due: std::collections::BTreeMap<_, _> = due.collect();
+    for layout in LAYOUTS {
+        let mut bank = oracle::bank(layout).expect("a listed layout");
+        let mut tally = Tally::default();
+        let done = all_outputs(bank.as_mut(), &mut tally, layout);
+        assert!(done.is_ok(), "{:?}", done.map_err(|finding| finding.lines()));
+        assert_eq!(tally.registers.met(), due, "{layout}");
+    }
+}
+
 /// An empty memory, owned and lent.
 fn opened() -> Both {
     let layout = ours::layout(&Tampered::new().layout());
@@ -162,11 +347,8 @@ fn is_wrong<T>(given: &Result<T, Reply>) -> bool {
 fn an_answer_of_the_lent_memory_alone_is_found() {
     let mut memories = [opened(), opened()];
     memories[0].lend().write_u256(PageId(66), 0, Word::from(7)).expect("there is room");
-    let load = HeapInstruction::Load {
-        area: Area::Heap,
-        operand: Operand::Register { word: 1u32.into(), tagged: false },
-        increment: false,
-    };
+    let operand = Operand::Register { word: 1u32.into(), tagged: false };
+    let load = HeapInstruction::on_operands(Op::Load(Area::Heap), operand, 0.into());
     let frame = Frame { gas: 100, heap: 66, aux: 67, heap_bound: 0, aux_bound: 0 };
     let calls = [
         Call::ReadU256 { page: 66, address: 1 },
@@ -175,7 +357,7 @@ fn an_answer_of_the_lent_memory_alone_is_found() {
         Call::DynamicLen,
         Call::Compare { other: 1 },
         Call::AllocateAt { page: 66 },
-        Call::Instruction { frame, instruction: load },
+        load.on(frame),
     ];
     for call in calls {
         let mut memories = memories.clone();
@@ -293,7 +475,10 @@ fn every_wrong_quote_is_found_among_those_that_are_drawn() {
 #[test]
 fn a_wrong_load_of_a_quote_is_found() {
     let answer = |_: &Call, answer| match answer {
-        Answer::EraPanic(frame) => Answer::EraPanic(Frame { aux_bound: 77, ..frame }),
+        Answer::EraPanic(mut left) => {
+            left.frame.aux_bound = 77;
+            Answer::EraPanic(left)
+        }
         answer => answer,
     };
     let bank = Tampered { answer, ..Tampered::new() };
@@ -340,18 +525,15 @@ fn the_worked_run_pays_what_it_must() {
 #[test]
 fn only_a_panic_leaves_no_frame() {
     let operand = |address: u32| Operand::Register { word: address.into(), tagged: false };
-    let load = |address| {
-        let (area, operand) = (Area::Heap, operand(address));
-        HeapInstruction::Load { area, operand, increment: true }
-    };
+    let load =
+        |address| HeapInstruction::on_operands(Op::Load(Area::Heap), operand(address), 0.into());
     let store = |hook| {
-        let (area, operand, value) = (Area::Aux, operand(0), 1.into());
-        HeapInstruction::Store { area, operand, value, increment: true, hook }
+        HeapInstruction::on_operands(Op::Store { area: Area::Aux, hook }, operand(0), 1.into())
     };
     // Page 65 is none, and page 5 has a journal.
     let frame = Frame { gas: 100, heap: 66, aux: 65, heap_bound: 0, aux_bound: 0 };
     let [to_none, to_journal] = [65, 5].map(|aux| Frame { gas: 200, aux, ..frame });
-    let instruction = |frame, instruction| Call::Instruction { frame, instruction };
+    let instruction = |frame, instruction: HeapInstruction| instruction.on(frame);
     let marked = |frame| Some(Handed { frame, marked: true });
     let loaded = marked(Frame { gas: 68, heap_bound: 32, ..frame });
     let calls = [

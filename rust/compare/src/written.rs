@@ -3,9 +3,12 @@
 //! A line is a letter, the call's numbers, ` =`, and the numbers of the answer, of which the first is
 //! 0, a refusal's number, 100 for a panic of the EraVM or 101 for a stop at a hook.
 
-use oracle::{Answer, Area, Call, Frame, HeapInstruction, Kind, Layout, PageIds, Place, Ran, Word};
+use oracle::{
+    Answer, Area, Call, Frame, HeapInstruction, Kind, Layout, Left, Op, PageIds, Place, Places,
+    Registers, Word,
+};
 
-use crate::{generate::pattern, model::operand_word};
+use crate::{generate::pattern, rules};
 
 /// Bytes of one call, at most.
 pub const LONGEST: u64 = 1_024;
@@ -16,6 +19,12 @@ const SUSPENDED: u64 = 101;
 /// A number that stands for bytes.
 fn digest(bytes: &[u8]) -> u64 {
     bytes.iter().fold(0, |sum, byte| (sum * 257 + u64::from(*byte) + 1) % 4_294_967_291)
+}
+
+/// A number that stands for all limbs of the registers.
+fn digest_of_limbs(words: &[Word; 16]) -> u64 {
+    let limbs = words.iter().flat_map(|word| word.0);
+    limbs.fold(0, |sum: u64, limb| sum.wrapping_mul(31).wrapping_add(limb))
 }
 
 /// The number and the seed that stand for the bytes of a call.
@@ -47,6 +56,40 @@ pub fn held(at: usize, numbers: [u64; 4]) -> String {
     line("v", &[at as u64], &numbers)
 }
 
+/// The line that gives a register a word and a tag.
+pub fn register(number: usize, word: Word, tagged: bool) -> String {
+    let mut numbers = vec![number as u64];
+    numbers.extend(word.0);
+    numbers.push(tagged.into());
+    line("R", &numbers, &[0])
+}
+
+/// The line of an instruction with registers that are kept, with vm2's answer; none where vm2 has none.
+/// A refusal leaves frame and registers as they were.
+pub fn kept(at: usize, frame: &Frame, run: &HeapInstruction, answer: &Answer) -> Option<String> {
+    let given = Left { frame: *frame, registers: run.registers };
+    let (status, left, stop) = match answer {
+        Answer::Ran(left, None) => (0, left.as_ref(), 0),
+        Answer::Ran(left, Some(stop)) => (SUSPENDED, left.as_ref(), *stop),
+        Answer::EraPanic(left) => (PANICKED, left.as_ref(), 0),
+        Answer::RustPanic(panic) => (panic.refusal?.into(), &given, 0),
+        _ => return None,
+    };
+    let (op, area, hook) = op_numbers(run.op);
+    let Places { source, value, dst0, dst1 } = run.places;
+    let mut numbers = vec![at as u64, op];
+    numbers.extend(frame_numbers(frame));
+    numbers.push(area);
+    numbers.extend([source, value, dst0, dst1].map(u64::from));
+    numbers.extend([run.increment, run.kernel].map(u64::from));
+    numbers.extend(hook);
+    let mut left_numbers = vec![status];
+    left_numbers.extend(bounds(&left.frame));
+    let Registers { words, flags } = &left.registers;
+    left_numbers.extend([stop.into(), u64::from(*flags), digest_of_limbs(words)]);
+    Some(line("X", &numbers, &left_numbers))
+}
+
 /// The line of a call on memory `at` with vm2's answer; none where the format has no line for it, or
 /// vm2 no answer.
 pub fn written(at: usize, layout: &Layout, call: &Call, answer: &Answer) -> Option<String> {
@@ -67,6 +110,9 @@ pub fn written(at: usize, layout: &Layout, call: &Call, answer: &Answer) -> Opti
         (Call::AllocateAt { .. } | Call::AllocateWithContentAt { .. }, _) => vec![0],
         (Call::UseGas { .. }, Answer::Paid(paid, frame)) => {
             vec![0, frame.gas.into(), (*paid).into()]
+        }
+        (Call::Instruction { instruction, .. }, Answer::Ran(left, stop)) => {
+            ran_numbers(instruction, left, *stop)
         }
         (_, answer) => answered(answer),
     };
@@ -147,28 +193,33 @@ fn area_number(area: Area) -> u64 {
     }
 }
 
+/// The numbers of an instruction, of its area, and of hooking and its address.
+fn op_numbers(op: Op) -> (u64, u64, [u64; 2]) {
+    let none = [0, 0];
+    match op {
+        Op::Load(area) => (0, area_number(area), none),
+        Op::Store { area, hook } => {
+            let hook = hook.map_or(none, |address| [1, address.into()]);
+            (1, area_number(area), hook)
+        }
+        Op::LoadPointer => (2, 0, none),
+        Op::LoadStatic => (3, 0, none),
+        Op::StoreStatic => (4, 0, none),
+    }
+}
+
+/// Instructions are told by their operands alone here.
 fn instruction_numbers(frame: &Frame, instruction: &HeapInstruction) -> Vec<u64> {
-    let zero = Word([0; 4]);
-    let (op, area, (word, tagged), value, hook) = match *instruction {
-        HeapInstruction::Load { area, operand, .. } => {
-            (0, area_number(area), operand_word(operand), zero, None)
-        }
-        HeapInstruction::Store { area, operand, value, hook, .. } => {
-            (1, area_number(area), operand_word(operand), value, hook)
-        }
-        HeapInstruction::LoadPointer { word, tagged, .. } => (2, 0, (word, tagged), zero, None),
-        HeapInstruction::LoadStatic { operand, .. } => (3, 0, operand_word(operand), zero, None),
-        HeapInstruction::StoreStatic { operand, value, .. } => {
-            (4, 0, operand_word(operand), value, None)
-        }
-    };
+    let (op, area, hook) = op_numbers(instruction.op);
+    let (word, tagged) = rules::operand(instruction);
+    let value = if instruction.op.stores() { rules::value(instruction) } else { Word::default() };
     let mut numbers = vec![op];
     numbers.extend(frame_numbers(frame));
     numbers.push(area);
     numbers.extend(word.0);
     numbers.push(tagged.into());
     numbers.extend(value.0);
-    numbers.extend([u64::from(hook.is_some()), hook.unwrap_or_default().into()]);
+    numbers.extend(hook);
     numbers
 }
 
@@ -188,8 +239,8 @@ fn answered(answer: &Answer) -> Vec<u64> {
             let Frame { gas, heap_bound, aux_bound, .. } = *frame;
             ok(&[(*paid).into(), gas.into(), heap_bound.into(), aux_bound.into()])
         }
-        Answer::Ran(ran) => ran_numbers(ran),
-        Answer::EraPanic(frame) => [vec![PANICKED], bounds(frame)].concat(),
+        Answer::EraPanic(left) => [vec![PANICKED], bounds(&left.frame)].concat(),
+        Answer::Ran(..) => unreachable!("an instruction tells what it gave"),
         Answer::Done | Answer::RustPanic(_) | Answer::NotRun(_) => ok(&[]),
     }
 }
@@ -198,13 +249,14 @@ fn bounds(frame: &Frame) -> Vec<u64> {
     [frame.gas, frame.heap_bound, frame.aux_bound].map(u64::from).into()
 }
 
-fn ran_numbers(ran: &Ran) -> Vec<u64> {
-    let mut numbers = vec![if ran.stop.is_some() { SUSPENDED } else { 0 }];
-    numbers.extend(bounds(&ran.frame));
-    numbers.extend(ran.word.unwrap_or_default().0);
-    let (next, tagged) = ran.next.expect("stored instructions increment");
+fn ran_numbers(instruction: &HeapInstruction, left: &Left, stop: Option<u32>) -> Vec<u64> {
+    let mut numbers = vec![if stop.is_some() { SUSPENDED } else { 0 }];
+    numbers.extend(bounds(&left.frame));
+    let (word, next) = instruction.given(&left.registers);
+    numbers.extend(word.unwrap_or_default().0);
+    let (next, tagged) = next.expect("stored instructions increment");
     numbers.extend(next.0);
-    numbers.extend([u64::from(tagged), ran.stop.unwrap_or_default().into()]);
+    numbers.extend([u64::from(tagged), stop.unwrap_or_default().into()]);
     numbers
 }
 

@@ -2,7 +2,7 @@
 
 use std::str::SplitWhitespace;
 
-use oracle::{Area, Kind, Layout, Operand, Place, Pointer, Word};
+use oracle::{immediate, Area, Kind, Layout, Operand, Place, Pointer, Registers, Word, OTHER_FORM};
 
 /// Bytes that one line may stand for.
 const MAX_BYTES: usize = 1 << 26;
@@ -21,6 +21,10 @@ impl<'a> Fields<'a> {
 
     fn next(&mut self, what: &str) -> Parsed<&'a str> {
         self.fields.next().ok_or_else(|| format!("{what} is missing"))
+    }
+
+    pub fn name(&mut self, what: &str) -> Parsed<&'a str> {
+        self.next(what)
     }
 
     /// The line must end here.
@@ -73,6 +77,10 @@ impl<'a> Fields<'a> {
 
     pub fn operand(&mut self) -> Parsed<Operand> {
         let field = self.next("the operand")?;
+        self.operand_of(field)
+    }
+
+    fn operand_of(&self, field: &str) -> Parsed<Operand> {
         let fault = || format!("an operand is reg:HEX, tag:HEX, ptr:.. or imm:N, not '{field}'");
         let (form, text) = field.split_once(':').ok_or_else(fault)?;
         let (word, tagged) = match form {
@@ -80,14 +88,43 @@ impl<'a> Fields<'a> {
             "tag" => (word(text, "the operand")?, true),
             "ptr" => (pointer_word(text, self.layout)?, true),
             "imm" => {
-                let number = text
-                    .parse()
-                    .map_err(|_| format!("an immediate is 0 to 65535, not '{text}'"))?;
-                return Ok(Operand::Immediate(number));
+                return Ok(Operand::Immediate(immediate_number(text)?));
             }
             _ => return Err(fault()),
         };
         Ok(Operand::Register { word, tagged })
+    }
+
+    /// All registers, each as `rN=OPERAND`; those that are not named hold 0.
+    pub fn registers(&mut self) -> Parsed<Registers> {
+        let mut registers = Registers::default();
+        while let Some(field) = self.fields.next() {
+            let fault = || format!("a register is r0=OPERAND to r15=OPERAND, not '{field}'");
+            let (name, operand) = field.split_once('=').ok_or_else(fault)?;
+            let number = register_number(name).filter(|number| *number < 16).ok_or_else(fault)?;
+            match self.operand_of(operand)? {
+                Operand::Register { word, tagged } => registers.put(number.into(), word, tagged),
+                Operand::Immediate(_) => return Err(format!("no register holds '{operand}'")),
+            }
+        }
+        Ok(registers)
+    }
+
+    /// The code of a place: `rN` for any number of 16 bits, `imm:N`, or `form:CODE` for another form.
+    pub fn place(&mut self, what: &str) -> Parsed<u32> {
+        let field = self.next(what)?;
+        let fault = || format!("{what} is rN, imm:N or form:CODE, not '{field}'");
+        if let Some(number) = register_number(field) {
+            return Ok(number.into());
+        }
+        match field.split_once(':').ok_or_else(fault)? {
+            ("imm", text) => Ok(immediate(immediate_number(text)?)),
+            ("form", text) => match number(text, what)? {
+                code if code >= OTHER_FORM => Ok(code),
+                _ => Err(format!("other forms begin at {OTHER_FORM}, and '{field}' is none")),
+            },
+            _ => Err(fault()),
+        }
     }
 
     pub fn pointer(&mut self) -> Parsed<Pointer> {
@@ -97,6 +134,16 @@ impl<'a> Fields<'a> {
             start: self.number("the start")?,
             length: self.number("the length")?,
         })
+    }
+
+    /// Takes the field `mark`, if it comes next.
+    pub fn mark(&mut self, mark: &str) -> bool {
+        let mut ahead = self.fields.clone();
+        let here = ahead.next() == Some(mark);
+        if here {
+            self.fields = ahead;
+        }
+        here
     }
 
     /// The marks at a line's end: `inc`, and `hook=ADDRESS`.
@@ -128,6 +175,15 @@ fn number(field: &str, what: &str) -> Parsed<u32> {
 fn word(field: &str, what: &str) -> Parsed<Word> {
     Word::from_hex(field)
         .ok_or_else(|| format!("{what} must be 1 to 64 hexadecimal digits, not '{field}'"))
+}
+
+/// The number of `rN`.
+fn register_number(field: &str) -> Option<u16> {
+    field.strip_prefix('r')?.parse().ok()
+}
+
+fn immediate_number(text: &str) -> Parsed<u16> {
+    text.parse().map_err(|_| format!("an immediate is 0 to 65535, not '{text}'"))
 }
 
 fn hex(digits: &str) -> Option<Vec<u8>> {

@@ -9,7 +9,7 @@ use lines::{
     parse::{self, Line},
     show,
 };
-use oracle::{differences, Answer, Bank, Call, Frame};
+use oracle::{differences, Answer, Bank, Call, Frame, Left, Registers};
 
 const USAGE: &str = "usage: driver [LAYOUT] < CALLS, or: driver --layouts";
 
@@ -19,14 +19,16 @@ const EMPTY_FRAME: Frame = Frame { gas: 0, heap: 0, aux: 0, heap_bound: 0, aux_b
 struct Driver {
     bank: Option<Box<dyn Bank>>,
     memory: usize,
-    frame: Frame,
+    /// Frame and registers of the next instruction.
+    given: Left,
     /// Memory and frame of the latest call that panicked in the Rust.
     panicked: Option<(usize, Option<Frame>)>,
 }
 
 impl Driver {
     fn new() -> Self {
-        Self { bank: None, memory: 0, frame: EMPTY_FRAME, panicked: None }
+        let given = Left { frame: EMPTY_FRAME, registers: Registers::default() };
+        Self { bank: None, memory: 0, given, panicked: None }
     }
 
     fn start(&mut self, layout: &str) -> Result<(), String> {
@@ -40,14 +42,18 @@ impl Driver {
     /// The output lines of an input line, or what is wrong with it.
     fn take(&mut self, line: &str) -> Result<Vec<String>, String> {
         let layout = self.bank.as_ref().map(|bank| bank.layout());
-        match parse::line(line, layout.as_ref(), &self.frame)? {
+        match parse::line(line, layout.as_ref(), &self.given)? {
             Line::Layout(name) => self.start(&name).map(|()| vec!["ok".into()]),
             Line::Memory(number) => {
                 self.memory = number;
                 Ok(vec!["ok".into()])
             }
             Line::Frame(frame) => {
-                self.frame = frame;
+                self.given.frame = frame;
+                Ok(vec!["ok".into()])
+            }
+            Line::Registers(registers) => {
+                self.given.registers = *registers;
                 Ok(vec!["ok".into()])
             }
             Line::View => {
@@ -56,7 +62,22 @@ impl Driver {
                 Ok(show::view(&bank.view(memory), &bank.layout()))
             }
             Line::Left => Ok(self.left()),
-            Line::Call(call) => Ok(vec![self.call(&call)]),
+            Line::Call(call) => {
+                let answer = self.call(&call);
+                Ok(vec![match &call {
+                    Call::Instruction { instruction, .. } => {
+                        show::on_operands(instruction, &answer)
+                    }
+                    _ => show::answer(&answer),
+                }])
+            }
+            Line::Run(call) => {
+                let answer = self.call(&call);
+                if let Answer::Ran(left, _) | Answer::EraPanic(left) = &answer {
+                    self.given = **left;
+                }
+                Ok(vec![show::answer(&answer)])
+            }
         }
     }
 
@@ -64,22 +85,23 @@ impl Driver {
         self.bank.as_deref_mut().expect("a line that needs a layout is not parsed without one")
     }
 
-    fn call(&mut self, call: &Call) -> String {
+    /// Puts a call to the memory at hand, and keeps the frame that it leaves.
+    fn call(&mut self, call: &Call) -> Answer {
         let memory = self.memory;
         let answer = self.bank().answer(memory, call);
-        match answer {
-            Answer::Paid(_, frame) | Answer::EraPanic(frame) => self.frame = frame,
-            Answer::Ran(ran) => self.frame = ran.frame,
+        match &answer {
+            Answer::Paid(_, frame) => self.given.frame = *frame,
+            Answer::Ran(left, _) | Answer::EraPanic(left) => self.given.frame = left.frame,
             Answer::RustPanic(_) => {
                 let framed = matches!(
                     call,
                     Call::Instruction { .. } | Call::UseGas { .. } | Call::GrowHeap { .. }
                 );
-                self.panicked = Some((memory, framed.then_some(self.frame)));
+                self.panicked = Some((memory, framed.then_some(self.given.frame)));
             }
             _ => {}
         }
-        show::answer(&answer)
+        answer
     }
 
     fn left(&mut self) -> Vec<String> {

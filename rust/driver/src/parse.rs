@@ -1,6 +1,8 @@
 //! An input line's meaning.
 
-use oracle::{Call, Frame, HeapInstruction, Layout, Operand, PageIds};
+use oracle::{
+    Call, Frame, HeapInstruction, Layout, Left, Op, Operand, PageIds, Places, Registers, Word,
+};
 
 use crate::fields::Fields;
 
@@ -11,13 +13,16 @@ pub enum Line {
     Layout(String),
     Memory(usize),
     Frame(Frame),
+    Registers(Box<Registers>),
     View,
     Left,
     Call(Call),
+    /// A whole instruction. One that is told by its operands alone is a `Call`.
+    Run(Call),
 }
 
-/// Reads a line; `frame` is the frame of the instructions.
-pub fn line(line: &str, layout: Option<&Layout>, frame: &Frame) -> Result<Line, String> {
+/// Reads a line; `given` are the frame and the registers of the instructions.
+pub fn line(line: &str, layout: Option<&Layout>, given: &Left) -> Result<Line, String> {
     let mut fields = line.split_whitespace();
     let name = fields.next().unwrap_or_default();
     if name == "layout" {
@@ -37,9 +42,11 @@ pub fn line(line: &str, layout: Option<&Layout>, frame: &Frame) -> Result<Line, 
             heap_bound: fields.number("the heap bound")?,
             aux_bound: fields.number("the aux bound")?,
         }),
+        "registers" => Line::Registers(fields.registers()?.into()),
         "view" => Line::View,
         "left" => Line::Left,
-        _ => Line::Call(call(name, &mut fields, frame)?),
+        "run" => Line::Run(whole(&mut fields, given)?),
+        _ => Line::Call(call(name, &mut fields, &given.frame)?),
     };
     fields.end()?;
     Ok(line)
@@ -154,40 +161,118 @@ fn framed_call(name: &str, fields: &mut Fields, frame: Frame) -> Result<Option<C
             Call::GrowHeap { frame, area, new_bound }
         }
         _ => match instruction(name, fields)? {
-            Some(instruction) => Call::Instruction { frame, instruction },
+            Some(instruction) => instruction.on(frame),
             None => return Ok(None),
         },
     }))
 }
 
+/// An instruction that is told by its operands alone.
 fn instruction(name: &str, fields: &mut Fields) -> Result<Option<HeapInstruction>, String> {
-    Ok(Some(match name {
-        "load" => HeapInstruction::Load {
-            area: fields.area()?,
-            operand: fields.operand()?,
-            increment: fields.increment()?,
-        },
+    let on_operands = HeapInstruction::on_operands;
+    let (instruction, increment) = match name {
+        "load" => {
+            let (op, operand) = (Op::Load(fields.area()?), fields.operand()?);
+            (on_operands(op, operand, Word::default()), fields.increment()?)
+        }
         "store" => {
             let (area, operand) = (fields.area()?, fields.operand()?);
             let value = fields.word("the value")?;
             let (increment, hook) = fields.marks()?;
-            HeapInstruction::Store { area, operand, value, increment, hook }
+            (on_operands(Op::Store { area, hook }, operand, value), increment)
         }
         "load_pointer" => match fields.operand()? {
-            Operand::Register { word, tagged } => {
-                HeapInstruction::LoadPointer { word, tagged, increment: fields.increment()? }
-            }
             Operand::Immediate(_) => return Err("load_pointer takes no immediate".into()),
+            operand => {
+                (on_operands(Op::LoadPointer, operand, Word::default()), fields.increment()?)
+            }
         },
-        "load_static" => HeapInstruction::LoadStatic {
-            operand: fields.operand()?,
-            increment: fields.increment()?,
-        },
-        "store_static" => HeapInstruction::StoreStatic {
-            operand: fields.operand()?,
-            value: fields.word("the value")?,
-            increment: fields.increment()?,
-        },
+        "load_static" => {
+            let operand = fields.operand()?;
+            (on_operands(Op::LoadStatic, operand, Word::default()), fields.increment()?)
+        }
+        "store_static" => {
+            let (operand, value) = (fields.operand()?, fields.word("the value")?);
+            (on_operands(Op::StoreStatic, operand, value), fields.increment()?)
+        }
         _ => return Ok(None),
-    }))
+    };
+    Ok(Some(instruction.incrementing(increment)))
+}
+
+/// A whole instruction: it is given registers, and its places are named.
+fn whole(fields: &mut Fields, given: &Left) -> Result<Call, String> {
+    let mut op = op(fields)?;
+    let source = fields.place("the source")?;
+    let value = if op.stores() { fields.place("the value")? } else { 0 };
+    let (dst0, dst1) = (fields.place("the first output")?, fields.place("the second output")?);
+    let places = Places { source, value, dst0, dst1 };
+    let kernel = !fields.mark("user");
+    let increment = match &mut op {
+        Op::Store { hook, .. } => {
+            let (increment, address) = fields.marks()?;
+            *hook = address;
+            increment
+        }
+        _ => fields.increment()?,
+    };
+    let registers = given.registers;
+    Ok(HeapInstruction { op, registers, places, increment, kernel }.on(given.frame))
+}
+
+fn op(fields: &mut Fields) -> Result<Op, String> {
+    Ok(match fields.name("the instruction")? {
+        "load" => Op::Load(fields.area()?),
+        "store" => Op::Store { area: fields.area()?, hook: None },
+        "load_pointer" => Op::LoadPointer,
+        "load_static" => Op::LoadStatic,
+        "store_static" => Op::StoreStatic,
+        other => return Err(format!("no instruction is named '{other}'")),
+    })
+}
+
+#[cfg(test)]
+mod tests {
+    use oracle::{immediate, OTHER_FORM};
+
+    use super::*;
+
+    fn read(text: &str) -> Result<Line, String> {
+        let layout = oracle::bank("example").expect("a listed layout").layout();
+        let frame = Frame { gas: 0, heap: 0, aux: 0, heap_bound: 0, aux_bound: 0 };
+        line(text, Some(&layout), &Left { frame, registers: Registers::default() })
+    }
+
+    #[test]
+    fn a_place_is_read_as_its_code() {
+        let line = read("run store aux imm:65535 r2 r65535 form:131072 user inc hook=7");
+        let Ok(Line::Run(Call::Instruction { instruction, .. })) = line else {
+            panic!("an instruction");
+        };
+        let places = Places { source: immediate(65_535), value: 2, dst0: 65_535, dst1: OTHER_FORM };
+        assert_eq!(instruction.places, places);
+        assert!(instruction.increment && !instruction.kernel);
+        assert!(matches!(instruction.op, Op::Store { hook: Some(7), .. }));
+    }
+
+    #[test]
+    fn malformed_lines_are_told() {
+        for (text, due) in [
+            ("registers r16=reg:0", "a register is r0=OPERAND to r15=OPERAND, not 'r16=reg:0'"),
+            ("registers 1=reg:0", "a register is r0=OPERAND to r15=OPERAND, not '1=reg:0'"),
+            ("registers r1=imm:0", "no register holds 'imm:0'"),
+            ("run", "the instruction is missing"),
+            ("run jump r1", "no instruction is named 'jump'"),
+            ("run load heap", "the source is missing"),
+            ("run load heap r65536 r1 r2", "the source is rN, imm:N or form:CODE, not 'r65536'"),
+            ("run load heap reg:1 r1 r2", "the source is rN, imm:N or form:CODE, not 'reg:1'"),
+            ("run load heap imm:65536 r1 r2", "an immediate is 0 to 65535, not '65536'"),
+            ("run load_static r1 form:1 r2", "other forms begin at 131072, and 'form:1' is none"),
+            ("run store heap r1 r2 r3", "the second output is missing"),
+            ("run load_static r1 r2 r3 hook=0", "only a store has a hook"),
+            ("run store_static r1 r2 r3 r4 inc user", "'user' is neither inc nor hook=ADDRESS"),
+        ] {
+            assert_eq!(read(text).err().as_deref(), Some(due), "{text}");
+        }
+    }
 }

@@ -1,6 +1,8 @@
 //! Answers and views as text.
 
-use oracle::{Answer, Frame, Layout, Page, Place, Ran, RustPanic, View};
+use oracle::{Answer, Frame, HeapInstruction, Layout, Left, Page, Place, RustPanic, View};
+
+use crate::spell;
 
 /// Equal bytes from this number on are written as one byte and a count.
 const LONG_RUN: usize = 8;
@@ -22,8 +24,8 @@ pub fn answer(answer: &Answer) -> String {
         ),
         Answer::Paid(true, after) => format!("paid {}", frame(after)),
         Answer::Paid(false, after) => format!("unpaid {}", frame(after)),
-        Answer::Ran(ran) => outcome(ran),
-        Answer::EraPanic(after) => format!("panic {}", frame(after)),
+        Answer::Ran(after, hook) => format!("ran {}{}", left(after), stop(*hook)),
+        Answer::EraPanic(after) => format!("panic {}", left(after)),
         Answer::RustPanic(panic) => rust_panic(panic),
         Answer::NotRun(reason) => format!("not run: {reason}"),
     }
@@ -39,18 +41,33 @@ fn frame(frame: &Frame) -> String {
     format!("gas {gas} pages {heap} {aux} bounds {heap_bound} {aux_bound}")
 }
 
-fn outcome(ran: &Ran) -> String {
-    let mut text = format!("ran {}", frame(&ran.frame));
-    if let Some(word) = ran.word {
-        text += &format!(" word {word}");
+fn left(left: &Left) -> String {
+    let registers = match spell::registers(&left.registers) {
+        text if text.is_empty() => " -".into(),
+        text => text,
+    };
+    format!("{} registers{registers}", frame(&left.frame))
+}
+
+fn stop(value: Option<u32>) -> String {
+    value.map_or(String::new(), |value| format!(" stop {value}"))
+}
+
+/// The answer to an instruction that was told by its operands alone: what it gave, read off the
+/// registers that it left.
+pub fn on_operands(instruction: &HeapInstruction, given: &Answer) -> String {
+    match given {
+        Answer::Ran(left, hook) => {
+            let (word, next) = instruction.given(&left.registers);
+            let word = word.map_or(String::new(), |word| format!(" word {word}"));
+            let next = next.map_or(String::new(), |(word, tagged)| {
+                format!(" next {word} {}", if tagged { "tagged" } else { "plain" })
+            });
+            format!("ran {}{word}{next}{}", frame(&left.frame), stop(*hook))
+        }
+        Answer::EraPanic(left) => format!("panic {}", frame(&left.frame)),
+        given => answer(given),
     }
-    if let Some((word, tagged)) = ran.next {
-        text += &format!(" next {word} {}", if tagged { "tagged" } else { "plain" });
-    }
-    if let Some(value) = ran.stop {
-        text += &format!(" stop {value}");
-    }
-    text
 }
 
 /// Hexadecimal digits, long runs of one byte as `00*200`, parted by spaces.

@@ -1,16 +1,29 @@
 //! Calls as lines that the driver reads: what `parse` undoes.
 
-use oracle::{Area, Call, Frame, HeapInstruction, Operand, PageIds, Word};
+use oracle::{form, Area, Call, Form, Frame, HeapInstruction, Op, PageIds, Places, Registers};
 
-/// The lines of a call: its frame, if it takes one, and the call itself.
+/// The lines of a call: its frame and its registers, if it takes them, and the call itself.
 pub fn lines(call: &Call) -> Vec<String> {
-    let frame = match call {
-        Call::UseGas { frame, .. }
-        | Call::GrowHeap { frame, .. }
-        | Call::Instruction { frame, .. } => Some(frame),
-        _ => None,
-    };
-    frame.map(frame_line).into_iter().chain([line(call)]).collect()
+    match call {
+        Call::UseGas { frame, .. } | Call::GrowHeap { frame, .. } => {
+            vec![frame_line(frame), line(call)]
+        }
+        Call::Instruction { frame, instruction } => {
+            let registers = format!("registers{}", registers(&instruction.registers));
+            vec![frame_line(frame), registers, format!("run {}", line(call))]
+        }
+        _ => vec![line(call)],
+    }
+}
+
+/// Every register that is not 0 without a flag, each after a space.
+pub fn registers(registers: &Registers) -> String {
+    let shown = (0..16).filter_map(|number| {
+        let (word, tagged) = registers.get(number);
+        let form = if tagged { "tag" } else { "reg" };
+        (tagged || word.0 != [0; 4]).then(|| format!(" r{number}={form}:{word}"))
+    });
+    shown.collect()
 }
 
 fn frame_line(frame: &Frame) -> String {
@@ -74,12 +87,12 @@ fn page_name(of: &PageIds) -> &'static str {
 }
 
 fn instruction_name(instruction: &HeapInstruction) -> &'static str {
-    match instruction {
-        HeapInstruction::Load { .. } => "load",
-        HeapInstruction::Store { .. } => "store",
-        HeapInstruction::LoadPointer { .. } => "load_pointer",
-        HeapInstruction::LoadStatic { .. } => "load_static",
-        HeapInstruction::StoreStatic { .. } => "store_static",
+    match instruction.op {
+        Op::Load(_) => "load",
+        Op::Store { .. } => "store",
+        Op::LoadPointer => "load_pointer",
+        Op::LoadStatic => "load_static",
+        Op::StoreStatic => "store_static",
     }
 }
 
@@ -128,25 +141,28 @@ fn page_field(of: &PageIds) -> String {
 }
 
 fn instruction_fields(instruction: &HeapInstruction) -> String {
-    let inc = |increment: bool| if increment { " inc" } else { "" };
-    match *instruction {
-        HeapInstruction::Load { area, operand: source, increment } => {
-            format!("{} {}{}", area_name(area), operand(source), inc(increment))
-        }
-        HeapInstruction::Store { area, operand: source, value, increment, hook } => {
-            let hook = hook.map_or(String::new(), |address| format!(" hook={address}"));
-            let source = operand(source);
-            format!("{} {source} {value}{}{hook}", area_name(area), inc(increment))
-        }
-        HeapInstruction::LoadPointer { word, tagged, increment } => {
-            register(word, tagged) + inc(increment)
-        }
-        HeapInstruction::LoadStatic { operand: source, increment } => {
-            operand(source) + inc(increment)
-        }
-        HeapInstruction::StoreStatic { operand: source, value, increment } => {
-            format!("{} {value}{}", operand(source), inc(increment))
-        }
+    let HeapInstruction { op, places: Places { source, value, dst0, dst1 }, .. } = *instruction;
+    let area = match op {
+        Op::Load(area) | Op::Store { area, .. } => Some(area_name(area).into()),
+        _ => None,
+    };
+    let value = op.stores().then(|| place(value));
+    let user = (!instruction.kernel).then(|| "user".into());
+    let increment = instruction.increment.then(|| "inc".into());
+    let hook = match op {
+        Op::Store { hook: Some(address), .. } => Some(format!("hook={address}")),
+        _ => None,
+    };
+    let (source, dst0, dst1) = (place(source), place(dst0), place(dst1));
+    let fields = [area, Some(source), value, Some(dst0), Some(dst1), user, increment, hook];
+    fields.into_iter().flatten().collect::<Vec<_>>().join(" ")
+}
+
+fn place(code: u32) -> String {
+    match form(code) {
+        Form::Register(number) => format!("r{number}"),
+        Form::Immediate(number) => format!("imm:{number}"),
+        Form::Other(code) => format!("form:{code}"),
     }
 }
 
@@ -155,17 +171,6 @@ fn area_name(area: Area) -> &'static str {
         Area::Heap => "heap",
         Area::Aux => "aux",
     }
-}
-
-fn operand(operand: Operand) -> String {
-    match operand {
-        Operand::Register { word, tagged } => register(word, tagged),
-        Operand::Immediate(number) => format!("imm:{number}"),
-    }
-}
-
-fn register(word: Word, tagged: bool) -> String {
-    format!("{}:{word}", if tagged { "tag" } else { "reg" })
 }
 
 /// Hexadecimal digits; equal bytes as one of them and a count.
@@ -181,7 +186,7 @@ fn bytes(bytes: &[u8]) -> String {
 
 #[cfg(test)]
 mod tests {
-    use oracle::{Call, Frame};
+    use oracle::{Call, Frame, Left, Registers};
 
     use super::lines;
     use crate::parse::{self, Line};
@@ -189,12 +194,14 @@ mod tests {
     /// The calls of a sample, as the driver reads them.
     fn calls_of(text: &str) -> Vec<Call> {
         let layout = oracle::bank("example").expect("a listed layout").layout();
-        let mut frame = Frame { gas: 0, heap: 0, aux: 0, heap_bound: 0, aux_bound: 0 };
+        let frame = Frame { gas: 0, heap: 0, aux: 0, heap_bound: 0, aux_bound: 0 };
+        let mut given = Left { frame, registers: Registers::default() };
         let mut calls = Vec::new();
         for line in text.lines().filter(|line| !line.is_empty() && !line.starts_with('#')) {
-            match parse::line(line, Some(&layout), &frame).expect("a sample's line") {
-                Line::Frame(given) => frame = given,
-                Line::Call(call) => calls.push(call),
+            match parse::line(line, Some(&layout), &given).expect("a sample's line") {
+                Line::Frame(frame) => given.frame = frame,
+                Line::Registers(registers) => given.registers = *registers,
+                Line::Call(call) | Line::Run(call) => calls.push(call),
                 _ => {}
             }
         }
@@ -207,6 +214,7 @@ mod tests {
             include_str!("../../samples/calls.txt"),
             include_str!("../../samples/examples.txt"),
             include_str!("../../samples/panics.txt"),
+            include_str!("../../samples/registers.txt"),
         ];
         for call in samples.into_iter().flat_map(calls_of) {
             assert_eq!(calls_of(&lines(&call).join("\n")), [call]);

@@ -1,7 +1,8 @@
 //! That the oracle shows vm2's state faithfully and puts it back after a panic.
 
 use oracle::{
-    Answer, Area, Bank, Call, Frame, HeapInstruction, Layout, Operand, Place, Word, LAYOUTS,
+    immediate, Answer, Area, Bank, Call, Frame, HeapInstruction, Layout, Left, Op, Operand, Place,
+    Places, Registers, Word, LAYOUTS, OTHER_FORM,
 };
 
 fn each_bank(test: impl Fn(&mut dyn Bank)) {
@@ -93,17 +94,11 @@ fn a_panic_is_put_back_whole() {
         let before = bank.view(0);
         let heap = layout.bootloader_heap;
         let frame = Frame { gas: 9000, heap, aux: heap, heap_bound: 0, aux_bound: 0 };
-        let operand = Operand::Immediate(8);
+        let store = Op::Store { area: Area::Heap, hook: Some(8) };
         let value = Word([1 << 32, 0, 0, 0]);
-        let hooked = HeapInstruction::Store {
-            area: Area::Heap,
-            operand,
-            value,
-            increment: true,
-            hook: Some(8),
-        };
+        let hooked = HeapInstruction::on_operands(store, Operand::Immediate(8), value);
         let calls = [
-            (15, Call::Instruction { frame, instruction: hooked }),
+            (15, hooked.on(frame)),
             (12, Call::Rollback { heap: 0, aux: u64::MAX }),
             (8, Call::WriteBytes { page: heap, start: u32::MAX, bytes: vec![0; 2] }),
         ];
@@ -124,4 +119,103 @@ fn decoding_tells_the_places() {
     let mut decode = |page| bank.answer(0, &Call::Decode { page });
     assert_eq!(decode(5), Answer::Decoded(Some(Place::BootloaderHeap)));
     assert_eq!(decode(65), Answer::Decoded(None));
+}
+
+/// r1 = 4064, r2 = 7, r3 = 5 with its flag, r4 = 9; an instruction on r1 and r2 with its outputs r3 and r4.
+fn worked(op: Op, increment: bool) -> HeapInstruction {
+    let mut registers = Registers::default();
+    for (number, word) in [(1, 4064u32), (2, 7), (3, 5), (4, 9)] {
+        registers.put(number, word.into(), number == 3);
+    }
+    let value = if op.stores() { 2 } else { 0 };
+    let places = Places { source: 1, value, dst0: 3, dst1: 4 };
+    HeapInstruction { op, registers, places, increment, kernel: true }
+}
+
+const GIVEN: Frame = Frame { gas: 10, heap: 66, aux: 67, heap_bound: 4096, aux_bound: 4096 };
+const LOAD: Op = Op::Load(Area::Heap);
+const STORE: Op = Op::Store { area: Area::Heap, hook: None };
+
+#[test]
+fn every_outcome_tells_all_registers() {
+    let mut bank = oracle::bank("example").expect("a listed layout");
+    // Registers 3 and 4 and the flags afterwards; the others stay.
+    let due = |instruction: &HeapInstruction, r3: u32, r4: u32, flags| {
+        let mut registers = Registers { flags, ..instruction.registers };
+        (registers.words[3], registers.words[4]) = (r3.into(), r4.into());
+        registers
+    };
+    for (op, increment, r3, r4, flags) in [
+        (STORE, true, 4096, 0, 0),
+        (STORE, false, 5, 0, 8),
+        (LOAD, true, 7, 4096, 0),
+        (LOAD, false, 7, 0, 0),
+    ] {
+        let run = worked(op, increment);
+        let left = Left { frame: GIVEN, registers: due(&run, r3, r4, flags) };
+        assert_eq!(
+            bank.answer(0, &run.on(GIVEN)),
+            Answer::Ran(left.into(), None),
+            "{op:?} {increment}"
+        );
+    }
+    // A panic leaves the first output and clears the second, whether or not it would be written.
+    for op in [LOAD, STORE] {
+        for increment in [true, false] {
+            let mut run = worked(op, increment);
+            run.registers.words[1] = 4065u32.into();
+            let frame = Frame { gas: 0, ..GIVEN };
+            let left = Left { frame, registers: due(&run, 5, 0, 8) };
+            assert_eq!(bank.answer(0, &run.on(frame)), Answer::EraPanic(left.into()), "{op:?}");
+        }
+    }
+}
+
+#[test]
+fn places_that_are_not_taken_are_refused_before_a_panic() {
+    let mut bank = oracle::bank("example").expect("a listed layout");
+    let mut refusal = |run: HeapInstruction| match bank.answer(0, &run.on(GIVEN)) {
+        Answer::RustPanic(panic) => panic.refusal,
+        answer => panic!("{run:?}: {answer:?}"),
+    };
+    let bad = [16, 17, 255, 256, 272, 65_535, OTHER_FORM, OTHER_FORM + 3, u32::MAX];
+    for op in [LOAD, STORE, Op::LoadPointer, Op::LoadStatic, Op::StoreStatic] {
+        for increment in [true, false] {
+            let mut run = worked(op, increment);
+            run.registers.words[1] = Word([0, 1, 0, 0]);
+            let places = run.places;
+            let with = |places| HeapInstruction { places, ..run };
+            for bad in bad {
+                assert_eq!(refusal(with(Places { source: bad, ..places })), Some(16));
+            }
+            for bad in bad.into_iter().chain([immediate(0), immediate(u16::MAX)]) {
+                assert_eq!(refusal(with(Places { dst0: bad, ..places })), Some(16));
+                assert_eq!(refusal(with(Places { dst1: bad, ..places })), Some(16));
+                if op.stores() {
+                    assert_eq!(refusal(with(Places { value: bad, ..places })), Some(16));
+                }
+                if op == Op::LoadPointer {
+                    assert_eq!(refusal(with(Places { source: bad, ..places })), Some(16));
+                }
+            }
+        }
+    }
+}
+
+#[test]
+fn what_would_erase_a_pointer_is_not_run() {
+    let mut bank = oracle::bank("example").expect("a listed layout");
+    for op in [STORE, Op::Store { area: Area::Aux, hook: None }, Op::StoreStatic] {
+        let before = bank.view(0);
+        let mut run = worked(op, true);
+        run.registers.flags = 1 << 2;
+        let user = HeapInstruction { kernel: false, ..run };
+        assert!(matches!(bank.answer(0, &user.on(GIVEN)), Answer::NotRun(_)));
+        assert!(bank.view(0) == before);
+        assert!(matches!(bank.answer(0, &run.on(GIVEN)), Answer::Ran(..)));
+        // A panic comes before the value is read.
+        let mut panics = user;
+        panics.registers.words[1] = Word([0, 1, 0, 0]);
+        assert!(matches!(bank.answer(0, &panics.on(GIVEN)), Answer::EraPanic(_)));
+    }
 }

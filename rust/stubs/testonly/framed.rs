@@ -2,13 +2,17 @@
 
 use std::ptr;
 
-use calls::{Answer, Area, Call, Frame, HeapInstruction, Operand, Ran, Word};
+use calls::{
+    form, Answer, Area, Call, Form, Frame, HeapInstruction, Left, Op, Places, Registers, Word,
+    TAKES_A_REGISTER,
+};
 use primitive_types::U256;
 
 use super::{id, NoWorld, Quiet, Vm};
 use crate::{
     addressing_modes::{
-        Arguments, Immediate1, Register, Register1, Register2, RegisterOrImmediate,
+        AbsoluteStack, AdvanceStackPointer, AnySource, Arguments, CodePage, Immediate1, Register,
+        Register1, Register2, RegisterAndImmediate, RegisterOrImmediate, RelativeStack,
     },
     instruction::ExecutionStatus,
     instruction_handlers::{
@@ -17,12 +21,6 @@ use crate::{
     },
     ExecutionEnd, Instruction, ModeRequirements, Predicate,
 };
-
-// The registers in use; the others are zero.
-const OPERAND: u8 = 1;
-const VALUE: u8 = 2;
-const OUT: u8 = 3;
-const NEXT: u8 = 4;
 
 pub(super) fn frame_of(vm: &Vm) -> Frame {
     let frame = &vm.state.current_frame;
@@ -69,71 +67,71 @@ pub(super) fn framed(vm: &mut Vm, call: &Call) -> Option<Answer> {
 }
 
 fn set_registers(vm: &mut Vm, instruction: &HeapInstruction) {
-    let (operand, value) = match *instruction {
-        HeapInstruction::Load { operand, .. } | HeapInstruction::LoadStatic { operand, .. } => {
-            (operand, None)
-        }
-        HeapInstruction::Store { operand, value, .. }
-        | HeapInstruction::StoreStatic { operand, value, .. } => (operand, Some(value)),
-        HeapInstruction::LoadPointer { word, tagged, .. } => {
-            (Operand::Register { word, tagged }, None)
-        }
-    };
     let state = &mut vm.state;
-    state.registers = [U256::zero(); 16];
-    state.register_pointer_flags = 0;
-    if let Operand::Register { word, tagged } = operand {
-        state.registers[usize::from(OPERAND)] = U256(word.0);
-        state.register_pointer_flags = u16::from(tagged) << OPERAND;
-    }
-    state.registers[usize::from(VALUE)] = U256(value.unwrap_or_default().0);
-    vm.settings.hook_address = match instruction {
-        HeapInstruction::Store { hook, .. } => hook.unwrap_or_default(),
+    state.registers = instruction.registers.words.map(|word| U256(word.0));
+    state.register_pointer_flags = instruction.registers.flags;
+    state.current_frame.is_kernel = instruction.kernel;
+    vm.settings.hook_address = match instruction.op {
+        Op::Store { hook, .. } => hook.unwrap_or_default(),
         _ => 0,
     };
 }
 
-fn source(operand: Operand) -> RegisterOrImmediate {
-    match operand {
-        Operand::Register { .. } => {
-            RegisterOrImmediate::Register1(Register1(Register::new(OPERAND)))
-        }
-        Operand::Immediate(number) => RegisterOrImmediate::Immediate1(Immediate1(number)),
+/// The register of a place where vm2's types take nothing else. Its own assertion refuses numbers from
+/// 16 on; those of more than 8 bits cannot be given to it, and the greatest stands for them.
+fn register(code: u32) -> Register {
+    match form(code) {
+        Form::Register(number) => Register::new(u8::try_from(number).unwrap_or(u8::MAX)),
+        Form::Immediate(_) | Form::Other(_) => panic!("{TAKES_A_REGISTER}"),
     }
 }
 
+/// A source in any form that the EraVM has. The codes of other forms stand for its four in turn.
+fn any_source(code: u32) -> AnySource {
+    let at = RegisterAndImmediate { immediate: 0, register: Register::new(1) };
+    match form(code) {
+        Form::Register(_) => AnySource::Register1(Register1(register(code))),
+        Form::Immediate(number) => AnySource::Immediate1(Immediate1(number)),
+        Form::Other(code) => match code % 4 {
+            0 => AnySource::AbsoluteStack(AbsoluteStack(at)),
+            1 => AnySource::RelativeStack(RelativeStack(at)),
+            2 => AnySource::AdvanceStackPointer(AdvanceStackPointer(at)),
+            _ => AnySource::CodePage(CodePage(at)),
+        },
+    }
+}
+
+fn source(code: u32) -> RegisterOrImmediate {
+    RegisterOrImmediate::try_from(any_source(code)).expect("a heap instruction's source")
+}
+
+/// Builds the instruction by vm2's constructors. Panics where they do not take a place.
 fn build(instruction: &HeapInstruction) -> Instruction<Quiet, NoWorld> {
-    // No static cost, so that the frame's gas tells the growth alone.
+    let Places { source: from, value, dst0, dst1 } = instruction.places;
+    let (out, next) = (Register1(register(dst0)), Register2(register(dst1)));
+    // No static cost, so that the frame's gas tells the growth alone. vm2's decoder stores the second
+    // output of every instruction; its constructors do so only where it is written.
     let arguments = Arguments::new(Predicate::Always, 0, ModeRequirements::none());
-    let operand = Register1(Register::new(OPERAND));
-    let value = Register2(Register::new(VALUE));
-    let out = Register1(Register::new(OUT));
-    let next = |increment: bool| increment.then(|| Register2(Register::new(NEXT)));
-    let stored = |increment: bool| increment.then_some(out);
-    match *instruction {
-        HeapInstruction::Load { area: Area::Heap, operand, increment } => {
-            Instruction::from_heap_read(source(operand), out, next(increment), arguments)
+    let arguments = arguments.write_destination(&next);
+    let next = instruction.increment.then_some(next);
+    let stored = instruction.increment.then_some(out);
+    let value = || Register2(register(value));
+    match instruction.op {
+        Op::Load(Area::Heap) => Instruction::from_heap_read(source(from), out, next, arguments),
+        Op::Load(Area::Aux) => Instruction::from_aux_heap_read(source(from), out, next, arguments),
+        Op::Store { area: Area::Heap, hook } => {
+            let hooking = hook.is_some();
+            Instruction::from_heap_write(source(from), value(), stored, arguments, hooking)
         }
-        HeapInstruction::Load { area: Area::Aux, operand, increment } => {
-            Instruction::from_aux_heap_read(source(operand), out, next(increment), arguments)
+        Op::Store { area: Area::Aux, .. } => {
+            Instruction::from_aux_heap_store(source(from), value(), stored, arguments)
         }
-        HeapInstruction::Store { area: Area::Heap, operand, increment, hook, .. } => {
-            let (source, next, hooking) = (source(operand), stored(increment), hook.is_some());
-            Instruction::from_heap_write(source, value, next, arguments, hooking)
+        Op::LoadPointer => {
+            Instruction::from_pointer_read(Register1(register(from)), out, next, arguments)
         }
-        HeapInstruction::Store { area: Area::Aux, operand, increment, .. } => {
-            let (source, next) = (source(operand), stored(increment));
-            Instruction::from_aux_heap_store(source, value, next, arguments)
-        }
-        HeapInstruction::LoadPointer { increment, .. } => {
-            Instruction::from_pointer_read(operand, out, next(increment), arguments)
-        }
-        HeapInstruction::LoadStatic { operand, increment } => {
-            Instruction::from_static_memory_read(source(operand), out, next(increment), arguments)
-        }
-        HeapInstruction::StoreStatic { operand, increment, .. } => {
-            let (source, next) = (source(operand), stored(increment));
-            Instruction::from_static_memory_write(source, value, next, arguments)
+        Op::LoadStatic => Instruction::from_static_memory_read(source(from), out, next, arguments),
+        Op::StoreStatic => {
+            Instruction::from_static_memory_write(source(from), value(), stored, arguments)
         }
     }
 }
@@ -148,33 +146,17 @@ fn run(vm: &mut Vm, instruction: &HeapInstruction) -> Answer {
 
     let went_on = ptr::eq(pc, &code[1]);
     match status {
-        ExecutionStatus::Running if went_on => Answer::Ran(outcome(vm, instruction, None)),
-        ExecutionStatus::Running if ptr::eq(pc, spontaneous_panic()) => {
-            Answer::EraPanic(frame_of(vm))
-        }
+        ExecutionStatus::Running if went_on => Answer::Ran(left(vm), None),
+        ExecutionStatus::Running if ptr::eq(pc, spontaneous_panic()) => Answer::EraPanic(left(vm)),
         ExecutionStatus::Stopped(ExecutionEnd::SuspendedOnHook(value)) if went_on => {
-            Answer::Ran(outcome(vm, instruction, Some(value)))
+            Answer::Ran(left(vm), Some(value))
         }
         _ => panic!("an instruction ended in a way that is not known here: {status:?}"),
     }
 }
 
-fn outcome(vm: &Vm, instruction: &HeapInstruction, stop: Option<u32>) -> Ran {
-    let register = |number: u8| {
-        let tagged = vm.state.register_pointer_flags & (1 << number) != 0;
-        (Word(vm.state.registers[usize::from(number)].0), tagged)
-    };
-    let (loads, increment) = match *instruction {
-        HeapInstruction::Load { increment, .. }
-        | HeapInstruction::LoadPointer { increment, .. }
-        | HeapInstruction::LoadStatic { increment, .. } => (true, increment),
-        HeapInstruction::Store { increment, .. }
-        | HeapInstruction::StoreStatic { increment, .. } => (false, increment),
-    };
-    Ran {
-        frame: frame_of(vm),
-        word: loads.then(|| register(OUT).0),
-        next: increment.then(|| register(if loads { NEXT } else { OUT })),
-        stop,
-    }
+fn left(vm: &Vm) -> Box<Left> {
+    let words = vm.state.registers.map(|word| Word(word.0));
+    let registers = Registers { words, flags: vm.state.register_pointer_flags };
+    Left { frame: frame_of(vm), registers }.into()
 }

@@ -1,6 +1,6 @@
 //! Calls that would take more memory than there is: the Rust would end the process, not panic.
 
-use calls::{Area, Call, HeapInstruction};
+use calls::{Area, Call, Op};
 
 use super::LAYOUT;
 
@@ -28,13 +28,14 @@ pub(super) fn too_much(call: &Call) -> Option<&'static str> {
         Call::Chunk { number, .. } if *number > LAST_CHUNK => {
             Some("no read of the Rust reaches this chunk")
         }
-        Call::Instruction { frame, instruction: HeapInstruction::Store { area, hook, .. } } => {
-            match area {
-                Area::Aux if hook.is_some() => Some("the Rust has no aux store with a hook"),
-                Area::Aux => far_group(frame.aux),
-                Area::Heap => far_group(frame.heap),
+        Call::Instruction { frame, instruction } => match instruction.op {
+            Op::Store { area: Area::Aux, hook: Some(_) } => {
+                Some("the Rust has no aux store with a hook")
             }
-        }
+            Op::Store { area: Area::Aux, .. } => far_group(frame.aux),
+            Op::Store { area: Area::Heap, .. } => far_group(frame.heap),
+            _ => None,
+        },
         _ => None,
     }
 }

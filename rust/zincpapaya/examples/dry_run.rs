@@ -1,7 +1,10 @@
 //! A dry run in small: writes, a load that pays for growth, a rollback. `Heaps` owns the memory, so no
 //! call tests it; a host with buffers of its own takes `Lent`, whose calls do.
 
-use zincpapaya::{Area, Capacity, Error, Frame, Heaps, Layout, Outcome, PageId, Word};
+use zincpapaya::{
+    Area, Capacity, Error, Frame, Heaps, Layout, LoadPlaces, Outcome, PageId, Registers, Source,
+    StorePlaces, Word,
+};
 
 fn main() -> Result<(), Error> {
     let layout = Layout {
@@ -19,14 +22,23 @@ fn main() -> Result<(), Error> {
     heaps.write_u256(heap, 4065, Word::from(7))?;
     let (heap_bound, aux_bound) = (4096, 4096);
     let mut frame = Frame { gas: 10, heap, aux, heap_bound, aux_bound, panicked: false };
-    match heaps.load(&mut frame, Area::Heap, 4065.into())? {
-        Outcome::Running { word, .. } => println!("loaded {word:#x}, {} gas left", frame.gas),
+    // Register 1 has the address, and register 2 gets the word. The second output is not wanted.
+    let mut registers = Registers::default();
+    registers.set(1, 4065);
+    let source = Source::Register(1);
+    let places = LoadPlaces { source, dst0: 2, dst1: 0, increment: false };
+    match heaps.load(&mut frame, &mut registers, Area::Heap, places)? {
+        Outcome::Running => println!("loaded {:#x}, {} gas left", registers.words()[2], frame.gas),
         other => println!("not loaded: {other:?}"),
     }
 
     let before = heaps.snapshot()?;
-    heaps.store(&mut frame, Area::Heap, 4065.into(), Word::from(8), None)?;
-    println!("stored {:#x}", heaps.read_u256(heap, 4065)?);
+    registers.set(2, Word::from(8));
+    let places = StorePlaces { source, value: 2, dst0: 0, dst1: 0, increment: false };
+    match heaps.store(&mut frame, &mut registers, Area::Heap, places, true, None)? {
+        Outcome::Running => println!("stored {:#x}", heaps.read_u256(heap, 4065)?),
+        other => println!("not stored: {other:?}"),
+    }
     heaps.rollback(before)?;
     println!("rolled back to {:#x}", heaps.read_u256(heap, 4065)?);
 

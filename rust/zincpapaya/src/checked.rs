@@ -7,7 +7,8 @@ use crate::{
     error::carried_out,
     ffi,
     methods::Calls,
-    Area, Error, Frame, Operand, Outcome, PageId, Snapshot, Word,
+    registers::{LoadCodes, StoreCodes},
+    Area, Error, Frame, Outcome, PageId, Registers, Snapshot, Word,
 };
 
 /// Four buffers with whatever is in them: every call tests them first.
@@ -119,59 +120,75 @@ impl<M: Checked> Calls for M {
         carried_out(ffi::delete_history(self.lent()))
     }
 
-    fn load(&self, frame: &mut Frame, area: Area, operand: Operand) -> Result<Outcome, Error> {
-        run(frame, |frame, out| ffi::load(self.shown(), frame, area.is_aux(), operand, out))
+    fn load(
+        &self,
+        frame: &mut Frame,
+        registers: &mut Registers,
+        area: Area,
+        places: LoadCodes,
+    ) -> Result<Outcome, Error> {
+        run(frame, |frame, _| ffi::load(self.shown(), frame, registers, area.is_aux(), places))
     }
 
     fn store(
         &mut self,
         frame: &mut Frame,
+        registers: &mut Registers,
         area: Area,
-        operand: Operand,
-        value: Word,
+        places: StoreCodes,
+        kernel: bool,
         hook: Option<u32>,
     ) -> Result<Outcome, Error> {
         run(frame, |frame, out| {
-            ffi::store(self.lent(), frame, area.is_aux(), operand, value.0, hook, out)
+            ffi::store(self.lent(), frame, registers, area.is_aux(), places, kernel, hook, out)
         })
     }
 
-    fn load_pointer(&self, frame: &mut Frame, operand: Operand) -> Result<Outcome, Error> {
-        run(frame, |frame, out| ffi::load_pointer(self.shown(), frame, operand, out))
+    fn load_pointer(
+        &self,
+        frame: &mut Frame,
+        registers: &mut Registers,
+        places: LoadCodes,
+    ) -> Result<Outcome, Error> {
+        run(frame, |frame, _| ffi::load_pointer(self.shown(), frame, registers, places))
     }
 
-    fn load_static(&self, frame: &mut Frame, operand: Operand) -> Result<Outcome, Error> {
-        run(frame, |frame, out| ffi::load_static(self.shown(), frame, operand, out))
+    fn load_static(
+        &self,
+        frame: &mut Frame,
+        registers: &mut Registers,
+        places: LoadCodes,
+    ) -> Result<Outcome, Error> {
+        run(frame, |frame, _| ffi::load_static(self.shown(), frame, registers, places))
     }
 
     fn store_static(
         &mut self,
         frame: &mut Frame,
-        operand: Operand,
-        value: Word,
+        registers: &mut Registers,
+        places: StoreCodes,
+        kernel: bool,
     ) -> Result<Outcome, Error> {
-        run(frame, |frame, out| ffi::store_static(self.lent(), frame, operand, value.0, out))
+        run(frame, |frame, _| ffi::store_static(self.lent(), frame, registers, places, kernel))
     }
 }
 
-/// Runs an instruction on the numbers of a frame, and reads what it put out.
+/// Runs an instruction on the numbers of a frame, with an output that a hook's value goes to.
 fn run(
     frame: &mut Frame,
-    instruction: impl FnOnce(&mut [u32; 6], &mut [u64; 10]) -> u32,
+    instruction: impl FnOnce(&mut [u32; 6], &mut [u64; 1]) -> u32,
 ) -> Result<Outcome, Error> {
-    let (mut numbers, mut out) = (frame.numbers(), [0; 10]);
+    let (mut numbers, mut out) = (frame.numbers(), [0]);
     let status = instruction(&mut numbers, &mut out);
     // Where the instruction was refused, these are as they were.
     *frame = Frame::of(numbers);
 
-    let [w0, w1, w2, w3, n0, n1, n2, n3, tag, value] = out;
-    let next = Operand { word: Word([n0, n1, n2, n3]), tagged: tag != 0 };
     match status {
         ffi::PANICKED => Ok(Outcome::Panicked),
-        ffi::SUSPENDED => Ok(Outcome::SuspendedOnHook { value: value as u32, next }),
+        ffi::SUSPENDED => Ok(Outcome::SuspendedOnHook(out[0] as u32)),
         _ => {
             carried_out(status)?;
-            Ok(Outcome::Running { word: Word([w0, w1, w2, w3]), next })
+            Ok(Outcome::Running)
         }
     }
 }

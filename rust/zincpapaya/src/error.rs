@@ -2,11 +2,12 @@
 
 use std::fmt;
 
-/// Why a call was refused. A refused call has changed nothing: no byte, no journal, no frame.
+/// Why a call was refused. A refused call has changed nothing: no byte, no journal, no frame, no register.
 ///
-/// The variants stand in the order in which a call tests them; only a comparison tests the two
-/// layouts later, after [`NotFormed`](Self::NotFormed). Each has the number that the project's scope
-/// paper (document 01) gives it. The text begins with that number, and says what to do.
+/// The variants stand in the order in which a call tests them, with two exceptions. A comparison tests the
+/// two layouts after [`NotFormed`](Self::NotFormed), and an instruction tests its places
+/// ([`Operand`](Self::Operand)) right after it. Each has its number in the project's scope
+/// papers. The text begins with that number, and says what to do.
 ///
 /// ```
 /// use zincpapaya::{Capacity, Error, Heaps, Layout, PageId, Word};
@@ -63,11 +64,13 @@ pub enum Error {
     Pointer = 14,
     /// A hook cannot stop with a value of more than 32 bits.
     HookValue = 15,
+    /// An instruction names a register above 15, or a place of a form that it does not take there.
+    Operand = 16,
 }
 
 impl Error {
     /// Each refusal, by rising number.
-    pub const ALL: [Self; 15] = [
+    pub const ALL: [Self; 16] = [
         Self::Layout,
         Self::Sizes,
         Self::NotFormed,
@@ -83,16 +86,17 @@ impl Error {
         Self::BadLength,
         Self::Pointer,
         Self::HookValue,
+        Self::Operand,
     ];
 
-    /// The refusal's number, 1 to 15.
+    /// The refusal's number, 1 to 16.
     pub const fn number(self) -> u8 {
         self as u8
     }
 }
 
 /// What happened; and what to do about it. By rising number.
-const TEXTS: [&str; 15] = [
+const TEXTS: [&str; 16] = [
     "the layout does not fit; make the four fixed page ids distinct and the stride at least 4, and \
      compare only memories of one layout",
     "the capacity is out of bounds, or a lent buffer has another length than the capacity needs; \
@@ -121,6 +125,8 @@ const TEXTS: [&str; 15] = [
      so check where this one was made",
     "the hook's value has more than 32 bits, and the store was not carried out; the bootloader \
      must store a smaller value at its hook address",
+    "the instruction does not take one of its places; name registers by 0 to 15, give an immediate only \
+     as the operand of a load or store, and the pointer of `load_pointer` in a register",
 ];
 
 impl fmt::Display for Error {
@@ -135,7 +141,7 @@ impl std::error::Error for Error {}
 /// The result that a call's status stands for.
 ///
 /// Instructions take their two other outcomes away before they come here, and the last status,
-/// which is for outputs and frames of a wrong length, cannot come: the calls take both as arrays.
+/// which is for outputs, frames and registers of a wrong length, cannot come: all have fixed lengths here.
 #[inline]
 pub(crate) fn carried_out(status: u32) -> Result<(), Error> {
     match status {

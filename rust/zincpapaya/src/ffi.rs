@@ -12,13 +12,15 @@
 //!   write to is borrowed by `&mut`, so nothing else overlaps it.
 //! - The library keeps no pointer after a call, and has no state of its own.
 //! - Outputs and frames are arrays, so they have the lengths that the header asks for, and no call
-//!   can tell of one that does not fit.
+//!   can tell of one that does not fit. [`Registers`] are laid out as the 65 numbers that the header asks
+//!   for: `registers.rs` asserts it.
 
-use std::ops::Range;
+use std::{ops::Range, ptr};
 
 use crate::{
     buffers::{Buffers, BuffersMut, Capacity},
-    Operand,
+    registers::{LoadCodes, StoreCodes},
+    Registers,
 };
 
 /// The instruction panicked as the EraVM does.
@@ -100,27 +102,25 @@ declare! {
     restoring fn zp_rollback(heap: u64, aux: u64) -> u32;
     forgetting fn zp_delete_history() -> u32;
     reading fn zp_load(
-        frame: *mut u32, frame_len: usize, aux: bool,
-        x0: u64, x1: u64, x2: u64, x3: u64, tagged: bool, out: *mut u64, out_len: usize,
+        frame: *mut u32, frame_len: usize, registers: *mut u64, registers_len: usize, aux: bool,
+        source: u32, dst0: u32, dst1: u32, increment: bool,
     ) -> u32;
     writing fn zp_store(
-        frame: *mut u32, frame_len: usize, aux: bool,
-        x0: u64, x1: u64, x2: u64, x3: u64, tagged: bool,
-        limb0: u64, limb1: u64, limb2: u64, limb3: u64,
+        frame: *mut u32, frame_len: usize, registers: *mut u64, registers_len: usize, aux: bool,
+        source: u32, value: u32, dst0: u32, dst1: u32, increment: bool, kernel: bool,
         hook: bool, hook_address: u32, out: *mut u64, out_len: usize,
     ) -> u32;
     reading fn zp_load_pointer(
-        frame: *mut u32, frame_len: usize,
-        x0: u64, x1: u64, x2: u64, x3: u64, tagged: bool, out: *mut u64, out_len: usize,
+        frame: *mut u32, frame_len: usize, registers: *mut u64, registers_len: usize,
+        source: u32, dst0: u32, dst1: u32, increment: bool,
     ) -> u32;
     reading fn zp_load_static(
-        frame: *mut u32, frame_len: usize,
-        x0: u64, x1: u64, x2: u64, x3: u64, tagged: bool, out: *mut u64, out_len: usize,
+        frame: *mut u32, frame_len: usize, registers: *mut u64, registers_len: usize,
+        source: u32, dst0: u32, dst1: u32, increment: bool,
     ) -> u32;
     writing fn zp_store_static(
-        frame: *mut u32, frame_len: usize,
-        x0: u64, x1: u64, x2: u64, x3: u64, tagged: bool,
-        limb0: u64, limb1: u64, limb2: u64, limb3: u64, out: *mut u64, out_len: usize,
+        frame: *mut u32, frame_len: usize, registers: *mut u64, registers_len: usize,
+        source: u32, value: u32, dst0: u32, dst1: u32, increment: bool, kernel: bool,
     ) -> u32;
     plain fn zp_decode(
         static_memory: u32, calldata_page: u32, bootloader_heap: u32, bootloader_aux: u32,
@@ -164,6 +164,12 @@ macro_rules! lend {
             $memory.words.as_mut_ptr(), $memory.words.len(), $($arg),*
         )
     };
+}
+
+/// The first of the 65 numbers of registers.
+#[inline(always)]
+pub(crate) fn numbers(registers: &mut Registers) -> *mut u64 {
+    ptr::from_mut(registers).cast()
 }
 
 pub(crate) fn open(
@@ -302,35 +308,36 @@ pub(crate) fn delete_history(memory: BuffersMut<'_>) -> u32 {
 pub(crate) fn load(
     memory: Buffers<'_>,
     frame: &mut [u32; 6],
+    registers: &mut Registers,
     aux: bool,
-    Operand { word, tagged }: Operand,
-    out: &mut [u64; 10],
+    LoadCodes { source, dst0, dst1, increment }: LoadCodes,
 ) -> u32 {
-    let [x0, x1, x2, x3] = word.0;
-    // SAFETY: the memory is only read; `frame` and `out` are borrowed by `&mut`.
+    // SAFETY: the memory is only read; `frame` and `registers` are borrowed by `&mut`.
     unsafe {
         lend!(& memory => zp_load(
-            frame.as_mut_ptr(), frame.len(), aux, x0, x1, x2, x3, tagged,
-            out.as_mut_ptr(), out.len(),
+            frame.as_mut_ptr(), frame.len(), numbers(registers), Registers::NUMBERS, aux,
+            source, dst0, dst1, increment,
         ))
     }
 }
 
+#[allow(clippy::too_many_arguments)] // the library asks for these
 pub(crate) fn store(
     memory: BuffersMut<'_>,
     frame: &mut [u32; 6],
+    registers: &mut Registers,
     aux: bool,
-    Operand { word, tagged }: Operand,
-    [v0, v1, v2, v3]: [u64; 4],
+    StoreCodes { source, value, dst0, dst1, increment }: StoreCodes,
+    kernel: bool,
     hook: Option<u32>,
-    out: &mut [u64; 10],
+    out: &mut [u64; 1],
 ) -> u32 {
-    let [x0, x1, x2, x3] = word.0;
-    // SAFETY: memory, `frame` and `out` are borrowed by `&mut`.
+    // SAFETY: memory, `frame`, `registers` and `out` are borrowed by `&mut`.
     unsafe {
         lend!(mut memory => zp_store(
-            frame.as_mut_ptr(), frame.len(), aux, x0, x1, x2, x3, tagged, v0, v1, v2, v3,
-            hook.is_some(), hook.unwrap_or(0), out.as_mut_ptr(), out.len(),
+            frame.as_mut_ptr(), frame.len(), numbers(registers), Registers::NUMBERS, aux,
+            source, value, dst0, dst1, increment, kernel, hook.is_some(), hook.unwrap_or(0),
+            out.as_mut_ptr(), out.len(),
         ))
     }
 }
@@ -338,14 +345,14 @@ pub(crate) fn store(
 pub(crate) fn load_pointer(
     memory: Buffers<'_>,
     frame: &mut [u32; 6],
-    Operand { word, tagged }: Operand,
-    out: &mut [u64; 10],
+    registers: &mut Registers,
+    LoadCodes { source, dst0, dst1, increment }: LoadCodes,
 ) -> u32 {
-    let [x0, x1, x2, x3] = word.0;
-    // SAFETY: the memory is only read; `frame` and `out` are borrowed by `&mut`.
+    // SAFETY: the memory is only read; `frame` and `registers` are borrowed by `&mut`.
     unsafe {
         lend!(& memory => zp_load_pointer(
-            frame.as_mut_ptr(), frame.len(), x0, x1, x2, x3, tagged, out.as_mut_ptr(), out.len(),
+            frame.as_mut_ptr(), frame.len(), numbers(registers), Registers::NUMBERS,
+            source, dst0, dst1, increment,
         ))
     }
 }
@@ -353,14 +360,14 @@ pub(crate) fn load_pointer(
 pub(crate) fn load_static(
     memory: Buffers<'_>,
     frame: &mut [u32; 6],
-    Operand { word, tagged }: Operand,
-    out: &mut [u64; 10],
+    registers: &mut Registers,
+    LoadCodes { source, dst0, dst1, increment }: LoadCodes,
 ) -> u32 {
-    let [x0, x1, x2, x3] = word.0;
-    // SAFETY: the memory is only read; `frame` and `out` are borrowed by `&mut`.
+    // SAFETY: the memory is only read; `frame` and `registers` are borrowed by `&mut`.
     unsafe {
         lend!(& memory => zp_load_static(
-            frame.as_mut_ptr(), frame.len(), x0, x1, x2, x3, tagged, out.as_mut_ptr(), out.len(),
+            frame.as_mut_ptr(), frame.len(), numbers(registers), Registers::NUMBERS,
+            source, dst0, dst1, increment,
         ))
     }
 }
@@ -368,16 +375,15 @@ pub(crate) fn load_static(
 pub(crate) fn store_static(
     memory: BuffersMut<'_>,
     frame: &mut [u32; 6],
-    Operand { word, tagged }: Operand,
-    [v0, v1, v2, v3]: [u64; 4],
-    out: &mut [u64; 10],
+    registers: &mut Registers,
+    StoreCodes { source, value, dst0, dst1, increment }: StoreCodes,
+    kernel: bool,
 ) -> u32 {
-    let [x0, x1, x2, x3] = word.0;
-    // SAFETY: memory, `frame` and `out` are borrowed by `&mut`.
+    // SAFETY: memory, `frame` and `registers` are borrowed by `&mut`.
     unsafe {
         lend!(mut memory => zp_store_static(
-            frame.as_mut_ptr(), frame.len(), x0, x1, x2, x3, tagged, v0, v1, v2, v3,
-            out.as_mut_ptr(), out.len(),
+            frame.as_mut_ptr(), frame.len(), numbers(registers), Registers::NUMBERS,
+            source, value, dst0, dst1, increment, kernel,
         ))
     }
 }

@@ -46,7 +46,8 @@ impl Area {
 /// for the aux heap. So a running total ends at the final charge. A refused call changes nothing.
 ///
 /// ```
-/// # use zincpapaya::{Area, Capacity, Error, Frame, Heaps, Layout, PageId};
+/// # use zincpapaya::{Area, Capacity, Error, Frame, Heaps, Layout, LoadPlaces, Outcome, PageId};
+/// # use zincpapaya::{Registers, Source};
 /// # fn main() -> Result<(), Error> {
 /// # let layout = Layout {
 /// #     static_memory: PageId(1),
@@ -65,11 +66,13 @@ impl Area {
 ///     aux_bound: 0,
 ///     panicked: false,
 /// };
-/// let mut frame = first;
+/// let (mut frame, mut registers) = (first, Registers::default());
 /// let (mut heap_total, mut aux_total) = (0, 0);
 /// for (area, address) in [(Area::Heap, 4065), (Area::Aux, 100), (Area::Aux, 50)] {
 ///     let gas = frame.gas;
-///     heaps.load(&mut frame, area, address.into())?;
+///     let source = Source::Immediate(address);
+///     let places = LoadPlaces { source, dst0: 1, dst1: 2, increment: false };
+///     assert_eq!(heaps.load(&mut frame, &mut registers, area, places)?, Outcome::Running);
 ///     match area {
 ///         Area::Heap => heap_total += gas - frame.gas,
 ///         Area::Aux => aux_total += gas - frame.gas,

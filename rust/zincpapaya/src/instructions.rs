@@ -1,8 +1,8 @@
-//! What the five heap instructions take and give.
+//! What a register holds, and how the five heap instructions end.
 
 use crate::{FatPointer, Word};
 
-/// The operand of an instruction: a register's word, and its tag.
+/// What a register holds: a word, and its tag.
 #[derive(Debug, Clone, Copy, PartialEq, Eq, Hash)]
 pub struct Operand {
     /// The whole word.
@@ -34,22 +34,13 @@ impl From<FatPointer> for Operand {
 
 /// How an instruction ended that was not refused.
 #[derive(Debug, Clone, Copy, PartialEq, Eq, Hash)]
+#[must_use = "an instruction may have panicked, or its hook stops the run"]
 pub enum Outcome {
     /// It was carried out, and the run goes on.
-    Running {
-        /// The word that was read; 0 of a store.
-        word: Word,
-        /// The operand plus 32, for an instruction that increments.
-        next: Operand,
-    },
-    /// The store was carried out, and its hook stops the run.
-    SuspendedOnHook {
-        /// The value that was stored.
-        value: u32,
-        /// The operand plus 32, for an instruction that increments.
-        next: Operand,
-    },
-    /// It panicked as the EraVM does. Gas may be gone and the frame's mark is set; the memory is as
-    /// it was.
+    Running,
+    /// The store was carried out, and its hook stops the run with the value that was stored.
+    SuspendedOnHook(u32),
+    /// It panicked as the EraVM does. Gas may be gone, the frame's mark is set, and the second output is
+    /// cleared; the memory and all other registers are as they were.
     Panicked,
 }

@@ -56,6 +56,13 @@
 //! `U256` of `primitive-types` keeps a number too, so a host converts by `Word(number.0)` and
 //! `U256(word.0)`, at no cost.
 //!
+//! # Instructions
+//!
+//! The five instructions, such as [`Heaps::load`], work on [`Registers`]: they read their operand from a
+//! register or an immediate and write their results to registers, as vm2's handlers do. [`LoadPlaces`] and
+//! [`StorePlaces`] say which. The host decodes the instruction, pays its fixed cost and keeps the program
+//! counter; where an [`Outcome`] is [`Panicked`](Outcome::Panicked), it runs its panic.
+//!
 //! # Pages
 //!
 //! A [`PageId`] is vm2's `HeapId`: `PageId(id.as_u32())`. A base page and a byte address are plain
@@ -78,6 +85,9 @@ mod memory;
 mod methods;
 mod pages;
 mod pointer;
+#[cfg(feature = "raw")]
+pub mod raw;
+mod registers;
 #[cfg(test)]
 mod tests;
 mod word;
@@ -93,4 +103,5 @@ pub use pages::{
     DecodedPage, Layout, PageId,
 };
 pub use pointer::FatPointer;
+pub use registers::{LoadPlaces, Registers, Source, StorePlaces};
 pub use word::Word;

@@ -2,7 +2,11 @@
 
 use std::ops::Range;
 
-use crate::{Area, Error, Frame, Heaps, Lent, Operand, Outcome, PageId, Snapshot, Word};
+use crate::{
+    registers::{LoadCodes, StoreCodes},
+    Area, Error, Frame, Heaps, Lent, LoadPlaces, Outcome, PageId, Registers, Snapshot, StorePlaces,
+    Word,
+};
 
 /// The calls as a memory answers them: one that is owned (`memory/calls.rs`), or one that is tested
 /// first (`checked.rs`).
@@ -38,22 +42,40 @@ pub(crate) trait Calls {
     fn rollback(&mut self, to: Snapshot) -> Result<(), Error>;
     fn delete_history(&mut self) -> Result<(), Error>;
 
-    fn load(&self, frame: &mut Frame, area: Area, operand: Operand) -> Result<Outcome, Error>;
+    fn load(
+        &self,
+        frame: &mut Frame,
+        registers: &mut Registers,
+        area: Area,
+        places: LoadCodes,
+    ) -> Result<Outcome, Error>;
     fn store(
         &mut self,
         frame: &mut Frame,
+        registers: &mut Registers,
         area: Area,
-        operand: Operand,
-        value: Word,
+        places: StoreCodes,
+        kernel: bool,
         hook: Option<u32>,
     ) -> Result<Outcome, Error>;
-    fn load_pointer(&self, frame: &mut Frame, operand: Operand) -> Result<Outcome, Error>;
-    fn load_static(&self, frame: &mut Frame, operand: Operand) -> Result<Outcome, Error>;
+    fn load_pointer(
+        &self,
+        frame: &mut Frame,
+        registers: &mut Registers,
+        places: LoadCodes,
+    ) -> Result<Outcome, Error>;
+    fn load_static(
+        &self,
+        frame: &mut Frame,
+        registers: &mut Registers,
+        places: LoadCodes,
+    ) -> Result<Outcome, Error>;
     fn store_static(
         &mut self,
         frame: &mut Frame,
-        operand: Operand,
-        value: Word,
+        registers: &mut Registers,
+        places: StoreCodes,
+        kernel: bool,
     ) -> Result<Outcome, Error>;
 }
 
@@ -249,12 +271,27 @@ macro_rules! methods {
             }
         }
 
-        /// The five instructions. The caller has selected the operands and paid the fixed costs;
-        /// what is paid here is growth. An instruction that is refused changes neither memory nor
-        /// frame.
+        /// The five instructions. Each reads its operands from the registers and writes its results to them.
+        /// The caller has decoded it and paid its fixed cost; what is paid here is growth.
+        ///
+        /// | | `dst0` | `dst1` |
+        /// |---|---|---|
+        /// | a load | gets the word, without a tag | gets the operand plus 32 where the load increments, else is cleared |
+        /// | a store, also one that its hook stops | gets the operand plus 32, without a tag, where the store increments, else stays | is cleared |
+        /// | a panic as the EraVM has it | stays | is cleared |
+        ///
+        /// To clear a register means to write 0 to it and to clear its flag. `dst0` is written before `dst1`, so
+        /// `dst1` decides where both are the same. Register 0 is never written.
+        ///
+        /// An instruction that is refused changes neither memory nor frame nor registers. Each is refused with
+        /// [`Error::Operand`] where a register's number is above 15. This is decided before a panic, and all
+        /// refusals below are decided after it.
         ///
         /// ```
-        /// use zincpapaya::{Area, Capacity, Frame, Heaps, Layout, Outcome, PageId, Word};
+        /// use zincpapaya::{
+        ///     Area, Capacity, Frame, Heaps, Layout, LoadPlaces, Outcome, PageId, Registers, Source,
+        ///     StorePlaces, Word,
+        /// };
         ///
         /// # fn main() -> Result<(), zincpapaya::Error> {
         /// # let layout = Layout { static_memory: PageId(1), calldata: PageId(4),
@@ -269,53 +306,75 @@ macro_rules! methods {
         ///     aux_bound: 4096,
         ///     panicked: false,
         /// };
+        /// let mut registers = Registers::default();
+        /// registers.set(1, 4064);
+        /// registers.set(2, Word::from(7));
         ///
-        /// // Up to 4096 nothing is due; one byte more costs 1 gas.
-        /// heaps.store(&mut frame, Area::Heap, 4064.into(), Word::from(7), None)?;
-        /// let loaded = heaps.load(&mut frame, Area::Heap, 4065.into())?;
-        /// assert_eq!(loaded, Outcome::Running { word: Word::from(7 << 8), next: 4097.into() });
+        /// // Up to 4096 nothing is due. Register 3 gets the operand plus 32.
+        /// let source = Source::Register(1);
+        /// let places = StorePlaces { source, value: 2, dst0: 3, dst1: 0, increment: true };
+        /// let stored = heaps.store(&mut frame, &mut registers, Area::Heap, places, false, None)?;
+        /// assert_eq!(stored, Outcome::Running);
+        /// assert_eq!((frame.gas, registers.get(3)), (1, 4096.into()));
+        ///
+        /// // One byte more costs 1 gas.
+        /// let source = Source::Immediate(4065);
+        /// let places = LoadPlaces { source, dst0: 4, dst1: 5, increment: true };
+        /// let loaded = heaps.load(&mut frame, &mut registers, Area::Heap, places)?;
+        /// assert_eq!(loaded, Outcome::Running);
+        /// assert_eq!(registers.get(4), Word::from(7 << 8).into());
+        /// assert_eq!(registers.get(5), 4097.into());
         /// assert_eq!((frame.gas, frame.heap_bound), (0, 4097));
         ///
-        /// // No gas is left for another byte: a panic, and the bound stays.
-        /// assert_eq!(heaps.load(&mut frame, Area::Heap, 4066.into())?, Outcome::Panicked);
+        /// // No gas is left for another byte: a panic. The bound and register 4 stay, and register 5 is cleared.
+        /// let places = LoadPlaces { source: Source::Immediate(4066), ..places };
+        /// let loaded = heaps.load(&mut frame, &mut registers, Area::Heap, places)?;
+        /// assert_eq!(loaded, Outcome::Panicked);
         /// assert_eq!((frame.heap_bound, frame.panicked), (4097, true));
+        /// assert_eq!(registers.get(4), Word::from(7 << 8).into());
+        /// assert_eq!(registers.get(5), 0.into());
         /// # Ok(())
         /// # }
         /// ```
         impl $memory {
             /// Loads the word at an address of the frame's heap or aux heap, after paying for
-            /// growth.
+            /// growth. With increment `dst1` takes the operand's tag.
             #[inline(always)]
             pub fn load(
                 &self,
                 frame: &mut Frame,
+                registers: &mut Registers,
                 area: Area,
-                operand: Operand,
+                places: LoadPlaces,
             ) -> Result<Outcome, Error> {
-                self.memory.load(frame, area, operand)
+                self.memory.load(frame, registers, area, places.into())
             }
 
-            /// Stores a word at an address of the frame's heap or aux heap, after paying for
-            /// growth. With a `hook`, a store at that address stops the run. Refused with
+            /// Stores a register's word at an address of the frame's heap or aux heap, after paying for
+            /// growth. With a `hook`, a store at that address stops the run. Outside `kernel` mode a word
+            /// that is tagged is stored without the page and the start of its pointer: they become 0.
+            /// Refused with
             /// [`Error::Undecodable`], [`NoPage`](Error::NoPage), [`NoChunk`](Error::NoChunk),
             /// [`NoJournal`](Error::NoJournal) or [`HookValue`](Error::HookValue).
             #[inline(always)]
             pub fn store(
                 &mut self,
                 frame: &mut Frame,
+                registers: &mut Registers,
                 area: Area,
-                operand: Operand,
-                value: Word,
+                places: StorePlaces,
+                kernel: bool,
                 hook: Option<u32>,
             ) -> Result<Outcome, Error> {
-                self.memory.store(frame, area, operand, value, hook)
+                self.memory.store(frame, registers, area, places.into(), kernel, hook)
             }
 
-            /// Loads up to 32 bytes through a fat pointer, whose word must be tagged. Refused with
-            /// [`Error::Pointer`].
+            /// Loads up to 32 bytes through a fat pointer in a register. The instruction panics where the
+            /// register is not tagged. Where it increments, `dst1` is tagged. Refused with [`Error::Operand`]
+            /// where the source is an immediate, and with [`Error::Pointer`].
             ///
             /// ```
-            /// use zincpapaya::{FatPointer, Outcome, PageId, Word};
+            /// use zincpapaya::{FatPointer, LoadPlaces, Outcome, PageId, Registers, Source, Word};
             /// # use zincpapaya::{Capacity, Frame, Heaps, Layout};
             /// # fn main() -> Result<(), zincpapaya::Error> {
             /// # let layout = Layout { static_memory: PageId(1), calldata: PageId(4),
@@ -326,41 +385,50 @@ macro_rules! methods {
             /// # let mut heaps = Heaps::open(layout, capacity, &[])?;
             /// heaps.write_bytes(PageId(66), 10, &[1, 2, 3, 4, 5])?;
             /// let pointer = FatPointer { offset: 3, memory_page: PageId(66), start: 10, length: 5 };
+            /// let mut registers = Registers::default();
+            /// registers.set(1, pointer);
             ///
+            /// let source = Source::Register(1);
+            /// let places = LoadPlaces { source, dst0: 2, dst1: 1, increment: true };
+            /// let outcome = heaps.load_pointer(&mut frame, &mut registers, places)?;
+            /// assert_eq!(outcome, Outcome::Running);
             /// let mut bytes = [0; 32];
             /// bytes[..2].copy_from_slice(&[4, 5]); // bytes 13 and 14
-            /// let word = Word::from_big_endian(&bytes);
-            /// let next = FatPointer { offset: 35, ..pointer }.into();
-            /// let outcome = heaps.load_pointer(&mut frame, pointer.into())?;
-            /// assert_eq!(outcome, Outcome::Running { word, next });
+            /// assert_eq!(registers.get(2), Word::from_big_endian(&bytes).into());
+            /// assert_eq!(registers.get(1), FatPointer { offset: 35, ..pointer }.into());
             /// # Ok(())
             /// # }
             /// ```
             pub fn load_pointer(
                 &self,
                 frame: &mut Frame,
-                operand: Operand,
+                registers: &mut Registers,
+                places: LoadPlaces,
             ) -> Result<Outcome, Error> {
-                self.memory.load_pointer(frame, operand)
+                self.memory.load_pointer(frame, registers, places.into())
             }
 
-            /// Loads the word at an address of the static memory.
+            /// Loads the word at an address of the static memory. With increment `dst1` takes the
+            /// operand's tag.
             pub fn load_static(
                 &self,
                 frame: &mut Frame,
-                operand: Operand,
+                registers: &mut Registers,
+                places: LoadPlaces,
             ) -> Result<Outcome, Error> {
-                self.memory.load_static(frame, operand)
+                self.memory.load_static(frame, registers, places.into())
             }
 
-            /// Stores a word at an address of the static memory. Refused with [`Error::NoChunk`].
+            /// Stores a register's word at an address of the static memory. `kernel` is that of
+            /// [`store`](Self::store). Refused with [`Error::NoChunk`].
             pub fn store_static(
                 &mut self,
                 frame: &mut Frame,
-                operand: Operand,
-                value: Word,
+                registers: &mut Registers,
+                places: StorePlaces,
+                kernel: bool,
             ) -> Result<Outcome, Error> {
-                self.memory.store_static(frame, operand, value)
+                self.memory.store_static(frame, registers, places.into(), kernel)
             }
         }
 

@@ -1,11 +1,18 @@
-//! What the public interface does not show: outputs and frames of refused calls as the library
-//! leaves them. And memories that are not well formed, and edges of openings and quotes.
+//! What the public interface does not show: outputs, frames and registers of refused calls as the library
+//! leaves them. And memories that are not well formed, edges of openings and quotes, and the registers that
+//! instructions write.
 
 use std::ops::Range;
 
 use crate::{
-    buffers::BuffersMut, checked::Checked, ffi, quote, Area, Buffers, Capacity, Error, Frame,
-    Heaps, Layout, Lengths, Lent, Outcome, PageId, Quote, Snapshot, Word,
+    buffers::BuffersMut,
+    checked::Checked,
+    ffi,
+    methods::Calls,
+    quote,
+    registers::{LoadCodes, StoreCodes},
+    Area, Buffers, Capacity, Error, FatPointer, Frame, Heaps, Layout, Lengths, Lent, LoadPlaces,
+    Operand, Outcome, PageId, Quote, Registers, Snapshot, Source, StorePlaces, Word,
 };
 
 pub(crate) const LAYOUT: Layout = Layout {
@@ -20,6 +27,20 @@ pub(crate) const CAPACITY: Capacity = Capacity { chunks: 4, pages: 2, journal_wo
 pub(crate) const HEAP: PageId = PageId(66);
 pub(crate) const FRAME: Frame =
     Frame { gas: 100, heap: HEAP, aux: PageId(67), heap_bound: 0, aux_bound: 0, panicked: false };
+/// A load at address 0, and a store there of the word of register 2. Both write registers 3 and 4.
+pub(crate) const LOAD: LoadPlaces =
+    LoadPlaces { source: Source::Immediate(0), dst0: 3, dst1: 4, increment: true };
+pub(crate) const STORE: StorePlaces =
+    StorePlaces { source: Source::Immediate(0), value: 2, dst0: 3, dst1: 4, increment: true };
+/// A load through the pointer in register 1.
+pub(crate) const LOAD_POINTER: LoadPlaces = LoadPlaces { source: Source::Register(1), ..LOAD };
+
+/// Registers with a word each, where register 1 has a pointer and those that are written are tagged.
+pub(crate) fn registers() -> Registers {
+    let mut words = std::array::from_fn(|n| Word([n as u64, 1, 2, 3]));
+    words[1] = Word::ZERO;
+    Registers::new(words, 0b1_1010)
+}
 
 /// What stands in an output before a call.
 const OLD: u64 = 0x0123_4567_89ab_cdef;
@@ -59,15 +80,11 @@ impl Host {
 /// The ways to call the library that are lent a memory.
 type Call = fn(BuffersMut<'_>) -> u32;
 
-fn operand(address: u32) -> crate::Operand {
-    address.into()
-}
-
-/// Runs an instruction and checks that a refusal leaves frame and output as they were.
-fn framed(instruction: impl FnOnce(&mut [u32; 6], &mut [u64; 10]) -> u32) -> u32 {
-    let (mut frame, mut out) = ([100, 66, 67, 0, 0, 1], [OLD; 10]);
-    let status = instruction(&mut frame, &mut out);
-    assert_eq!((frame, out), ([100, 66, 67, 0, 0, 1], [OLD; 10]));
+/// Runs an instruction and checks that a refusal leaves frame and registers as they were.
+fn framed(instruction: impl FnOnce(&mut [u32; 6], &mut Registers) -> u32) -> u32 {
+    let (mut frame, mut given) = ([100, 66, 67, 0, 0, 1], registers());
+    let status = instruction(&mut frame, &mut given);
+    assert_eq!((frame, given), ([100, 66, 67, 0, 0, 1], registers()));
     status
 }
 
@@ -110,20 +127,26 @@ const CHANGES: [Call; 9] = [
 ];
 
 const INSTRUCTIONS: [Call; 5] = [
-    |memory| framed(|frame, out| ffi::load(memory.shown(), frame, false, operand(0), out)),
-    |memory| framed(|frame, out| ffi::store(memory, frame, true, operand(0), [1; 4], None, out)),
+    |memory| framed(|frame, given| ffi::load(memory.shown(), frame, given, false, LOAD.into())),
     |memory| {
-        let pointer = crate::Operand { tagged: true, ..operand(0) };
-        framed(|frame, out| ffi::load_pointer(memory.shown(), frame, pointer, out))
+        put(|out| {
+            framed(|frame, given| {
+                ffi::store(memory, frame, given, true, STORE.into(), true, None, out)
+            })
+        })
     },
-    |memory| framed(|frame, out| ffi::load_static(memory.shown(), frame, operand(0), out)),
-    |memory| framed(|frame, out| ffi::store_static(memory, frame, operand(0), [1; 4], out)),
+    |memory| {
+        let places = LOAD_POINTER.into();
+        framed(|frame, given| ffi::load_pointer(memory.shown(), frame, given, places))
+    },
+    |memory| framed(|frame, given| ffi::load_static(memory.shown(), frame, given, LOAD.into())),
+    |memory| framed(|frame, given| ffi::store_static(memory, frame, given, STORE.into(), true)),
 ];
 
 /// The refusals of every public call on a memory, one after another.
 macro_rules! refusals {
     ($memory:ident) => {{
-        let mut frame = FRAME;
+        let (mut frame, mut given) = (FRAME, registers());
         let refusals = [
             $memory.check().err(),
             $memory.read_u256(HEAP, 0).err(),
@@ -144,13 +167,13 @@ macro_rules! refusals {
             $memory.snapshot().err(),
             $memory.rollback(Snapshot { heap: 0, aux: 0 }).err(),
             $memory.delete_history().err(),
-            $memory.load(&mut frame, Area::Heap, 0.into()).err(),
-            $memory.store(&mut frame, Area::Heap, 0.into(), Word::ZERO, None).err(),
-            $memory.load_pointer(&mut frame, crate::Operand { tagged: true, ..0.into() }).err(),
-            $memory.load_static(&mut frame, 0.into()).err(),
-            $memory.store_static(&mut frame, 0.into(), Word::ZERO).err(),
+            $memory.load(&mut frame, &mut given, Area::Heap, LOAD).err(),
+            $memory.store(&mut frame, &mut given, Area::Heap, STORE, true, None).err(),
+            $memory.load_pointer(&mut frame, &mut given, LOAD_POINTER).err(),
+            $memory.load_static(&mut frame, &mut given, LOAD).err(),
+            $memory.store_static(&mut frame, &mut given, STORE, true).err(),
         ];
-        assert_eq!(frame, FRAME);
+        assert_eq!((frame, given), (FRAME, registers()));
         refusals
     }};
 }
@@ -272,52 +295,389 @@ fn a_lent_memory_is_opened_in_buffers_with_any_contents() {
 }
 
 #[test]
-fn a_refused_instruction_leaves_frame_and_output() {
+fn a_refused_instruction_leaves_frame_registers_and_output() {
     let heaps = opened();
-    let pointer = crate::Operand { word: Word([0, u64::MAX << 32 | 1, 0, 0]), tagged: true };
-    assert_eq!(framed(|frame, out| ffi::load_pointer(heaps.buffers(), frame, pointer, out)), 14);
-    let mut frame = FRAME;
-    assert_eq!(heaps.load_pointer(&mut frame, pointer), Err(Error::Pointer));
-    assert_eq!(frame, FRAME);
-    let hooked = |value: u64, page: u32| {
-        let mut host = Host::of(heaps.buffers());
-        let (mut frame, mut out) = ([100, page, 67, 0, 0, 0], [OLD; 10]);
-        let (memory, value) = (host.buffers_mut(), [value, 0, 0, 0]);
-        let status = ffi::store(memory, &mut frame, false, operand(0), value, Some(0), &mut out);
-        (status, frame, out, host)
-    };
+    let pointer = Operand { word: Word([0, u64::MAX << 32 | 1, 0, 0]), tagged: true };
+    let mut given = registers();
+    given.set(1, pointer);
+    let (before, mut frame, places) = (given, FRAME, LOAD_POINTER.into());
+    let mut numbers = frame.numbers();
+    assert_eq!(ffi::load_pointer(heaps.buffers(), &mut numbers, &mut given, places), 14);
+    assert_eq!((numbers, given), (frame.numbers(), before));
+    let loaded = heaps.load_pointer(&mut frame, &mut given, LOAD_POINTER);
+    assert_eq!((loaded, frame, given), (Err(Error::Pointer), FRAME, before));
+
     for (value, page, error) in [(1 << 32, 66, Error::HookValue), (1, 65, Error::Undecodable)] {
-        let (status, frame, out, after) = hooked(value, page);
-        let number = error.number().into();
-        assert_eq!((status, frame, out), (number, [100, page, 67, 0, 0, 0], [OLD; 10]));
-        assert_eq!(after, Host::of(heaps.buffers()));
-        let given = Frame { heap: PageId(page), ..FRAME };
-        let (mut owned, mut frame) = (opened(), given);
-        let stored = owned.store(&mut frame, Area::Heap, 0.into(), Word::from(value), Some(0));
-        assert_eq!((stored, frame), (Err(error), given));
+        let given_frame = Frame { heap: PageId(page), ..FRAME };
+        given.set(2, Word::from(value));
+        let before = given;
+
+        let mut host = Host::of(heaps.buffers());
+        let (mut numbers, mut out) = (given_frame.numbers(), [OLD]);
+        let (memory, places, hook) = (host.buffers_mut(), STORE.into(), Some(0));
+        let status =
+            ffi::store(memory, &mut numbers, &mut given, false, places, true, hook, &mut out);
+        assert_eq!((status, out), (error.number().into(), [OLD]));
+        assert_eq!((numbers, given), (given_frame.numbers(), before));
+        assert_eq!(host, Host::of(heaps.buffers()));
+
+        let (mut owned, mut frame) = (opened(), given_frame);
+        let stored = owned.store(&mut frame, &mut given, Area::Heap, STORE, true, hook);
+        assert_eq!((stored, frame, given), (Err(error), given_frame, before));
         assert_eq!(owned.buffers(), heaps.buffers());
     }
 }
 
+/// Runs an instruction on a memory that is owned and on one that is lent, and checks that both answer alike. What is
+/// left stays in `heaps`, the frame and the registers.
+macro_rules! on_both {
+    ($heaps:ident, $frame:ident, $registers:ident, $name:ident($($arg:expr),*)) => {{
+        let (mut host, mut frame, mut given) = (Host::of($heaps.buffers()), $frame, $registers);
+        let lent = host.lend().$name(&mut frame, &mut given, $($arg),*);
+        let owned = $heaps.$name(&mut $frame, &mut $registers, $($arg),*);
+        assert_eq!((owned, $frame, $registers), (lent, frame, given));
+        assert_eq!(Host::of($heaps.buffers()), host);
+        owned
+    }};
+}
+
+/// The frame and the registers of the worked figures. Register 1 has an address, 2 a value, and 3 a tagged word.
+fn worked() -> (Frame, Registers) {
+    let (heap_bound, aux_bound) = (4096, 4096);
+    let frame = Frame { gas: 10, heap_bound, aux_bound, ..FRAME };
+    let mut given = Registers::default();
+    given.set(1, 4064);
+    given.set(2, 7);
+    given.set(3, Operand { word: Word::from(5), tagged: true });
+    given.set(4, 9);
+    assert_eq!(given.pointer_flags(), 8);
+    (frame, given)
+}
+
+const FROM_1: Source = Source::Register(1);
+
+/// The words of these registers; each is below 2^64.
+fn small(given: &Registers, registers: [u8; 2]) -> [u64; 2] {
+    registers.map(|register| {
+        let Word([low, high @ ..]) = given.get(register).word;
+        assert_eq!(high, [0; 3]);
+        low
+    })
+}
+
 #[test]
-fn a_panic_sets_the_frame_alone() {
+fn a_store_writes_the_operand_and_clears_the_second_output() {
+    // With an increment and without: registers 3 and 4, and the flags.
+    for (increment, words, flags) in [(true, [4096, 0], 0), (false, [5, 0], 8)] {
+        let ((mut frame, mut given), mut heaps) = (worked(), opened());
+        let places = StorePlaces { source: FROM_1, increment, ..STORE };
+        let stored = on_both!(heaps, frame, given, store(Area::Heap, places, false, None));
+        assert_eq!((stored, frame), (Ok(Outcome::Running), worked().0));
+        assert_eq!(heaps.read_u256(HEAP, 4064), Ok(Word::from(7)));
+        assert_eq!((small(&given, [3, 4]), given.pointer_flags()), (words, flags));
+        assert_eq!(small(&given, [1, 2]), [4064, 7]);
+
+        let ((mut frame, mut given), mut heaps) = (worked(), opened());
+        let stored = on_both!(heaps, frame, given, store_static(places, false));
+        assert_eq!((stored, frame), (Ok(Outcome::Running), worked().0));
+        assert_eq!(heaps.read_u256(LAYOUT.static_memory, 4064), Ok(Word::from(7)));
+        assert_eq!((small(&given, [3, 4]), given.pointer_flags()), (words, flags));
+    }
+}
+
+#[test]
+fn a_load_writes_the_word_and_then_the_operand() {
+    let mut heaps = Heaps::open(LAYOUT, CAPACITY, &[]).unwrap();
+    heaps.write_u256(HEAP, 4064, Word::from(7)).unwrap();
+    heaps.write_u256(LAYOUT.static_memory, 4064, Word::from(7)).unwrap();
+    // The outputs and the increment; then registers 3 and 4, and the flags.
+    let cases = [
+        (3, 4, true, [7, 4096], 0),
+        (3, 4, false, [7, 0], 0),
+        // The second output is written last.
+        (3, 3, true, [4096, 9], 0),
+        (3, 3, false, [0, 9], 0),
+        // Register 0 is never written.
+        (0, 0, true, [5, 9], 8),
+        (0, 0, false, [5, 9], 8),
+        (0, 4, true, [5, 4096], 8),
+        (3, 0, true, [7, 9], 0),
+    ];
+    for (dst0, dst1, increment, words, flags) in cases {
+        let places = LoadPlaces { source: FROM_1, dst0, dst1, increment };
+        for is_static in [false, true] {
+            let (mut frame, mut given) = worked();
+            let loaded = match is_static {
+                false => on_both!(heaps, frame, given, load(Area::Heap, places)),
+                true => on_both!(heaps, frame, given, load_static(places)),
+            };
+            assert_eq!((loaded, frame), (Ok(Outcome::Running), worked().0), "{places:?}");
+            assert_eq!(small(&given, [3, 4]), words, "{places:?}");
+            assert_eq!((small(&given, [0, 1]), given.pointer_flags()), ([0, 4064], flags));
+        }
+    }
+    // The operand's own register may be an output.
+    let (mut frame, mut given) = worked();
+    let places = LoadPlaces { source: FROM_1, dst0: 2, dst1: 1, increment: true };
+    let loaded = on_both!(heaps, frame, given, load(Area::Heap, places));
+    assert_eq!((loaded, small(&given, [1, 2])), (Ok(Outcome::Running), [4096, 7]));
+}
+
+#[test]
+fn the_second_output_of_a_load_takes_the_tag_of_its_operand() {
+    let (heaps, (mut frame, mut given)) = (opened(), worked());
+    let tagged = Operand { word: Word::from(4064), tagged: true };
+    for (operand, source) in [(tagged, FROM_1), (4064.into(), Source::Immediate(4064))] {
+        given.set(1, tagged);
+        let places = LoadPlaces { source, ..LOAD };
+        let next = Operand { word: Word::from(4096), tagged: operand.tagged };
+        assert_eq!(on_both!(heaps, frame, given, load(Area::Heap, places)), Ok(Outcome::Running));
+        assert_eq!((given.get(3), given.get(4)), (0.into(), next));
+        given.set(4, 9);
+        assert_eq!(on_both!(heaps, frame, given, load_static(places)), Ok(Outcome::Running));
+        assert_eq!((given.get(3), given.get(4)), (0.into(), next));
+    }
+}
+
+#[test]
+fn a_pointer_load_sets_the_tag() {
+    let mut heaps = opened();
+    heaps.write_bytes(HEAP, 10, &[1, 2, 3, 4, 5]).unwrap();
+    let pointer = FatPointer { offset: 3, memory_page: HEAP, start: 10, length: 5 };
+    let (mut frame, mut given) = worked();
+    given.set(1, pointer);
+    let loaded = on_both!(heaps, frame, given, load_pointer(LOAD_POINTER));
+    assert_eq!((loaded, frame), (Ok(Outcome::Running), worked().0));
+    assert_eq!(given.get(3), Word([0, 0, 0, 0x0405 << 48]).into());
+    assert_eq!(given.get(4), FatPointer { offset: 35, ..pointer }.into());
+    assert_eq!(given.pointer_flags(), 0b1_0010);
+}
+
+#[test]
+fn a_panic_clears_the_second_output_alone() {
     let heaps = opened();
-    let (mut frame, mut out) = ([31, 66, 67, 0, 0, 0], [OLD; 10]);
-    let status = ffi::load(heaps.buffers(), &mut frame, false, operand(0), &mut out);
-    assert_eq!((status, frame, out), (ffi::PANICKED, [0, 66, 67, 0, 0, 1], [OLD; 10]));
-    let mut frame = Frame { gas: 31, ..FRAME };
-    assert_eq!(heaps.load(&mut frame, Area::Heap, 0.into()), Ok(Outcome::Panicked));
-    assert_eq!(frame, Frame { gas: 0, panicked: true, ..FRAME });
+    // Of the growth.
+    let (worked_frame, before) = worked();
+    let (mut frame, mut given) = (Frame { gas: 0, ..worked_frame }, before);
+    let places = LoadPlaces { source: Source::Immediate(4065), dst1: 3, ..LOAD };
+    let loaded = on_both!(heaps, frame, given, load(Area::Heap, places));
+    assert_eq!(loaded, Ok(Outcome::Panicked));
+    assert_eq!(frame, Frame { gas: 0, panicked: true, ..worked_frame });
+    assert_eq!((small(&given, [3, 4]), given.pointer_flags()), ([0, 9], 0));
+    // Of the operand limit, which takes the gas.
+    for register in [1, 2] {
+        let (mut frame, mut given) = worked();
+        given.set(register, Word([0, 0, 0, 1]));
+        let source = Source::Register(register);
+        let (before, mut heaps) = (given, opened());
+        let places = StorePlaces { source, value: 3, dst0: 3, dst1: 4, increment: true };
+        let stored = on_both!(heaps, frame, given, store(Area::Aux, places, true, None));
+        assert_eq!((stored, frame.gas), (Ok(Outcome::Panicked), 0));
+        assert_eq!(heaps.buffers(), opened().buffers());
+        let mut due = before;
+        due.set(4, 0);
+        assert_eq!(given, due);
+    }
+    // Of a pointer load whose operand is not tagged: no charge.
+    let (mut frame, mut given) = worked();
+    let places = LoadPlaces { source: Source::Register(2), ..LOAD };
+    let loaded = on_both!(heaps, frame, given, load_pointer(places));
+    assert_eq!(loaded, Ok(Outcome::Panicked));
+    assert_eq!(frame, Frame { panicked: true, ..worked_frame });
+    assert_eq!((small(&given, [3, 4]), given.pointer_flags()), ([5, 0], 8));
+}
+
+#[test]
+fn a_stored_pointer_is_erased_outside_kernel_mode() {
+    let whole = Word([66 << 32 | 1, 5 << 32 | 10, 0, 0]);
+    let erased = Word([1, 5 << 32, 0, 0]);
+    for (tagged, kernel, due) in
+        [(true, true, whole), (true, false, erased), (false, true, whole), (false, false, whole)]
+    {
+        let ((mut frame, mut given), mut heaps) = (worked(), opened());
+        given.set(5, Operand { word: whole, tagged });
+        let places = StorePlaces { source: FROM_1, value: 5, ..STORE };
+        let stored = on_both!(heaps, frame, given, store(Area::Heap, places, kernel, None));
+        assert_eq!(stored, Ok(Outcome::Running));
+        assert_eq!(heaps.read_u256(HEAP, 4064), Ok(due));
+        heaps.deallocate(HEAP).unwrap();
+        assert_eq!(
+            on_both!(heaps, frame, given, store_static(places, kernel)),
+            Ok(Outcome::Running)
+        );
+        assert_eq!(heaps.read_u256(LAYOUT.static_memory, 4064), Ok(due));
+        // The register that was read is as it was.
+        assert_eq!(given.get(5), Operand { word: whole, tagged });
+    }
+}
+
+#[test]
+fn register_0_is_read_as_it_is() {
+    let mut words = [Word::ZERO; 16];
+    words[0] = Word::from(64);
+    let mut given = Registers::new(words, 1);
+    given.set(0, 9);
+    let (before, mut frame, mut heaps) = (given, worked().0, opened());
+    assert_eq!(before.get(0), Operand { word: Word::from(64), tagged: true });
+    let source = Source::Register(0);
+    let places = StorePlaces { source, value: 0, dst0: 0, dst1: 0, increment: true };
+    let stored = on_both!(heaps, frame, given, store(Area::Heap, places, true, None));
+    assert_eq!((stored, given), (Ok(Outcome::Running), before));
+    assert_eq!(heaps.read_u256(HEAP, 64), Ok(Word::from(64)));
+}
+
+/// Codes that are no register: the first above 15, the last of the form, immediates, and other forms.
+const NO_REGISTER: [u32; 7] = [16, 65_535, 65_536, 65_551, 131_071, 131_072, u32::MAX];
+/// Codes that are neither a register nor an immediate.
+const NO_SOURCE: [u32; 4] = [16, 65_535, 131_072, u32::MAX];
+
+/// Checks that a call with codes is refused with 16, and leaves frame and registers as they were. The codes are
+/// given first, then the arguments before them and those after them.
+macro_rules! takes_not {
+    ($memory:expr, $frame:ident, $registers:ident,
+        $name:ident($places:expr; $($before:expr),*; $($after:expr),*)) => {{
+        let (mut frame, mut given) = ($frame, $registers);
+        let ended = $memory.$name(&mut frame, &mut given, $($before,)* $places $(, $after)*);
+        let due = (Err(Error::Operand), $frame, $registers);
+        assert_eq!((ended, frame, given), due, "{:?}", $places);
+    }};
+}
+
+#[test]
+fn places_that_a_load_does_not_take_are_refused_before_a_panic() {
+    let heaps = opened();
+    let mut host = Host::of(heaps.buffers());
+    let (owned, lent) = (&heaps.memory, host.buffers_mut());
+    // Without gas, and with an operand above the limit and without a tag, each of them would panic.
+    let mut given = registers();
+    given.set(1, Word([0, 0, 0, 1]));
+    let (given, frame) = (given, Frame { gas: 0, ..FRAME });
+
+    let pointer = |places: LoadCodes| {
+        takes_not!(owned, frame, given, load_pointer(places;;));
+        takes_not!(lent, frame, given, load_pointer(places;;));
+    };
+    let all = |places: LoadCodes| {
+        takes_not!(owned, frame, given, load(places; Area::Heap;));
+        takes_not!(lent, frame, given, load(places; Area::Heap;));
+        takes_not!(owned, frame, given, load_static(places;;));
+        takes_not!(lent, frame, given, load_static(places;;));
+        pointer(places);
+    };
+    let right = LoadCodes::from(LOAD_POINTER);
+    NO_SOURCE.into_iter().for_each(|source| all(LoadCodes { source, ..right }));
+    for code in NO_REGISTER {
+        pointer(LoadCodes { source: code, ..right });
+        all(LoadCodes { dst0: code, ..right });
+        all(LoadCodes { dst1: code, increment: false, ..right });
+    }
+}
+
+#[test]
+fn places_that_a_store_does_not_take_are_refused_before_a_panic() {
+    let mut heaps = opened();
+    let mut host = Host::of(heaps.buffers());
+    let before = host.clone();
+    let mut given = registers();
+    given.set(1, Word([0, 0, 0, 1]));
+    let (given, frame) = (given, Frame { gas: 0, ..FRAME });
+
+    let right = StoreCodes::from(StorePlaces { source: FROM_1, ..STORE });
+    let mut wrong: Vec<_> =
+        NO_SOURCE.into_iter().map(|source| StoreCodes { source, ..right }).collect();
+    for code in NO_REGISTER {
+        wrong.push(StoreCodes { value: code, ..right });
+        // A place is looked at even where nothing would be written to it.
+        wrong.push(StoreCodes { dst0: code, increment: false, ..right });
+        wrong.push(StoreCodes { dst1: code, ..right });
+    }
+    for places in wrong {
+        takes_not!(heaps.memory, frame, given, store(places; Area::Heap; true, Some(0)));
+        takes_not!(host.buffers_mut(), frame, given, store(places; Area::Heap; true, Some(0)));
+        takes_not!(heaps.memory, frame, given, store_static(places;; true));
+        takes_not!(host.buffers_mut(), frame, given, store_static(places;; true));
+    }
+    assert_eq!((Host::of(heaps.buffers()), &host), (before.clone(), &before));
+}
+
+#[test]
+fn typed_places_that_an_instruction_does_not_take_are_refused() {
+    let (mut heaps, (mut frame, mut given)) = (opened(), worked());
+    let source = Source::Immediate(0);
+    for number in [16, 255] {
+        for places in [
+            LoadPlaces { source: Source::Register(number), ..LOAD },
+            LoadPlaces { dst0: number, ..LOAD },
+            LoadPlaces { dst1: number, ..LOAD },
+        ] {
+            let loaded = on_both!(heaps, frame, given, load(Area::Aux, places));
+            assert_eq!(loaded, Err(Error::Operand));
+        }
+        for places in [
+            StorePlaces { source: Source::Register(number), ..STORE },
+            StorePlaces { value: number, ..STORE },
+            StorePlaces { dst0: number, ..STORE },
+            StorePlaces { dst1: number, ..STORE },
+        ] {
+            let stored = on_both!(heaps, frame, given, store_static(places, true));
+            assert_eq!(stored, Err(Error::Operand));
+        }
+    }
+    let loaded = on_both!(heaps, frame, given, load_pointer(LoadPlaces { source, ..LOAD }));
+    assert_eq!(loaded, Err(Error::Operand));
+    assert_eq!((frame, given), worked());
+    // The largest immediate.
+    let places = LoadPlaces { source: Source::Immediate(u16::MAX), ..LOAD };
+    assert_eq!(on_both!(heaps, frame, given, load_static(places)), Ok(Outcome::Running));
+    assert_eq!(small(&given, [3, 4]), [0, 65_567]);
 }
 
 #[test]
 fn a_hook_stops_a_store_that_was_carried_out() {
-    let mut heaps = opened();
-    let mut frame = FRAME;
-    let stored = heaps.store(&mut frame, Area::Heap, 64.into(), Word::from(5), Some(64));
-    assert_eq!(stored, Ok(Outcome::SuspendedOnHook { value: 5, next: 96.into() }));
+    let (mut heaps, mut frame, mut given) = (opened(), FRAME, registers());
+    given.set(2, 5);
+    let places = StorePlaces { source: Source::Immediate(64), ..STORE };
+    let stored = on_both!(heaps, frame, given, store(Area::Heap, places, false, Some(64)));
+    assert_eq!(stored, Ok(Outcome::SuspendedOnHook(5)));
     assert_eq!(frame, Frame { gas: 4, heap_bound: 96, ..FRAME });
     assert_eq!(heaps.read_u256(HEAP, 64), Ok(Word::from(5)));
+    assert_eq!((given.get(3), given.get(4)), (96.into(), 0.into()));
+
+    // The hook is given what was stored: of this pointer, outside kernel mode, the offset alone.
+    let pointer = FatPointer { offset: 6, memory_page: HEAP, start: 10, length: 0 };
+    given.set(2, pointer);
+    let stored = on_both!(heaps, frame, given, store(Area::Heap, places, false, Some(64)));
+    assert_eq!(stored, Ok(Outcome::SuspendedOnHook(6)));
+    let before = (frame, given);
+    let stored = on_both!(heaps, frame, given, store(Area::Heap, places, true, Some(64)));
+    assert_eq!((stored, (frame, given)), (Err(Error::HookValue), before));
+    assert_eq!(heaps.read_u256(HEAP, 64), Ok(Word::from(6)));
+}
+
+#[test]
+fn registers_are_what_they_were_given() {
+    let given = registers();
+    assert_eq!((given.words()[15], given.pointer_flags()), (Word([15, 1, 2, 3]), 0b1_1010));
+    assert_eq!(given.get(15), Word([15, 1, 2, 3]).into());
+    assert_eq!(given.get(3), Operand { word: Word([3, 1, 2, 3]), tagged: true });
+    let mut all = Registers::new([Word::ZERO; 16], u16::MAX);
+    for register in 1..16 {
+        all.set(register, 7);
+    }
+    assert_eq!((all.pointer_flags(), all.get(15)), (1, 7.into()));
+    assert_eq!(Registers::default(), Registers::new([Word::ZERO; 16], 0));
+}
+
+#[test]
+#[should_panic = "EraVM has 16 registers"]
+fn there_is_no_register_16_to_read() {
+    Registers::default().get(16);
+}
+
+#[test]
+#[should_panic = "EraVM has 16 registers"]
+fn there_is_no_register_16_to_write() {
+    Registers::default().set(16, 0);
 }
 
 #[test]
@@ -368,8 +728,10 @@ fn loaded(heaps: &Heaps, area: Area, addresses: &[u32], gas: u32, bound: u32) ->
     let (heap_bound, aux_bound) = if area.is_aux() { (5, bound) } else { (bound, 5) };
     let aux = PageId(67);
     let mut frame = Frame { gas, heap: HEAP, aux, heap_bound, aux_bound, panicked: false };
+    let (mut given, places) = (Registers::default(), LoadPlaces { source: FROM_1, ..LOAD });
     let panic = addresses.iter().position(|address| {
-        heaps.load(&mut frame, area, (*address).into()).unwrap() == Outcome::Panicked
+        given.set(1, *address);
+        heaps.load(&mut frame, &mut given, area, places).unwrap() == Outcome::Panicked
     });
     let (bound, other) = if area.is_aux() {
         (frame.aux_bound, frame.heap_bound)

@@ -6,9 +6,9 @@
 //! - Functions of an owned memory: the source in Rattle, `crates/owned/src`, is compared with
 //!   `memory/calls.rs`. No header has them.
 
-use std::{collections::BTreeMap, fs};
+use std::{collections::BTreeMap, fs, mem::size_of};
 
-use zincpapaya::Word;
+use zincpapaya::{Error, Registers, Word};
 
 const HEADER: &str = include_str!("../../../include/zincpapaya.h");
 const FFI: &str = include_str!("../src/ffi.rs");
@@ -105,10 +105,15 @@ fn header(text: &str) -> Functions {
 fn from_rattle(argument: &str) -> Vec<Argument> {
     let (name, kind) = argument.split_once(':').expect("a name and a type");
     let kind = kind.trim().replace("'a ", "");
-    let of_slice = |begin: &str| kind.strip_prefix(begin)?.strip_suffix(']');
-    match (of_slice("&["), of_slice("&mut [")) {
-        (Some(element), _) => slice(name, "const", element).into(),
-        (_, Some(element)) => slice(name, "mut", element).into(),
+    let within = |begin: &str| kind.strip_prefix(begin)?.strip_suffix(']');
+    // An array is lent by its address alone: its length is part of its type.
+    let lent = |pointer: &str, within: &str| match within.split_once(';') {
+        Some((element, _)) => vec![(name.into(), format!("*{pointer} {element}"))],
+        None => slice(name, pointer, within).into(),
+    };
+    match (within("&["), within("&mut [")) {
+        (Some(inside), _) => lent("const", inside),
+        (_, Some(inside)) => lent("mut", inside),
         _ => vec![(name.into(), kind)],
     }
 }
@@ -182,11 +187,13 @@ fn calls_declares_what_the_crate_owned_exports() {
 }
 
 /// Places of the header, each with something else that a compiler of C would take.
-const FAULTS: [(&str, &str); 9] = [
+const FAULTS: [(&str, &str); 11] = [
     // Two types or two names are exchanged.
     ("bool aux, uint32_t new_bound", "uint32_t aux, bool new_bound"),
     ("uint64_t heap, uint64_t aux", "uint64_t aux, uint64_t heap"),
     ("(uint32_t gas, uint32_t amount", "(uint32_t amount, uint32_t gas"),
+    ("bool kernel, bool hook", "bool hook, bool kernel"),
+    ("bool aux, uint32_t source, uint32_t value", "bool aux, uint32_t value, uint32_t source"),
     // A `const` is left out.
     ("const uint32_t *list", "uint32_t *list"),
     ("zp_snapshot(ZP_CONST_MEMORY", "zp_snapshot(ZP_MEMORY"),
@@ -240,6 +247,53 @@ fn structs_have_the_fields_that_they_have_in_rattle() {
     let Word(limbs) = Word::ZERO;
     let _: [u64; 4] = limbs;
     assert!(include_str!("../src/word.rs").contains("#[repr(C)]\npub struct Word("));
+}
+
+/// The registers are as many numbers here as in Rattle, and all functions that take them without a length take an array of so
+/// many.
+#[test]
+fn registers_have_the_length_that_they_have_in_rattle() {
+    let registers = include_str!("../../../crates/registers/src/lib.rt");
+    assert!(registers.contains("pub const LENGTH: usize = 65;"));
+    assert_eq!(size_of::<Registers>(), 65 * size_of::<u64>());
+    let [memory, execute] = OWNED;
+    assert!(!memory.contains("registers:"));
+    // Only the exported functions count: the others take a slice.
+    let exported: Vec<&str> = execute.split("pub extern \"C\" fn ").skip(1).collect();
+    assert_eq!(exported.len(), 5);
+    for function in exported {
+        assert_eq!(function.matches("    registers: ").count(), 1);
+        assert_eq!(function.matches("    registers: &mut [u64; registers::LENGTH],\n").count(), 1);
+    }
+}
+
+/// The forms of places have the same numbers in Rattle and in the header. The tests of the crate give such numbers to the library.
+#[test]
+fn forms_of_places_have_their_numbers() {
+    let registers = include_str!("../../../crates/registers/src/lib.rt");
+    for line in [
+        "LAST_REGISTER_CODE: u32 = 65535;",
+        "FIRST_IMMEDIATE_CODE: u32 = 65536;",
+        "LAST_IMMEDIATE_CODE: u32 = 131071;",
+        "if code <= LAST_REGISTER_CODE {",
+        "if code <= LAST_IMMEDIATE_CODE {",
+        "Place::Immediate(code - FIRST_IMMEDIATE_CODE)",
+    ] {
+        assert_eq!(registers.matches(line).count(), 1, "{line}");
+    }
+    let immediate = "((uint64_t)(i) <= 65535 ? 65536 + (uint32_t)(i) : ZP_OTHER_FORM)";
+    assert!(definition(HEADER, "ZP_IMMEDIATE(i)").starts_with(immediate));
+    assert_eq!(words(&definition(HEADER, "ZP_OTHER_FORM"))[0], "131072");
+}
+
+/// What the header defines for refusals are their numbers.
+#[test]
+fn refusals_have_their_numbers() {
+    let lines = HEADER.lines().filter_map(|line| line.strip_prefix("#define ZP_"));
+    let numbers = lines.map(words).filter_map(|line| line.get(1)?.parse::<u8>().ok());
+    let refusals: Vec<u8> = numbers.take(Error::ALL.len()).collect();
+    assert_eq!(refusals, Error::ALL.map(Error::number));
+    assert_eq!(words(&definition(HEADER, "ZP_OPERAND"))[0], Error::Operand.number().to_string());
 }
 
 #[test]

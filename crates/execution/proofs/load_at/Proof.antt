@@ -1,6 +1,6 @@
 use borrow.Author.Needs.{needs}
 use Rattle.store.specs.Mem.{mem}
-use Rattle.execution.specs.Executions.{operandOf}
+use Rattle.registers.specs.Registers.{operandOf}
 use Rattle.execution.proofs.Laws.{load-panics, load-done}
 use Rattle.execution.proofs.load_at.Statement.{statement}
 use Rattle.execution.proofs.load_at.Tie as tie

@@ -1,7 +1,8 @@
 use borrow.Author.Needs.{needs}
 use Rattle.word.specs.Value.{value}
 use Rattle.store.specs.Mem.{mem}
-use Rattle.execution.specs.Executions.{operandOf, hookOf}
+use Rattle.registers.specs.Registers.{operandOf}
+use Rattle.execution.specs.Executions.{hookOf}
 use Rattle.execution.proofs.Laws.{store-panics, store-wide, store-refused-by, store-done}
 use Rattle.execution.proofs.store_at.Statement.{statement}
 use Rattle.execution.proofs.store_at.Tie as tie

@@ -1,10 +1,10 @@
-use borrow.Author.Needs.{needs}
 use Rattle.store.specs.Mem.{mem}
 use Rattle.formed.proofs.Meaning.{well-formed-means}
 use Rattle.view.specs.Calls.{Load}
 use Rattle.index.proofs.Logic.{passed, failed}
-use Rattle.execution.specs.Executions.{operandOf}
-use Rattle.execution.proofs.Laws.{ill-runs}
+use Rattle.registers.specs.Registers.{registersFrom}
+use Rattle.write_back.proofs.Laws.{ill-runs}
+use borrow.Author.Needs.{needs}
 use Rattle.instructions.proofs.load.Statement.{statement}
 use Rattle.instructions.proofs.load.Tie as tie
 
@@ -14,14 +14,13 @@ returns c =
     let at-if1 = at-refused .before in
     let at-well-formed = at-if1 .before in
     let start = at-well-formed .before .before .before .before .before in
-    let m = mem (start .args .bytes .now) (start .args .keys .now) (start .args .order .now) (start .args .words .now) in
-    ill-runs m (Load (start .args .area) (start .args .frame) (operandOf (start .args .operand))) (start .args .frame) _ (failed (at-well-formed .well-formed .ensures) (at-if1 .if1 .taken)) (at-refused .refused .ensures .0) (at-refused .refused .ensures .1)
+    ill-runs (mem (start .args .bytes .now) (start .args .keys .now) (start .args .order .now) (start .args .words .now)) (Load (start .args .area) (start .args .frame) (registersFrom (start .args .registers .now)) (start .args .places)) (start .args .frame) (start .args .registers .now) _ (failed (at-well-formed .well-formed .ensures) (at-if1 .if1 .taken)) (at-refused .refused .ensures .0) (at-refused .refused .ensures .1)
 
 load-requires : tie.Need-load-requires
 load-requires c κs =
-    let at-if1 = c in
+    let at-if1 = c .before in
     let at-well-formed = at-if1 .before in
-    well-formed-means _ (passed (at-well-formed .well-formed .ensures) (at-if1 .if1 .left))
+    (well-formed-means _ (passed (at-well-formed .well-formed .ensures) (at-if1 .if1 .left)), search needs)
 
 pub load-spec : {M : Type 1} → statement M
 load-spec = tie.close (tie.spec (λ c κs. search needs) (λ c κs. search needs) returns load-requires (λ c. search needs))

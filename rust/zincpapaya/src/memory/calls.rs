@@ -5,22 +5,24 @@
 //!
 //! - The memory is well formed. Every [`Memory`] is; the head of the parent module says why.
 //! - Pointers and lengths are what the head of `ffi` requires. A pointer and its length come from one
-//!   slice, and what the library may write to is borrowed by `&mut`. `read_range` is the one
+//!   slice, and what the library may write to is borrowed by `&mut`. Registers have no length here: the
+//!   library takes a pointer to 65 numbers, which is what [`Registers`] are. `read_range` is the one
 //!   exception; the head of `ffi` names it and says why it is safe.
 //!
 //! Below, 'the memory is owned' means both, for the buffers of a [`Memory`]: they are borrowed by
 //! `&self` where the library only reads them, and by `&mut self` where it may change them. In debug
 //! builds every call of [`Calls`] makes the test all the same.
 
-use std::ops::Range;
+use std::{ops::Range, ptr};
 
 use super::Memory;
 use crate::{
     buffers::Capacity,
     error::{carried_out, refusal},
-    ffi::ZEROS,
+    ffi::{numbers, ZEROS},
     methods::Calls,
-    Area, Error, Frame, Layout, Operand, Outcome, PageId, Snapshot, Word,
+    registers::{LoadCodes, StoreCodes},
+    Area, Error, Frame, Layout, Outcome, PageId, Registers, Snapshot, Word,
 };
 
 /// The word of a partial read, or a refusal.
@@ -45,11 +47,9 @@ struct Compared {
     equal: bool,
 }
 
-/// How an instruction ended, the frame that it leaves, the word that it read, and the operand plus 32.
+/// How an instruction ended, and the frame that it leaves.
 #[repr(C)]
 struct Ran {
-    word: Word,
-    operand: Word,
     kind: u32,
     number: u32,
     gas: u32,
@@ -58,7 +58,6 @@ struct Ran {
     heap_bound: u32,
     aux_bound: u32,
     panicked: bool,
-    tagged: bool,
 }
 
 // The values of `Ran::kind`: 2 is an EraVM panic, and all from 3 up mean that it was refused.
@@ -104,26 +103,30 @@ declare! {
     restoring fn own_rollback(heap: u64, aux: u64) -> u32;
     forgetting fn own_delete_history() -> u32;
     reading fn own_load(
+        registers: *mut u64,
         gas: u32, heap: u32, aux: u32, heap_bound: u32, aux_bound: u32, panicked: bool,
-        in_aux: bool, x0: u64, x1: u64, x2: u64, x3: u64, tagged: bool,
+        in_aux: bool, source: u32, dst0: u32, dst1: u32, increment: bool,
     ) -> Ran;
     writing fn own_store(
+        registers: *mut u64,
         gas: u32, heap: u32, aux: u32, heap_bound: u32, aux_bound: u32, panicked: bool,
-        in_aux: bool, x0: u64, x1: u64, x2: u64, x3: u64, tagged: bool,
-        limb0: u64, limb1: u64, limb2: u64, limb3: u64, hook: bool, hook_address: u32,
+        in_aux: bool, source: u32, value: u32, dst0: u32, dst1: u32, increment: bool,
+        kernel: bool, hook: bool, hook_address: u32,
     ) -> Ran;
     reading fn own_load_pointer(
+        registers: *mut u64,
         gas: u32, heap: u32, aux: u32, heap_bound: u32, aux_bound: u32, panicked: bool,
-        x0: u64, x1: u64, x2: u64, x3: u64, tagged: bool,
+        source: u32, dst0: u32, dst1: u32, increment: bool,
     ) -> Ran;
     reading fn own_load_static(
+        registers: *mut u64,
         gas: u32, heap: u32, aux: u32, heap_bound: u32, aux_bound: u32, panicked: bool,
-        x0: u64, x1: u64, x2: u64, x3: u64, tagged: bool,
+        source: u32, dst0: u32, dst1: u32, increment: bool,
     ) -> Ran;
     writing fn own_store_static(
+        registers: *mut u64,
         gas: u32, heap: u32, aux: u32, heap_bound: u32, aux_bound: u32, panicked: bool,
-        x0: u64, x1: u64, x2: u64, x3: u64, tagged: bool,
-        limb0: u64, limb1: u64, limb2: u64, limb3: u64,
+        source: u32, value: u32, dst0: u32, dst1: u32, increment: bool, kernel: bool,
     ) -> Ran;
 }
 
@@ -142,24 +145,37 @@ fn limbs(Word([w0, w1, w2, w3]): Word) -> Word {
 }
 
 impl Ran {
+    /// The frame that the instruction leaves. The library has just written its numbers one by one, and the
+    /// processor would wait for all of them before a wider load of several: so each is loaded on its own.
+    #[inline(always)]
+    fn frame(&self) -> Frame {
+        // SAFETY: what is read is a field of `self`.
+        let number = |field: &u32| unsafe { ptr::read_volatile(field) };
+        Frame {
+            gas: number(&self.gas),
+            heap: PageId(number(&self.heap)),
+            aux: PageId(number(&self.aux)),
+            heap_bound: number(&self.heap_bound),
+            aux_bound: number(&self.aux_bound),
+            panicked: self.panicked,
+        }
+    }
+
     /// What the instruction leaves of its frame, and how it ended.
     #[inline(always)]
-    fn told(self, frame: &mut Frame) -> Result<Outcome, Error> {
+    fn told(&self, frame: &mut Frame) -> Result<Outcome, Error> {
         if self.kind >= REFUSED {
             return Err(refusal(self.number));
         }
-        let (heap, aux) = (PageId(self.heap), PageId(self.aux));
-        let Self { gas, heap_bound, aux_bound, panicked, .. } = self;
-        let after = Frame { gas, heap, aux, heap_bound, aux_bound, panicked };
+        let after = self.frame();
         // Most instructions leave the frame as it was. Where it is not written, the next one need not
         // wait for what this one returned.
         if *frame != after {
             *frame = after;
         }
-        let next = Operand { word: limbs(self.operand), tagged: self.tagged };
         Ok(match self.kind {
-            RUNNING => Outcome::Running { word: limbs(self.word), next },
-            SUSPENDED => Outcome::SuspendedOnHook { value: self.number, next },
+            RUNNING => Outcome::Running,
+            SUSPENDED => Outcome::SuspendedOnHook(self.number),
             _ => Outcome::Panicked,
         })
     }
@@ -358,15 +374,20 @@ impl Calls for Memory {
     }
 
     #[inline(always)]
-    fn load(&self, frame: &mut Frame, area: Area, operand: Operand) -> Result<Outcome, Error> {
+    fn load(
+        &self,
+        frame: &mut Frame,
+        registers: &mut Registers,
+        area: Area,
+        LoadCodes { source, dst0, dst1, increment }: LoadCodes,
+    ) -> Result<Outcome, Error> {
         test!(self);
         let Frame { gas, heap, aux, heap_bound, aux_bound, panicked } = *frame;
-        let Operand { word: Word([x0, x1, x2, x3]), tagged } = operand;
-        // SAFETY: the memory is owned.
+        // SAFETY: the memory is owned, and `registers` are borrowed by `&mut`.
         let ran = unsafe {
             lend!(& self => own_load(
-                gas, heap.0, aux.0, heap_bound, aux_bound, panicked, area.is_aux(),
-                x0, x1, x2, x3, tagged,
+                numbers(registers), gas, heap.0, aux.0, heap_bound, aux_bound, panicked,
+                area.is_aux(), source, dst0, dst1, increment,
             ))
         };
         ran.told(frame)
@@ -376,46 +397,56 @@ impl Calls for Memory {
     fn store(
         &mut self,
         frame: &mut Frame,
+        registers: &mut Registers,
         area: Area,
-        operand: Operand,
-        value: Word,
+        StoreCodes { source, value, dst0, dst1, increment }: StoreCodes,
+        kernel: bool,
         hook: Option<u32>,
     ) -> Result<Outcome, Error> {
         test!(self);
         let Frame { gas, heap, aux, heap_bound, aux_bound, panicked } = *frame;
-        let Operand { word: Word([x0, x1, x2, x3]), tagged } = operand;
-        let [v0, v1, v2, v3] = value.0;
-        // SAFETY: the memory is owned.
+        // SAFETY: the memory is owned, and `registers` are borrowed by `&mut`.
         let ran = unsafe {
             lend!(mut self => own_store(
-                gas, heap.0, aux.0, heap_bound, aux_bound, panicked, area.is_aux(),
-                x0, x1, x2, x3, tagged, v0, v1, v2, v3, hook.is_some(), hook.unwrap_or(0),
+                numbers(registers), gas, heap.0, aux.0, heap_bound, aux_bound, panicked,
+                area.is_aux(), source, value, dst0, dst1, increment, kernel,
+                hook.is_some(), hook.unwrap_or(0),
             ))
         };
         ran.told(frame)
     }
 
-    fn load_pointer(&self, frame: &mut Frame, operand: Operand) -> Result<Outcome, Error> {
+    fn load_pointer(
+        &self,
+        frame: &mut Frame,
+        registers: &mut Registers,
+        LoadCodes { source, dst0, dst1, increment }: LoadCodes,
+    ) -> Result<Outcome, Error> {
         test!(self);
         let Frame { gas, heap, aux, heap_bound, aux_bound, panicked } = *frame;
-        let Operand { word: Word([x0, x1, x2, x3]), tagged } = operand;
-        // SAFETY: the memory is owned.
+        // SAFETY: the memory is owned, and `registers` are borrowed by `&mut`.
         let ran = unsafe {
             lend!(& self => own_load_pointer(
-                gas, heap.0, aux.0, heap_bound, aux_bound, panicked, x0, x1, x2, x3, tagged,
+                numbers(registers), gas, heap.0, aux.0, heap_bound, aux_bound, panicked,
+                source, dst0, dst1, increment,
             ))
         };
         ran.told(frame)
     }
 
-    fn load_static(&self, frame: &mut Frame, operand: Operand) -> Result<Outcome, Error> {
+    fn load_static(
+        &self,
+        frame: &mut Frame,
+        registers: &mut Registers,
+        LoadCodes { source, dst0, dst1, increment }: LoadCodes,
+    ) -> Result<Outcome, Error> {
         test!(self);
         let Frame { gas, heap, aux, heap_bound, aux_bound, panicked } = *frame;
-        let Operand { word: Word([x0, x1, x2, x3]), tagged } = operand;
-        // SAFETY: the memory is owned.
+        // SAFETY: the memory is owned, and `registers` are borrowed by `&mut`.
         let ran = unsafe {
             lend!(& self => own_load_static(
-                gas, heap.0, aux.0, heap_bound, aux_bound, panicked, x0, x1, x2, x3, tagged,
+                numbers(registers), gas, heap.0, aux.0, heap_bound, aux_bound, panicked,
+                source, dst0, dst1, increment,
             ))
         };
         ran.told(frame)
@@ -424,18 +455,17 @@ impl Calls for Memory {
     fn store_static(
         &mut self,
         frame: &mut Frame,
-        operand: Operand,
-        value: Word,
+        registers: &mut Registers,
+        StoreCodes { source, value, dst0, dst1, increment }: StoreCodes,
+        kernel: bool,
     ) -> Result<Outcome, Error> {
         test!(self);
         let Frame { gas, heap, aux, heap_bound, aux_bound, panicked } = *frame;
-        let Operand { word: Word([x0, x1, x2, x3]), tagged } = operand;
-        let [v0, v1, v2, v3] = value.0;
-        // SAFETY: the memory is owned.
+        // SAFETY: the memory is owned, and `registers` are borrowed by `&mut`.
         let ran = unsafe {
             lend!(mut self => own_store_static(
-                gas, heap.0, aux.0, heap_bound, aux_bound, panicked, x0, x1, x2, x3, tagged,
-                v0, v1, v2, v3,
+                numbers(registers), gas, heap.0, aux.0, heap_bound, aux_bound, panicked,
+                source, value, dst0, dst1, increment, kernel,
             ))
         };
         ran.told(frame)

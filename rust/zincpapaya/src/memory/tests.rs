@@ -1,7 +1,7 @@
 //! Memories that are owned and that were damaged all the same. Only a child of `memory` can do it.
 
 use crate::{
-    tests::{opened, refusals, BREAKS, FRAME, HEAP},
+    tests::{opened, refusals, registers, BREAKS, FRAME, HEAP, LOAD, LOAD_POINTER, STORE},
     Area, Error, PageId, Snapshot, Word,
 };
 

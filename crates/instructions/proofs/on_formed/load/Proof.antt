@@ -1,26 +1,42 @@
-use borrow.Author.Needs.{needs}
 use Rattle.store.specs.Mem.{mem}
-use Rattle.formed.proofs.Meaning.{well-formed-passes}
-use Rattle.execution.specs.Executions.{operandOf}
-use Rattle.execution.proofs.Laws.{within, load-runs}
+use Rattle.index.proofs.Logic.{passed, failed}
+use Rattle.registers.specs.Registers.{operandOf}
+use Rattle.write_back.proofs.Laws.{load-parts, load-refused, load-runs}
+use borrow.Author.Needs.{needs}
 use Rattle.instructions.proofs.on_formed.load.Statement.{statement}
 use Rattle.instructions.proofs.on_formed.load.Tie as tie
 
-load-at-requires : tie.Need-load-at-requires
-load-at-requires c κs =
-    let at-reach = c in
-    let start = at-reach .before .before .before .before .before .before in
-    let m = mem (start .args .bytes .now) (start .args .keys .now) (start .args .order .now) (start .args .words .now) in
-    (start .pre, within m (start .args .frame) (operandOf (start .args .operand)) (at-reach .reach .result) (start .args .area) (at-reach .reach .ensures))
-
 returns : tie.Need-returns
 returns c =
-    let at-load-at = c in
-    let at-reach = at-load-at .before in
-    let at-page-of = at-reach .before in
-    let start = at-page-of .before .before .before .before .before in
-    let m = mem (start .args .bytes .now) (start .args .keys .now) (start .args .order .now) (start .args .words .now) in
-    load-runs m (start .args .frame) (operandOf (start .args .operand)) (at-reach .reach .result) (start .args .area) (at-reach .reach .ensures) (well-formed-passes m (start .pre)) (at-page-of .page-of .result .0) (at-page-of .page-of .ensures) (at-load-at .load-at .ensures)
+    let at-refused = c in
+    let at-if1 = at-refused .before in
+    let at-takes-load = at-if1 .before in
+    let start = at-takes-load .before .before .before .before .before .before in
+    load-refused (mem (start .args .bytes .now) (start .args .keys .now) (start .args .order .now) (start .args .words .now)) (start .pre .0) (start .args .frame) (start .args .registers .now) _ (at-refused .refused .ensures .0) (at-refused .refused .ensures .1) (start .args .area) (start .args .places) (failed (at-takes-load .takes-load .ensures) (at-if1 .if1 .taken))
+
+source-requires : tie.Need-source-requires
+source-requires c κs =
+    let at-if1 = c .before in
+    let at-takes-load = at-if1 .before in
+    let start = at-takes-load .before .before .before .before .before .before in
+    (search needs, load-parts (start .args .places) (passed (at-takes-load .takes-load .ensures) (at-if1 .if1 .left)) .0)
+
+loaded-requires : tie.Need-loaded-requires
+loaded-requires c κs =
+    let at-if1 = c .before .before .before .before in
+    let at-takes-load = at-if1 .before in
+    let start = at-takes-load .before .before .before .before .before .before in
+    (search needs, load-parts (start .args .places) (passed (at-takes-load .takes-load .ensures) (at-if1 .if1 .left)) .1)
+
+returns-2 : tie.Need-returns-2
+returns-2 c =
+    let at-loaded = c .before .before in
+    let at-load = at-loaded .before .before in
+    let at-source = at-load .before in
+    let at-if1 = at-source .before .before in
+    let at-takes-load = at-if1 .before in
+    let start = at-takes-load .before .before .before .before .before .before in
+    load-runs (mem (start .args .bytes .now) (start .args .keys .now) (start .args .order .now) (start .args .words .now)) (start .pre .0) (start .args .frame) (start .args .registers .now) _ (at-load .load .result) (operandOf (at-source .source .result)) _ (start .args .places) (at-source .source .ensures) (at-loaded .loaded .ensures) (start .args .area) (passed (at-takes-load .takes-load .ensures) (at-if1 .if1 .left)) (at-load .load .ensures)
 
 pub load-spec : {M : Type 1} → statement M
-load-spec = tie.close (tie.spec (λ c κs. search needs) (λ c κs. search needs) load-at-requires returns)
+load-spec = tie.close (tie.spec (λ c κs. search needs) (λ c κs. search needs) returns source-requires (λ c κs. search needs) loaded-requires (λ c. search needs) returns-2)

@@ -1,97 +1,42 @@
-use mathlib.Core.Path.{ap, _∙_}
-use Prim.Native.Nat.{ℕ, _+_, _-_, min}
-use native.Mathlib.Omega.{arith}
-use borrow.Author.Tests.{not-true, not-false}
-use Rattle.execution.specs.Executions.{operandOf}
-use Rattle.execution.proofs.Laws.{untagged-panics, offset-panics, pointer-refused, pointer-done}
-use Rattle.execution.proofs.Pieces.{min-le-left, min-le-right}
 use Rattle.store.specs.Mem.{mem}
-use Rattle.formed.proofs.Meaning.{well-formed-passes}
+use Rattle.index.proofs.Logic.{passed, failed}
+use Rattle.registers.specs.Registers.{operandOf}
+use Rattle.write_back.proofs.Laws.{pointer-parts, pointer-refused, pointer-runs}
 use borrow.Author.Needs.{needs}
 use Rattle.instructions.proofs.on_formed.load_pointer.Statement.{statement}
 use Rattle.instructions.proofs.on_formed.load_pointer.Tie as tie
 
 returns : tie.Need-returns
 returns c =
-    let at-panicked = c in
-    let at-if1 = at-panicked .before in
-    let start = at-if1 .before .before .before .before .before .before in
-    let m = mem (start .args .bytes .now) (start .args .keys .now) (start .args .order .now) (start .args .words .now) in
-    untagged-panics m (start .args .frame) (operandOf (start .args .operand)) (well-formed-passes m (start .pre)) _ (not-true _ (at-if1 .if1 .taken)) (at-panicked .panicked .ensures .0) (at-panicked .panicked .ensures .1)
+    let at-refused = c in
+    let at-if1 = at-refused .before in
+    let at-takes-pointer = at-if1 .before in
+    let start = at-takes-pointer .before .before .before .before .before .before in
+    pointer-refused (mem (start .args .bytes .now) (start .args .keys .now) (start .args .order .now) (start .args .words .now)) (start .pre .0) (start .args .frame) (start .args .registers .now) _ (at-refused .refused .ensures .0) (at-refused .refused .ensures .1) (start .args .places) (failed (at-takes-pointer .takes-pointer .ensures) (at-if1 .if1 .taken))
+
+source-requires : tie.Need-source-requires
+source-requires c κs =
+    let at-if1 = c .before in
+    let at-takes-pointer = at-if1 .before in
+    let start = at-takes-pointer .before .before .before .before .before .before in
+    (search needs, pointer-parts (start .args .places) (passed (at-takes-pointer .takes-pointer .ensures) (at-if1 .if1 .left)) .0)
+
+loaded-requires : tie.Need-loaded-requires
+loaded-requires c κs =
+    let at-if1 = c .before .before .before .before in
+    let at-takes-pointer = at-if1 .before in
+    let start = at-takes-pointer .before .before .before .before .before .before in
+    (search needs, pointer-parts (start .args .places) (passed (at-takes-pointer .takes-pointer .ensures) (at-if1 .if1 .left)) .1)
 
 returns-2 : tie.Need-returns-2
 returns-2 c =
-    let at-panicked2 = c in
-    let at-if2 = at-panicked2 .before in
-    let at-from-u256 = at-if2 .before .before in
-    let at-if1 = at-from-u256 .before in
-    let start = at-if1 .before .before .before .before .before .before in
-    let m = mem (start .args .bytes .now) (start .args .keys .now) (start .args .order .now) (start .args .words .now) in
-    offset-panics m (start .args .frame) (operandOf (start .args .operand)) (well-formed-passes m (start .pre)) _ (not-false _ (at-if1 .if1 .left)) (at-from-u256 .from-u256 .result) (at-from-u256 .from-u256 .ensures) (at-if2 .if2 .taken) (at-panicked2 .panicked2 .ensures .0) (at-panicked2 .panicked2 .ensures .1)
-
-returns-3 : tie.Need-returns-3
-returns-3 c =
-    let at-refused = c in
-    let at-if3 = at-refused .before in
-    let at-if2 = at-if3 .before .before .before in
-    let at-from-u256 = at-if2 .before .before in
-    let at-if1 = at-from-u256 .before in
-    let start = at-if1 .before .before .before .before .before .before in
-    let m = mem (start .args .bytes .now) (start .args .keys .now) (start .args .order .now) (start .args .words .now) in
-    pointer-refused m (start .args .frame) (operandOf (start .args .operand)) (well-formed-passes m (start .pre)) _ (not-false _ (at-if1 .if1 .left)) (at-from-u256 .from-u256 .result) (at-from-u256 .from-u256 .ensures) (at-if2 .if2 .left) (omega (arith, at-if3 .if3 .taken)) (at-refused .refused .ensures .0) (at-refused .refused .ensures .1)
-
-add-first : tie.Need-add-first
-add-first c =
-    let at-lesser = c .before in
-    let at-if3 = at-lesser .before .before in
-    let at-from-u256 = at-if3 .before .before .before .before .before in
-    let q = at-from-u256 .from-u256 .result in
-    let short = min-le-right (q .offset) (q .length) in
-    let is = at-lesser .lesser .ensures in
-    let room = at-if3 .if3 .left in
-    omega arith
-
-count-requires : tie.Need-count-requires
-count-requires c κs =
-    let at-lesser = c .before in
-    let at-if3 = at-lesser .before .before in
-    let at-from-u256 = at-if3 .before .before .before .before .before in
-    let q = at-from-u256 .from-u256 .result in
-    let short = min-le-right (q .offset) (q .length) in
-    let is = at-lesser .lesser .ensures in
-    let room = at-if3 .if3 .left in
-    omega arith
-
-read-padded-requires : tie.Need-read-padded-requires
-read-padded-requires c κs =
-    let at-count = c .before in
-    let at-lesser = at-count .before .before in
-    let at-from-u256 = at-lesser .before .before .before .before .before .before .before in
-    let q = at-from-u256 .from-u256 .result in
-    let at-if1 = at-from-u256 .before in
-    let start = at-if1 .before .before .before .before .before .before in
-    let few = min-le-left 32 (q .start + q .length - (q .start + at-lesser .lesser .result)) in
-    let is = at-count .count .ensures in
-    (start .pre, omega arith)
-
-returns-4 : tie.Need-returns-4
-returns-4 c =
-    let at-carried-out = c in
-    let at-from-big-endian = at-carried-out .before in
-    let at-read-padded = at-from-big-endian .before in
-    let at-count = at-read-padded .before .before in
-    let at-lesser = at-count .before .before in
-    let at-if3 = at-lesser .before .before in
-    let at-struct-known4 = at-if3 .before in
-    let at-if2 = at-struct-known4 .before .before in
-    let at-from-u256 = at-if2 .before .before in
-    let at-if1 = at-from-u256 .before in
-    let start = at-if1 .before .before .before .before .before .before in
-    let m = mem (start .args .bytes .now) (start .args .keys .now) (start .args .order .now) (start .args .words .now) in
-    let q = at-from-u256 .from-u256 .result in
-    pointer-done m (start .args .frame) (operandOf (start .args .operand)) (well-formed-passes m (start .pre)) _ (not-false _ (at-if1 .if1 .left)) (at-from-u256 .from-u256 .result) (at-from-u256 .from-u256 .ensures) (at-if2 .if2 .left) (omega (arith, at-if3 .if3 .left, at-struct-known4 .struct-known4 .given)) _ (q .start + at-lesser .lesser .result) (at-count .count .result) (at-read-padded .read-padded .result)
-    (ap (λ (y : ℕ). q .start + y) (at-lesser .lesser .ensures)) (at-count .count .ensures ∙ ap (λ (y : ℕ). min 32 (q .start + q .length - (q .start + y))) (at-lesser .lesser .ensures))
-    (at-read-padded .read-padded .ensures) (at-from-big-endian .from-big-endian .ensures) (at-carried-out .carried-out .ensures .0) (at-carried-out .carried-out .ensures .1)
+    let at-loaded = c .before .before in
+    let at-load-pointer = at-loaded .before .before in
+    let at-source = at-load-pointer .before in
+    let at-if1 = at-source .before .before in
+    let at-takes-pointer = at-if1 .before in
+    let start = at-takes-pointer .before .before .before .before .before .before in
+    pointer-runs (mem (start .args .bytes .now) (start .args .keys .now) (start .args .order .now) (start .args .words .now)) (start .pre .0) (start .args .frame) (start .args .registers .now) _ (at-load-pointer .load-pointer .result) (operandOf (at-source .source .result)) _ (start .args .places) (at-source .source .ensures) (at-loaded .loaded .ensures) (passed (at-takes-pointer .takes-pointer .ensures) (at-if1 .if1 .left)) (at-load-pointer .load-pointer .ensures)
 
 pub load-pointer-spec : {M : Type 1} → statement M
-load-pointer-spec = tie.close (tie.spec (λ c κs. search needs) returns (λ c κs. search needs) (λ c κs. search needs) returns-2 (λ c. search needs) (λ c κs. search needs) returns-3 (λ c. search needs) (λ c κs. search needs) add-first count-requires read-padded-requires (λ c κs. search needs) (λ c κs. search needs) returns-4)
+load-pointer-spec = tie.close (tie.spec (λ c κs. search needs) (λ c κs. search needs) returns source-requires (λ c κs. search needs) loaded-requires (λ c. search needs) returns-2)

@@ -1,30 +1,42 @@
-use borrow.Author.Needs.{needs}
 use Rattle.store.specs.Mem.{mem}
-use Rattle.formed.proofs.Meaning.{well-formed-passes}
-use Rattle.checks.proofs.Chosen.{layout-asks}
-use Rattle.execution.specs.Executions.{operandOf}
-use Rattle.execution.proofs.Laws.{static-within, static-load-runs}
+use Rattle.index.proofs.Logic.{passed, failed}
+use Rattle.registers.specs.Registers.{operandOf}
+use Rattle.write_back.proofs.Laws.{load-parts, static-load-refused, static-load-runs}
+use borrow.Author.Needs.{needs}
 use Rattle.instructions.proofs.on_formed.load_static.Statement.{statement}
 use Rattle.instructions.proofs.on_formed.load_static.Tie as tie
 
-static-page-requires : tie.Need-static-page-requires
-static-page-requires c κs = let start = c .before .before .before .before in layout-asks _ (start .pre)
-
-load-at-requires : tie.Need-load-at-requires
-load-at-requires c κs =
-    let at-reach-static = c in
-    let start = at-reach-static .before .before .before .before .before .before in
-    let m = mem (start .args .bytes .now) (start .args .keys .now) (start .args .order .now) (start .args .words .now) in
-    (start .pre, static-within m (start .args .frame) (operandOf (start .args .operand)) (at-reach-static .reach-static .result) (at-reach-static .reach-static .ensures))
-
 returns : tie.Need-returns
 returns c =
-    let at-load-at = c in
-    let at-reach-static = at-load-at .before in
-    let at-static-page = at-reach-static .before in
-    let start = at-static-page .before .before .before .before .before in
-    let m = mem (start .args .bytes .now) (start .args .keys .now) (start .args .order .now) (start .args .words .now) in
-    static-load-runs m (start .args .frame) (operandOf (start .args .operand)) (at-reach-static .reach-static .result) (at-reach-static .reach-static .ensures) (well-formed-passes m (start .pre)) (at-static-page .static-page .result .0) (at-static-page .static-page .ensures) (at-load-at .load-at .ensures)
+    let at-refused = c in
+    let at-if1 = at-refused .before in
+    let at-takes-load = at-if1 .before in
+    let start = at-takes-load .before .before .before .before .before .before in
+    static-load-refused (mem (start .args .bytes .now) (start .args .keys .now) (start .args .order .now) (start .args .words .now)) (start .pre .0) (start .args .frame) (start .args .registers .now) _ (at-refused .refused .ensures .0) (at-refused .refused .ensures .1) (start .args .places) (failed (at-takes-load .takes-load .ensures) (at-if1 .if1 .taken))
+
+source-requires : tie.Need-source-requires
+source-requires c κs =
+    let at-if1 = c .before in
+    let at-takes-load = at-if1 .before in
+    let start = at-takes-load .before .before .before .before .before .before in
+    (search needs, load-parts (start .args .places) (passed (at-takes-load .takes-load .ensures) (at-if1 .if1 .left)) .0)
+
+loaded-requires : tie.Need-loaded-requires
+loaded-requires c κs =
+    let at-if1 = c .before .before .before .before in
+    let at-takes-load = at-if1 .before in
+    let start = at-takes-load .before .before .before .before .before .before in
+    (search needs, load-parts (start .args .places) (passed (at-takes-load .takes-load .ensures) (at-if1 .if1 .left)) .1)
+
+returns-2 : tie.Need-returns-2
+returns-2 c =
+    let at-loaded = c .before .before in
+    let at-load-static = at-loaded .before .before in
+    let at-source = at-load-static .before in
+    let at-if1 = at-source .before .before in
+    let at-takes-load = at-if1 .before in
+    let start = at-takes-load .before .before .before .before .before .before in
+    static-load-runs (mem (start .args .bytes .now) (start .args .keys .now) (start .args .order .now) (start .args .words .now)) (start .pre .0) (start .args .frame) (start .args .registers .now) _ (at-load-static .load-static .result) (operandOf (at-source .source .result)) _ (start .args .places) (at-source .source .ensures) (at-loaded .loaded .ensures) (passed (at-takes-load .takes-load .ensures) (at-if1 .if1 .left)) (at-load-static .load-static .ensures)
 
 pub load-static-spec : {M : Type 1} → statement M
-load-static-spec = tie.close (tie.spec static-page-requires (λ c κs. search needs) load-at-requires returns)
+load-static-spec = tie.close (tie.spec (λ c κs. search needs) (λ c κs. search needs) returns source-requires (λ c κs. search needs) loaded-requires (λ c. search needs) returns-2)

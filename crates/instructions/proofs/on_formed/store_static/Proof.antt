@@ -1,31 +1,55 @@
-use borrow.Author.Needs.{needs}
-use Rattle.word.specs.Value.{value}
+use mathlib.Core.Path.{ap, _∙_}
 use Rattle.store.specs.Mem.{mem}
-use Rattle.formed.proofs.Meaning.{well-formed-passes}
-use Rattle.checks.proofs.Chosen.{layout-asks}
-use Rattle.execution.specs.Executions.{operandOf}
-use Rattle.execution.proofs.Laws.{static-within, static-store-runs}
+use Rattle.index.proofs.Logic.{passed, failed}
+use Rattle.registers.specs.Registers.{operandOf, registersFrom, valueOf}
+use Rattle.word.specs.Value.{value}
+use Rattle.write_back.proofs.Pieces.{number-few}
+use Rattle.write_back.proofs.Laws.{store-parts, static-store-refused, static-store-runs}
+use borrow.Author.Needs.{needs}
 use Rattle.instructions.proofs.on_formed.store_static.Statement.{statement}
 use Rattle.instructions.proofs.on_formed.store_static.Tie as tie
 
-static-page-requires : tie.Need-static-page-requires
-static-page-requires c κs = let start = c .before .before .before .before .before in layout-asks _ (start .pre)
-
-store-at-requires : tie.Need-store-at-requires
-store-at-requires c κs =
-    let at-reach-static = c .before .before .before .before in
-    let start = at-reach-static .before .before .before .before .before .before .before in
-    let m = mem (start .args .bytes .now) (start .args .keys .now) (start .args .order .now) (start .args .words .now) in
-    (start .pre, static-within m (start .args .frame) (operandOf (start .args .operand)) (at-reach-static .reach-static .result) (at-reach-static .reach-static .ensures))
-
 returns : tie.Need-returns
 returns c =
-    let at-store-at = c .before .before .before .before .before .before .before .before in
-    let at-reach-static = at-store-at .before .before .before .before .before in
-    let at-static-page = at-reach-static .before in
-    let start = at-static-page .before .before .before .before .before .before in
-    let m = mem (start .args .bytes .now) (start .args .keys .now) (start .args .order .now) (start .args .words .now) in
-    static-store-runs m (start .args .frame) (operandOf (start .args .operand)) (at-reach-static .reach-static .result) (at-reach-static .reach-static .ensures) (well-formed-passes m (start .pre)) (at-static-page .static-page .result .0) (at-static-page .static-page .ensures) (value (start .args .word .limbs)) (at-store-at .store-at .ensures)
+    let at-refused = c in
+    let at-if1 = at-refused .before in
+    let at-takes-store = at-if1 .before in
+    let start = at-takes-store .before .before .before .before .before .before in
+    static-store-refused (mem (start .args .bytes .now) (start .args .keys .now) (start .args .order .now) (start .args .words .now)) (start .pre .0) (start .args .frame) (start .args .registers .now) _ (at-refused .refused .ensures .0) (at-refused .refused .ensures .1) (start .args .places) (start .args .kernel) (failed (at-takes-store .takes-store .ensures) (at-if1 .if1 .taken))
+
+source-requires : tie.Need-source-requires
+source-requires c κs =
+    let at-if1 = c .before in
+    let at-takes-store = at-if1 .before in
+    let start = at-takes-store .before .before .before .before .before .before in
+    (search needs, store-parts (start .args .places) (passed (at-takes-store .takes-store .ensures) (at-if1 .if1 .left)) .0)
+
+value-requires : tie.Need-value-requires
+value-requires c κs =
+    let at-number = c .before in
+    let at-if1 = at-number .before .before .before in
+    let at-takes-store = at-if1 .before in
+    let start = at-takes-store .before .before .before .before .before .before in
+    (search needs, number-few (start .args .places .value) (store-parts (start .args .places) (passed (at-takes-store .takes-store .ensures) (at-if1 .if1 .left)) .1 .0) _ (at-number .number .ensures))
+
+stored-requires : tie.Need-stored-requires
+stored-requires c κs =
+    let at-if1 = c .before .before .before .before .before .before .before .before .before .before .before .before .before .before .before .before .before .before .before in
+    let at-takes-store = at-if1 .before in
+    let start = at-takes-store .before .before .before .before .before .before in
+    (search needs, store-parts (start .args .places) (passed (at-takes-store .takes-store .ensures) (at-if1 .if1 .left)) .1 .1)
+
+returns-2 : tie.Need-returns-2
+returns-2 c =
+    let at-stored = c .before .before in
+    let at-store-static = at-stored .before .before .before .before .before .before .before .before .before .before in
+    let at-value = at-store-static .before .before .before .before .before in
+    let at-number = at-value .before .before in
+    let at-source = at-number .before in
+    let at-if1 = at-source .before .before in
+    let at-takes-store = at-if1 .before in
+    let start = at-takes-store .before .before .before .before .before .before in
+    static-store-runs (mem (start .args .bytes .now) (start .args .keys .now) (start .args .order .now) (start .args .words .now)) (start .pre .0) (start .args .frame) (start .args .registers .now) _ (at-store-static .store-static .result) (operandOf (at-source .source .result)) _ (start .args .places) (start .args .kernel) (value (at-value .value .result .limbs)) (at-source .source .ensures) (at-value .value .ensures ∙ ap (valueOf (start .args .kernel) (registersFrom (start .args .registers .now))) (at-number .number .ensures)) (at-stored .stored .ensures) (passed (at-takes-store .takes-store .ensures) (at-if1 .if1 .left)) _ (at-store-static .store-static .ensures)
 
 pub store-static-spec : {M : Type 1} → statement M
-store-static-spec = tie.close (tie.spec static-page-requires (λ c κs. search needs) store-at-requires (λ c. search needs) (λ c. search needs) (λ c. search needs) (λ c. search needs) returns)
+store-static-spec = tie.close (tie.spec (λ c κs. search needs) (λ c κs. search needs) returns source-requires (λ c κs. search needs) value-requires (λ c κs. search needs) stored-requires (λ c. search needs) (λ c. search needs) (λ c. search needs) (λ c. search needs) (λ c. search needs) returns-2)

@@ -6,10 +6,11 @@ use Rattle.owned.proofs.execute.own_load_pointer.Tie as tie
 
 returns : tie.Need-returns
 returns c =
-    let at-run = c .before in
-    let at-operand-of = at-run .before in
-    let at-frame-of = at-operand-of .before in
-    runs-as (pointer-is (at-frame-of .frame-of .ensures) (at-operand-of .operand-of .ensures)) (at-frame-of .frame-of .ensures) (c .report .ensures) (at-run .load-pointer .ensures)
+    let at-report = c in
+    let at-load-pointer = at-report .before in
+    let at-load-places = at-load-pointer .before .before in
+    let at-frame-of = at-load-places .before in
+    runs-as (pointer-is (at-frame-of .frame-of .ensures) (at-load-places .load-places .ensures)) (at-frame-of .frame-of .ensures) (at-report .report .ensures) (at-load-pointer .load-pointer .ensures)
 
 pub own-load-pointer-spec : {M : Type 1} → statement M
 own-load-pointer-spec = tie.close (tie.spec (λ c κs. search needs) (λ c κs. search needs) (λ c κs. search needs) (λ c κs. search needs) returns)

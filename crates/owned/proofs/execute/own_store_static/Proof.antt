@@ -6,11 +6,11 @@ use Rattle.owned.proofs.execute.own_store_static.Tie as tie
 
 returns : tie.Need-returns
 returns c =
-    let at-store-static = c .before .before .before .before .before .before .before .before .before in
-    let at-word-of = at-store-static .before .before .before .before .before in
-    let at-operand-of = at-word-of .before in
-    let at-frame-of = at-operand-of .before in
-    runs-as (static-store-is (at-frame-of .frame-of .ensures) (at-operand-of .operand-of .ensures) (at-word-of .word-of .ensures)) (at-frame-of .frame-of .ensures) (c .report .ensures) (at-store-static .store-static .ensures)
+    let at-report = c in
+    let at-store-static = at-report .before .before .before .before .before .before .before .before .before in
+    let at-store-places = at-store-static .before .before .before .before .before .before in
+    let at-frame-of = at-store-places .before in
+    runs-as (static-store-is (at-frame-of .frame-of .ensures) (at-store-places .store-places .ensures)) (at-frame-of .frame-of .ensures) (at-report .report .ensures) (at-store-static .store-static .ensures)
 
 pub own-store-static-spec : {M : Type 1} → statement M
-own-store-static-spec = tie.close (tie.spec (λ c κs. search needs) (λ c κs. search needs) (λ c κs. search needs) (λ c κs. search needs) (λ c κs. search needs) (λ c. search needs) (λ c. search needs) (λ c. search needs) (λ c. search needs) returns)
+own-store-static-spec = tie.close (tie.spec (λ c κs. search needs) (λ c κs. search needs) (λ c κs. search needs) (λ c κs. search needs) (λ c. search needs) (λ c. search needs) (λ c. search needs) (λ c. search needs) returns)

@@ -12,7 +12,10 @@ abbrev μ-loop : tie.MeasureT-loop
 μ-loop bytes keys order words list gas bound area last₀ i₀ last i = length list - i
 
 add-i : tie.Need-add-i Inv-loop μ-loop
-add-i c = let at-test = c .before .before .before .before .before .before in let start = at-test .before .before .before .before .before .before .before .before in omega (arith, at-test .loop-test .taken, start .good)
+add-i c =
+    let at-loop-test = c .before .before .before .before .before in
+    let start = at-loop-test .before .before .before .before .before .before .before .before in
+    omega (arith, at-loop-test .loop-test .taken, start .good)
 
 pub run-spec : {M : Type 1} → statement M
 run-spec =
@@ -20,6 +23,6 @@ run-spec =
     (tie.spec
     Inv-loop
     μ-loop
-    (λ c κs. search needs) (λ c. search needs) (λ c. search needs) (λ c. search needs) (λ c κs. search needs) (λ c κs. search needs) (λ c κs. search needs) (λ c κs. search needs) (λ c. search needs)
+    (λ c κs. search needs) (λ c. search needs) (λ c. search needs) (λ c. search needs) (λ c κs. search needs) (λ c κs. search needs) (λ c κs. search needs) (λ c. search needs)
     add-i
     (λ c. search needs) (λ c. search needs) (λ c κs. search needs) (λ c. search needs))

@@ -1,5 +1,6 @@
+use Rattle.formed.proofs.Meaning.{well-formed-means}
 use Rattle.index.proofs.Logic.{passed, failed}
-use Rattle.abi.proofs.Executing.{lengths, unfit, executes, load, load-is}
+use Rattle.abi.proofs.Executing.{lengths, unfit, ill, executes, load, load-is, no-stop}
 use borrow.Author.Needs.{needs}
 use Rattle.zincpapaya.proofs.execute.zp_load.Statement.{statement}
 use Rattle.zincpapaya.proofs.execute.zp_load.Tie as tie
@@ -7,31 +8,68 @@ use Rattle.zincpapaya.proofs.execute.zp_load.Tie as tie
 returns : tie.Need-returns
 returns c =
     let at-if1 = c in
-    unfit (failed (at-if1 .before .lengths-fit .ensures) (at-if1 .if1 .taken))
-
-frame-of-requires : tie.Need-frame-of-requires
-frame-of-requires c κs =
-    let at-if1 = c .before in
     let at-lengths-fit = at-if1 .before in
-    let start = at-lengths-fit .before .before .before .before .before .before .before .before .before in
-    lengths (start .args .frame .now) (start .args .out .now) (passed (at-lengths-fit .lengths-fit .ensures) (at-if1 .if1 .left)) .0
-
-report-requires : tie.Need-report-requires
-report-requires c κs =
-    let at-if1 = c .before .before .before .before .before .before .before in
-    let at-lengths-fit = at-if1 .before in
-    let start = at-lengths-fit .before .before .before .before .before .before .before .before .before in
-    lengths (start .args .frame .now) (start .args .out .now) (passed (at-lengths-fit .lengths-fit .ensures) (at-if1 .if1 .left))
+    unfit (failed (at-lengths-fit .lengths-fit .ensures) (at-if1 .if1 .taken))
 
 returns-2 : tie.Need-returns-2
 returns-2 c =
-    let at-report = c .before .before .before .before in
-    let at-load = at-report .before .before .before in
-    let at-area-of = at-load .before in
-    let at-operand-of = at-area-of .before in
-    let at-frame-of = at-operand-of .before in
-    let at-if1 = at-frame-of .before .before in
-    executes (passed (at-if1 .before .lengths-fit .ensures) (at-if1 .if1 .left)) load (load-is (at-area-of .area-of .ensures) (at-frame-of .frame-of .ensures) (at-operand-of .operand-of .ensures)) (at-load .load .result) (at-load .load .ensures .does) (at-report .report .ensures)
+    let at-if2 = c in
+    let at-well-formed = at-if2 .before in
+    let at-if1 = at-well-formed .before in
+    let at-lengths-fit = at-if1 .before in
+    ill (passed (at-lengths-fit .lengths-fit .ensures) (at-if1 .if1 .left)) (failed (at-well-formed .well-formed .ensures) (at-if2 .if2 .taken))
+
+frame-of-requires : tie.Need-frame-of-requires
+frame-of-requires c κs =
+    let at-if1 = c .before .before .before in
+    let at-lengths-fit = at-if1 .before in
+    let start = at-lengths-fit .before .before .before .before .before .before .before .before .before in
+    lengths (start .args .frame .now) (start .args .registers .now) (passed (at-lengths-fit .lengths-fit .ensures) (at-if1 .if1 .left)) .0
+
+load-requires : tie.Need-load-requires
+load-requires c κs =
+    let at-if2 = c .before .before .before .before .before in
+    let at-well-formed = at-if2 .before in
+    let at-if1 = at-well-formed .before in
+    let at-lengths-fit = at-if1 .before in
+    let start = at-lengths-fit .before .before .before .before .before .before .before .before .before in
+    (well-formed-means _ (passed (at-well-formed .well-formed .ensures) (at-if2 .if2 .left)), lengths (start .args .frame .now) (start .args .registers .now) (passed (at-lengths-fit .lengths-fit .ensures) (at-if1 .if1 .left)) .1)
+
+report-requires : tie.Need-report-requires
+report-requires c κs =
+    let at-if1 = c .before .before .before .before .before .before .before .before .before .before .before in
+    let at-lengths-fit = at-if1 .before in
+    let start = at-lengths-fit .before .before .before .before .before .before .before .before .before in
+    lengths (start .args .frame .now) (start .args .registers .now) (passed (at-lengths-fit .lengths-fit .ensures) (at-if1 .if1 .left)) .0
+
+returns-3 : tie.Need-returns-3
+returns-3 c =
+    let at-report = c .before .before in
+    let at-load = at-report .before .before .before .before in
+    let at-load-places = at-load .before .before in
+    let at-area-of = at-load-places .before in
+    let at-frame-of = at-area-of .before in
+    let at-if1 = at-frame-of .before .before .before .before in
+    let at-lengths-fit = at-if1 .before in
+    executes (passed (at-lengths-fit .lengths-fit .ensures) (at-if1 .if1 .left)) load (load-is (at-area-of .area-of .ensures) (at-frame-of .frame-of .ensures) (at-load-places .load-places .ensures)) (at-load .load .result) (at-load .load .ensures) (at-report .report .ensures) (λ k _ e. no-stop e)
 
 pub zp-load-spec : {M : Type 1} → statement M
-zp-load-spec = tie.close (tie.spec (λ c κs. tt) (λ c. search needs) (λ c. search needs) returns frame-of-requires (λ c κs. tt) (λ c κs. tt) (λ c κs. tt) report-requires (λ c. search needs) (λ c. search needs) returns-2)
+zp-load-spec =
+    tie.close
+    (tie.spec
+    (λ c κs. search needs)
+    (λ c. search needs)
+    (λ c. search needs)
+    returns
+    (λ c κs. search needs)
+    (λ c. search needs)
+    (λ c. search needs)
+    returns-2
+    frame-of-requires
+    (λ c κs. search needs)
+    (λ c κs. search needs)
+    load-requires
+    report-requires
+    (λ c. search needs)
+    (λ c. search needs)
+    returns-3)

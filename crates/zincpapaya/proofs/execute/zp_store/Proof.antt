@@ -1,39 +1,108 @@
-use Rattle.index.proofs.Logic.{passed, failed}
-use Rattle.abi.proofs.Executing.{lengths, unfit, executes, store, store-is}
+use mathlib.Core.Path.{_≡_, refl}
+use mathlib.Core.Bool.{Bool, false, _&&_}
+use lib.ListN.{length}
+use borrow.Author.Tests.{eq-eqb, ne-eqb}
+use Rattle.formed.proofs.Meaning.{well-formed-means}
+use Rattle.index.proofs.Logic.{passed, failed, and-both, and-false-right}
+use Rattle.abi.specs.Executing.{fit}
+use Rattle.abi.proofs.Executing.{lengths, unfit, ill, executes, store, store-is, stop-told, stop-kept}
 use borrow.Author.Needs.{needs}
 use Rattle.zincpapaya.proofs.execute.zp_store.Statement.{statement}
 use Rattle.zincpapaya.proofs.execute.zp_store.Tie as tie
 
+and-false-left : (a b : Bool) → a ≡ false → (a && b) ≡ false
+and-false-left a b e = rw e
+
 returns : tie.Need-returns
 returns c =
     let at-if1 = c in
-    unfit (failed (at-if1 .before .lengths-fit .ensures) (at-if1 .if1 .taken))
-
-frame-of-requires : tie.Need-frame-of-requires
-frame-of-requires c κs =
-    let at-if1 = c .before in
     let at-lengths-fit = at-if1 .before in
-    let start = at-lengths-fit .before .before .before .before .before .before .before .before .before in
-    lengths (start .args .frame .now) (start .args .out .now) (passed (at-lengths-fit .lengths-fit .ensures) (at-if1 .if1 .left)) .0
-
-report-requires : tie.Need-report-requires
-report-requires c κs =
-    let at-if1 = c .before .before .before .before .before .before .before .before .before .before .before .before .before .before .before .before .before .before .before .before .before in
-    let at-lengths-fit = at-if1 .before in
-    let start = at-lengths-fit .before .before .before .before .before .before .before .before .before in
-    lengths (start .args .frame .now) (start .args .out .now) (passed (at-lengths-fit .lengths-fit .ensures) (at-if1 .if1 .left))
+    (unfit (and-false-left _ _ (failed (at-lengths-fit .lengths-fit .ensures) (at-if1 .if1 .taken))), λ _. refl)
 
 returns-2 : tie.Need-returns-2
 returns-2 c =
-    let at-report = c .before .before .before .before in
-    let at-store = at-report .before .before .before .before .before .before .before .before .before .before .before in
-    let at-hook-of = at-store .before .before .before .before .before in
-    let at-word-of = at-hook-of .before in
-    let at-area-of = at-word-of .before in
-    let at-operand-of = at-area-of .before in
-    let at-frame-of = at-operand-of .before in
-    let at-if1 = at-frame-of .before .before in
-    executes (passed (at-if1 .before .lengths-fit .ensures) (at-if1 .if1 .left)) store (store-is (at-area-of .area-of .ensures) (at-frame-of .frame-of .ensures) (at-operand-of .operand-of .ensures) (at-word-of .word-of .ensures) (at-hook-of .hook-of .ensures)) (at-store .store .result) (at-store .store .ensures .does) (at-report .report .ensures)
+    let at-if2 = c in
+    let start = at-if2 .before .before .before .before .before .before .before .before .before .before .before .before in
+    (unfit (and-false-right (fit (start .args .frame .now) (start .args .registers .now) 65) _ (ne-eqb (length (start .args .out .now)) 1 (at-if2 .if2 .taken))), λ _. refl)
+
+returns-3 : tie.Need-returns-3
+returns-3 c =
+    let at-if3 = c in
+    let at-well-formed = at-if3 .before in
+    let at-if2 = at-well-formed .before .before .before .before .before in
+    let at-if1 = at-if2 .before in
+    let at-lengths-fit = at-if1 .before in
+    let start = at-lengths-fit .before .before .before .before .before .before .before .before .before .before in
+    (ill (and-both _ _ (passed (at-lengths-fit .lengths-fit .ensures) (at-if1 .if1 .left)) (eq-eqb (length (start .args .out .now)) 1 (at-if2 .if2 .left))) (failed (at-well-formed .well-formed .ensures) (at-if3 .if3 .taken)), λ _. refl)
+
+frame-of-requires : tie.Need-frame-of-requires
+frame-of-requires c κs =
+    let at-if1 = c .before .before .before .before .before .before .before .before in
+    let at-lengths-fit = at-if1 .before in
+    let start = at-lengths-fit .before .before .before .before .before .before .before .before .before .before in
+    lengths (start .args .frame .now) (start .args .registers .now) (passed (at-lengths-fit .lengths-fit .ensures) (at-if1 .if1 .left)) .0
+
+store-requires : tie.Need-store-requires
+store-requires c κs =
+    let at-if3 = c .before .before .before .before .before .before .before .before .before .before in
+    let at-well-formed = at-if3 .before in
+    let at-if1 = at-well-formed .before .before .before .before .before .before in
+    let at-lengths-fit = at-if1 .before in
+    let start = at-lengths-fit .before .before .before .before .before .before .before .before .before .before in
+    (well-formed-means _ (passed (at-well-formed .well-formed .ensures) (at-if3 .if3 .left)), lengths (start .args .frame .now) (start .args .registers .now) (passed (at-lengths-fit .lengths-fit .ensures) (at-if1 .if1 .left)) .1)
+
+report-stop-requires : tie.Need-report-stop-requires
+report-stop-requires c κs =
+    let at-if2 = c .before .before .before .before .before .before .before .before .before .before .before .before .before .before .before .before .before .before .before .before .before .before .before .before .before .before .before .before .before in
+    let at-if1 = at-if2 .before in
+    let at-lengths-fit = at-if1 .before in
+    let start = at-lengths-fit .before .before .before .before .before .before .before .before .before .before in
+    (lengths (start .args .frame .now) (start .args .registers .now) (passed (at-lengths-fit .lengths-fit .ensures) (at-if1 .if1 .left)) .0, at-if2 .if2 .left)
+
+returns-4 : tie.Need-returns-4
+returns-4 c =
+    let at-report-stop = c .before .before .before .before in
+    let at-store = at-report-stop .before .before .before .before .before .before .before .before .before .before .before .before .before in
+    let at-hook-of = at-store .before .before .before .before .before .before in
+    let at-store-places = at-hook-of .before in
+    let at-area-of = at-store-places .before in
+    let at-frame-of = at-area-of .before in
+    let at-if2 = at-frame-of .before .before .before .before .before .before .before .before in
+    let at-if1 = at-if2 .before in
+    let at-lengths-fit = at-if1 .before in
+    let start = at-lengths-fit .before .before .before .before .before .before .before .before .before .before in
+    (executes (and-both _ _ (passed (at-lengths-fit .lengths-fit .ensures) (at-if1 .if1 .left)) (eq-eqb (length (start .args .out .now)) 1 (at-if2 .if2 .left))) store (store-is (at-area-of .area-of .ensures) (at-frame-of .frame-of .ensures) (at-store-places .store-places .ensures) (at-hook-of .hook-of .ensures)) (at-store .store .result) (at-store .store .ensures) (at-report-stop .report-stop .ensures .0) (λ k e _. stop-told (at-store .store .result .status) (start .args .out .now) (at-report-stop .report-stop .ensures .1) k e), stop-kept (at-store .store .result .status) (start .args .out .now) (at-report-stop .report-stop .ensures .1) (at-report-stop .report-stop .ensures .0 .status))
 
 pub zp-store-spec : {M : Type 1} → statement M
-zp-store-spec = tie.close (tie.spec (λ c κs. tt) (λ c. search needs) (λ c. search needs) returns frame-of-requires (λ c κs. tt) (λ c κs. tt) (λ c κs. tt) (λ c κs. tt) (λ c κs. tt) report-requires (λ c. search needs) (λ c. search needs) (λ c. search needs) (λ c. search needs) (λ c. search needs) (λ c. search needs) returns-2)
+zp-store-spec =
+    tie.close
+    (tie.spec
+    (λ c κs. search needs)
+    (λ c. search needs)
+    (λ c. search needs)
+    returns
+    (λ c. search needs)
+    (λ c. search needs)
+    returns-2
+    (λ c κs. search needs)
+    (λ c. search needs)
+    (λ c. search needs)
+    (λ c. search needs)
+    (λ c. search needs)
+    (λ c. search needs)
+    (λ c. search needs)
+    returns-3
+    frame-of-requires
+    (λ c κs. search needs)
+    (λ c κs. search needs)
+    (λ c κs. search needs)
+    store-requires
+    report-stop-requires
+    (λ c. search needs)
+    (λ c. search needs)
+    (λ c. search needs)
+    (λ c. search needs)
+    (λ c. search needs)
+    (λ c. search needs)
+    (λ c. search needs)
+    returns-4)

@@ -9,7 +9,7 @@ use std::hint::black_box;
 
 use vm2_example::testonly::speed::Machine;
 use zincpapaya::{
-    Area, Frame, Heaps, LoadPlaces, Outcome, PageId, Registers, Source, StorePlaces, Word,
+    Area, Frame, Heaps, LoadPlaces, Mode, Outcome, PageId, Registers, Source, StorePlaces, Word,
 };
 
 use crate::{
@@ -46,7 +46,7 @@ const STORE: StorePlaces = StorePlaces {
     increment: true,
 };
 /// vm2's machine is in kernel mode.
-const KERNEL: bool = true;
+const MODE: Mode = Mode::Kernel;
 
 /// A memory of the library with a frame and registers, beside vm2's machine.
 struct Ours {
@@ -82,7 +82,7 @@ impl Ours {
         let Self { memory, frame, registers } = self;
         registers.set(OPERAND, address);
         registers.set(VALUE, Word(limbs));
-        match memory.store(frame, registers, Area::Heap, STORE, KERNEL, None) {
+        match memory.store(frame, registers, Area::Heap, STORE, MODE, None) {
             Ok(Outcome::Running) => self.register(OUT),
             other => panic!("a store was not carried out: {other:?}"),
         }

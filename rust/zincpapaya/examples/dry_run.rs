@@ -2,8 +2,8 @@
 //! call tests it; a host with buffers of its own takes `Lent`, whose calls do.
 
 use zincpapaya::{
-    Area, Capacity, Error, Frame, Heaps, Layout, LoadPlaces, Outcome, PageId, Registers, Source,
-    StorePlaces, Word,
+    Area, Capacity, Error, Frame, Heaps, Layout, LoadPlaces, Mode, Outcome, PageId, Registers,
+    Source, StorePlaces, Word,
 };
 
 fn main() -> Result<(), Error> {
@@ -35,7 +35,7 @@ fn main() -> Result<(), Error> {
     let before = heaps.snapshot()?;
     registers.set(2, Word::from(8));
     let places = StorePlaces { source, value: 2, dst0: 0, dst1: 0, increment: false };
-    match heaps.store(&mut frame, &mut registers, Area::Heap, places, true, None)? {
+    match heaps.store(&mut frame, &mut registers, Area::Heap, places, Mode::Kernel, None)? {
         Outcome::Running => println!("stored {:#x}", heaps.read_u256(heap, 4065)?),
         other => println!("not stored: {other:?}"),
     }

@@ -103,5 +103,5 @@ pub use pages::{
     DecodedPage, Layout, PageId,
 };
 pub use pointer::FatPointer;
-pub use registers::{LoadPlaces, Registers, Source, StorePlaces};
+pub use registers::{LoadPlaces, Mode, Registers, Source, StorePlaces};
 pub use word::Word;

@@ -4,8 +4,8 @@ use std::ops::Range;
 
 use crate::{
     registers::{LoadCodes, StoreCodes},
-    Area, Error, Frame, Heaps, Lent, LoadPlaces, Outcome, PageId, Registers, Snapshot, StorePlaces,
-    Word,
+    Area, Error, Frame, Heaps, Lent, LoadPlaces, Mode, Outcome, PageId, Registers, Snapshot,
+    StorePlaces, Word,
 };
 
 /// The calls as a memory answers them: one that is owned (`memory/calls.rs`), or one that is tested
@@ -289,8 +289,8 @@ macro_rules! methods {
         ///
         /// ```
         /// use zincpapaya::{
-        ///     Area, Capacity, Frame, Heaps, Layout, LoadPlaces, Outcome, PageId, Registers, Source,
-        ///     StorePlaces, Word,
+        ///     Area, Capacity, Frame, Heaps, Layout, LoadPlaces, Mode, Outcome, PageId, Registers,
+        ///     Source, StorePlaces, Word,
         /// };
         ///
         /// # fn main() -> Result<(), zincpapaya::Error> {
@@ -313,7 +313,7 @@ macro_rules! methods {
         /// // Up to 4096 nothing is due. Register 3 gets the operand plus 32.
         /// let source = Source::Register(1);
         /// let places = StorePlaces { source, value: 2, dst0: 3, dst1: 0, increment: true };
-        /// let stored = heaps.store(&mut frame, &mut registers, Area::Heap, places, false, None)?;
+        /// let stored = heaps.store(&mut frame, &mut registers, Area::Heap, places, Mode::User, None)?;
         /// assert_eq!(stored, Outcome::Running);
         /// assert_eq!((frame.gas, registers.get(3)), (1, 4096.into()));
         ///
@@ -351,8 +351,8 @@ macro_rules! methods {
             }
 
             /// Stores a register's word at an address of the frame's heap or aux heap, after paying for
-            /// growth. With a `hook`, a store at that address stops the run. Outside `kernel` mode a word
-            /// that is tagged is stored without the page and the start of its pointer: they become 0.
+            /// growth. With a `hook`, a store at that address stops the run. In [`Mode::User`](crate::Mode::User) a
+            /// word that is tagged is stored without the page and the start of its pointer: they become 0.
             /// Refused with
             /// [`Error::Undecodable`], [`NoPage`](Error::NoPage), [`NoChunk`](Error::NoChunk),
             /// [`NoJournal`](Error::NoJournal) or [`HookValue`](Error::HookValue).
@@ -363,10 +363,10 @@ macro_rules! methods {
                 registers: &mut Registers,
                 area: Area,
                 places: StorePlaces,
-                kernel: bool,
+                mode: Mode,
                 hook: Option<u32>,
             ) -> Result<Outcome, Error> {
-                self.memory.store(frame, registers, area, places.into(), kernel, hook)
+                self.memory.store(frame, registers, area, places.into(), mode.is_kernel(), hook)
             }
 
             /// Loads up to 32 bytes through a fat pointer in a register. The instruction panics where the
@@ -419,16 +419,16 @@ macro_rules! methods {
                 self.memory.load_static(frame, registers, places.into())
             }
 
-            /// Stores a register's word at an address of the static memory. `kernel` is that of
+            /// Stores a register's word at an address of the static memory. `mode` is that of
             /// [`store`](Self::store). Refused with [`Error::NoChunk`].
             pub fn store_static(
                 &mut self,
                 frame: &mut Frame,
                 registers: &mut Registers,
                 places: StorePlaces,
-                kernel: bool,
+                mode: Mode,
             ) -> Result<Outcome, Error> {
-                self.memory.store_static(frame, registers, places.into(), kernel)
+                self.memory.store_static(frame, registers, places.into(), mode.is_kernel())
             }
         }
 

@@ -190,3 +190,18 @@ impl From<StorePlaces> for StoreCodes {
         Self { source: source.code(), value, dst0, dst1, increment }
     }
 }
+
+/// Whether a store runs in kernel mode. Outside it a pointer that is stored loses its page and its start.
+#[derive(Debug, Clone, Copy, PartialEq, Eq, Hash)]
+pub enum Mode {
+    /// The mode of every contract that is not of the system.
+    User,
+    /// The mode of the system's own contracts.
+    Kernel,
+}
+
+impl Mode {
+    pub(crate) const fn is_kernel(self) -> bool {
+        matches!(self, Self::Kernel)
+    }
+}

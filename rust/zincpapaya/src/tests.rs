@@ -12,7 +12,7 @@ use crate::{
     quote,
     registers::{LoadCodes, StoreCodes},
     Area, Buffers, Capacity, Error, FatPointer, Frame, Heaps, Layout, Lengths, Lent, LoadPlaces,
-    Operand, Outcome, PageId, Quote, Registers, Snapshot, Source, StorePlaces, Word,
+    Mode, Operand, Outcome, PageId, Quote, Registers, Snapshot, Source, StorePlaces, Word,
 };
 
 pub(crate) const LAYOUT: Layout = Layout {
@@ -168,10 +168,12 @@ macro_rules! refusals {
             $memory.rollback(Snapshot { heap: 0, aux: 0 }).err(),
             $memory.delete_history().err(),
             $memory.load(&mut frame, &mut given, Area::Heap, LOAD).err(),
-            $memory.store(&mut frame, &mut given, Area::Heap, STORE, true, None).err(),
+            $memory
+                .store(&mut frame, &mut given, Area::Heap, STORE, $crate::Mode::Kernel, None)
+                .err(),
             $memory.load_pointer(&mut frame, &mut given, LOAD_POINTER).err(),
             $memory.load_static(&mut frame, &mut given, LOAD).err(),
-            $memory.store_static(&mut frame, &mut given, STORE, true).err(),
+            $memory.store_static(&mut frame, &mut given, STORE, $crate::Mode::Kernel).err(),
         ];
         assert_eq!((frame, given), (FRAME, registers()));
         refusals
@@ -322,7 +324,7 @@ fn a_refused_instruction_leaves_frame_registers_and_output() {
         assert_eq!(host, Host::of(heaps.buffers()));
 
         let (mut owned, mut frame) = (opened(), given_frame);
-        let stored = owned.store(&mut frame, &mut given, Area::Heap, STORE, true, hook);
+        let stored = owned.store(&mut frame, &mut given, Area::Heap, STORE, Mode::Kernel, hook);
         assert_eq!((stored, frame, given), (Err(error), given_frame, before));
         assert_eq!(owned.buffers(), heaps.buffers());
     }
@@ -371,14 +373,14 @@ fn a_store_writes_the_operand_and_clears_the_second_output() {
     for (increment, words, flags) in [(true, [4096, 0], 0), (false, [5, 0], 8)] {
         let ((mut frame, mut given), mut heaps) = (worked(), opened());
         let places = StorePlaces { source: FROM_1, increment, ..STORE };
-        let stored = on_both!(heaps, frame, given, store(Area::Heap, places, false, None));
+        let stored = on_both!(heaps, frame, given, store(Area::Heap, places, Mode::User, None));
         assert_eq!((stored, frame), (Ok(Outcome::Running), worked().0));
         assert_eq!(heaps.read_u256(HEAP, 4064), Ok(Word::from(7)));
         assert_eq!((small(&given, [3, 4]), given.pointer_flags()), (words, flags));
         assert_eq!(small(&given, [1, 2]), [4064, 7]);
 
         let ((mut frame, mut given), mut heaps) = (worked(), opened());
-        let stored = on_both!(heaps, frame, given, store_static(places, false));
+        let stored = on_both!(heaps, frame, given, store_static(places, Mode::User));
         assert_eq!((stored, frame), (Ok(Outcome::Running), worked().0));
         assert_eq!(heaps.read_u256(LAYOUT.static_memory, 4064), Ok(Word::from(7)));
         assert_eq!((small(&given, [3, 4]), given.pointer_flags()), (words, flags));
@@ -471,7 +473,7 @@ fn a_panic_clears_the_second_output_alone() {
         let source = Source::Register(register);
         let (before, mut heaps) = (given, opened());
         let places = StorePlaces { source, value: 3, dst0: 3, dst1: 4, increment: true };
-        let stored = on_both!(heaps, frame, given, store(Area::Aux, places, true, None));
+        let stored = on_both!(heaps, frame, given, store(Area::Aux, places, Mode::Kernel, None));
         assert_eq!((stored, frame.gas), (Ok(Outcome::Panicked), 0));
         assert_eq!(heaps.buffers(), opened().buffers());
         let mut due = before;
@@ -491,20 +493,20 @@ fn a_panic_clears_the_second_output_alone() {
 fn a_stored_pointer_is_erased_outside_kernel_mode() {
     let whole = Word([66 << 32 | 1, 5 << 32 | 10, 0, 0]);
     let erased = Word([1, 5 << 32, 0, 0]);
-    for (tagged, kernel, due) in
-        [(true, true, whole), (true, false, erased), (false, true, whole), (false, false, whole)]
-    {
+    for (tagged, mode, due) in [
+        (true, Mode::Kernel, whole),
+        (true, Mode::User, erased),
+        (false, Mode::Kernel, whole),
+        (false, Mode::User, whole),
+    ] {
         let ((mut frame, mut given), mut heaps) = (worked(), opened());
         given.set(5, Operand { word: whole, tagged });
         let places = StorePlaces { source: FROM_1, value: 5, ..STORE };
-        let stored = on_both!(heaps, frame, given, store(Area::Heap, places, kernel, None));
+        let stored = on_both!(heaps, frame, given, store(Area::Heap, places, mode, None));
         assert_eq!(stored, Ok(Outcome::Running));
         assert_eq!(heaps.read_u256(HEAP, 4064), Ok(due));
         heaps.deallocate(HEAP).unwrap();
-        assert_eq!(
-            on_both!(heaps, frame, given, store_static(places, kernel)),
-            Ok(Outcome::Running)
-        );
+        assert_eq!(on_both!(heaps, frame, given, store_static(places, mode)), Ok(Outcome::Running));
         assert_eq!(heaps.read_u256(LAYOUT.static_memory, 4064), Ok(due));
         // The register that was read is as it was.
         assert_eq!(given.get(5), Operand { word: whole, tagged });
@@ -521,7 +523,7 @@ fn register_0_is_read_as_it_is() {
     assert_eq!(before.get(0), Operand { word: Word::from(64), tagged: true });
     let source = Source::Register(0);
     let places = StorePlaces { source, value: 0, dst0: 0, dst1: 0, increment: true };
-    let stored = on_both!(heaps, frame, given, store(Area::Heap, places, true, None));
+    let stored = on_both!(heaps, frame, given, store(Area::Heap, places, Mode::Kernel, None));
     assert_eq!((stored, given), (Ok(Outcome::Running), before));
     assert_eq!(heaps.read_u256(HEAP, 64), Ok(Word::from(64)));
 }
@@ -619,7 +621,7 @@ fn typed_places_that_an_instruction_does_not_take_are_refused() {
             StorePlaces { dst0: number, ..STORE },
             StorePlaces { dst1: number, ..STORE },
         ] {
-            let stored = on_both!(heaps, frame, given, store_static(places, true));
+            let stored = on_both!(heaps, frame, given, store_static(places, Mode::Kernel));
             assert_eq!(stored, Err(Error::Operand));
         }
     }
@@ -637,7 +639,7 @@ fn a_hook_stops_a_store_that_was_carried_out() {
     let (mut heaps, mut frame, mut given) = (opened(), FRAME, registers());
     given.set(2, 5);
     let places = StorePlaces { source: Source::Immediate(64), ..STORE };
-    let stored = on_both!(heaps, frame, given, store(Area::Heap, places, false, Some(64)));
+    let stored = on_both!(heaps, frame, given, store(Area::Heap, places, Mode::User, Some(64)));
     assert_eq!(stored, Ok(Outcome::SuspendedOnHook(5)));
     assert_eq!(frame, Frame { gas: 4, heap_bound: 96, ..FRAME });
     assert_eq!(heaps.read_u256(HEAP, 64), Ok(Word::from(5)));
@@ -646,10 +648,10 @@ fn a_hook_stops_a_store_that_was_carried_out() {
     // The hook is given what was stored: of this pointer, outside kernel mode, the offset alone.
     let pointer = FatPointer { offset: 6, memory_page: HEAP, start: 10, length: 0 };
     given.set(2, pointer);
-    let stored = on_both!(heaps, frame, given, store(Area::Heap, places, false, Some(64)));
+    let stored = on_both!(heaps, frame, given, store(Area::Heap, places, Mode::User, Some(64)));
     assert_eq!(stored, Ok(Outcome::SuspendedOnHook(6)));
     let before = (frame, given);
-    let stored = on_both!(heaps, frame, given, store(Area::Heap, places, true, Some(64)));
+    let stored = on_both!(heaps, frame, given, store(Area::Heap, places, Mode::Kernel, Some(64)));
     assert_eq!((stored, (frame, given)), (Err(Error::HookValue), before));
     assert_eq!(heaps.read_u256(HEAP, 64), Ok(Word::from(6)));
 }

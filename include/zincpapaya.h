@@ -33,11 +33,12 @@
 extern "C" {
 #endif
 
-/* The lengths of the four buffers: C chunks, P pages, J words of each journal. */
+/* The lengths of the four buffers: C chunks, P pages, J words of each journal. The last part of `words` has a bit for each
+ * chunk, in numbers of 64 bits. */
 #define ZP_BYTES_LEN(C, P, J) (256 * (size_t)(C) + 64 * (size_t)(J))
 #define ZP_KEYS_LEN(C, P, J) ((size_t)(C) + (size_t)(P) + 4)
 #define ZP_ORDER_LEN(C, P, J) (3 * (size_t)(C) + (size_t)(P) + 4)
-#define ZP_WORDS_LEN(C, P, J) (16 + 6 * (size_t)(J))
+#define ZP_WORDS_LEN(C, P, J) (16 + 6 * (size_t)(J) + ((size_t)(C) + 63) / 64)
 
 /* What a call returns besides 0. The numbers 1 to 16 are those of the project's scope papers. */
 #define ZP_LAYOUT 1        /* two fixed ids are equal, or the stride is below 4; or two compared memories have different layouts */

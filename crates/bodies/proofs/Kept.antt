@@ -84,6 +84,7 @@ module _ (m : Mem) (f : WellFormed m) (bytes' : List ℕ) (kept : Bodies m bytes
         held = λ s p.
             let h = g .held s p in
             record { entry = h .entry; top = h .top; tail = λ e r lo hi. chunk-same (256 * s + r) (kept .tail s r p e lo hi) ∙ h .tail e r lo hi };
+        pool = g .pool;
         in-capacity = g .in-capacity;
         notes = λ j i o h. let n = g .notes j i o h in record { address = n .address; first = n .first; last = n .last };
       }

@@ -5,4 +5,4 @@ pub const KEYS: usize = 16;
 
 pub const ORDER: usize = 32;
 
-pub const WORDS: usize = 64;
+pub const WORDS: usize = 65;

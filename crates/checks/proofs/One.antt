@@ -4,8 +4,8 @@ use mathlib.Core.Path.{_≡_, refl, sym, ap, _∙_}
 use mathlib.Core.Bool.{Bool, true, false, cond, not, _&&_, false≢true}
 use Prim.Native.Nat.{ℕ, zero, suc, _/_, _%_, _<_, _≤_}
 use native.Mathlib.Omega.{arith}
-use lib.Dec.{ltb, eqb}
-use borrow.Author.Tests.{lt-ltb, le-ltb, ne-eqb}
+use lib.Dec.{ltb, leb, eqb}
+use borrow.Author.Tests.{lt-ltb, le-ltb, le-leb}
 use Rattle.outcome.specs.Outcome.{refused}
 use Rattle.store.specs.Mem.{Mem, slotCount}
 use Rattle.formed.specs.Parts.{slotOfChunk, holds, pool}
@@ -24,9 +24,9 @@ not-true true n = absurd (n refl)
 not-true false n = refl
 
 -- none is left, or not one
-none-left : (n : ℕ) → eqb n 0 ≡ ltb n 1
+none-left : (n : ℕ) → not (leb 1 n) ≡ ltb n 1
 none-left zero = refl
-none-left (suc n) = ne-eqb (suc n) 0 (λ e. omega arith) ∙ sym (le-ltb (suc n) 1 (omega arith))
+none-left (suc n) = ap not (le-leb 1 (suc n) (omega arith)) ∙ sym (le-ltb (suc n) 1 (omega arith))
 
 -- an allocated page needs no entry
 pub listed-entry : (m : Mem) (p : ℕ) → viewOf m .allocated p ≡ true → (not (viewOf m .allocated p) && eqb (viewOf m .entriesLeft) 0) ≡ false
@@ -49,7 +49,7 @@ module _ (m : Mem) (p k s : ℕ) (is : s ≡ slotOfChunk m p k) where
       let z : missing (holds m p) k 1 ≡ 0 = missing-one (holds m p) k ∙ ap (λ (b : Bool). cond b 0 1) h in
       sym (le-ltb (pool m) (missing (holds m p) k 1) (omega arith))
 
-  pub one-missing : slotCount (m .words) ≤ s → eqb (viewOf m .pool) 0 ≡ ltb (viewOf m .pool) (missing (viewOf m .held p) k 1)
+  pub one-missing : slotCount (m .words) ≤ s → not (leb 1 (viewOf m .pool)) ≡ ltb (viewOf m .pool) (missing (viewOf m .held p) k 1)
   unfolding holds
   one-missing l =
       let h : holds m p k ≡ false = le-ltb (slotOfChunk m p k) (slotCount (m .words)) (omega arith) in

@@ -141,7 +141,7 @@ pub fn locate(
 
 // ---- the tests
 // 10: more of the chunks first, .., first + count - 1 are missing than the pool has. `located` says what is known of them, and the page's entry is e.
-// Where the pool has as many chunks as are not known to be held, nothing is counted. The count stops as soon as too many are missing.
+// Where the pool has as many chunks as are not known to be held, the missing ones are not counted. The count stops as soon as too many are missing.
 fn short_of_chunks(
     bytes: &[u8],
     keys: &[u64],
@@ -157,11 +157,11 @@ fn short_of_chunks(
     requires { ⌜ Locates (now keys) (now order) (now words) (page .0) first count (located .chunk) (located .rank) ⌝ }
     ensures { λ r. ⌜ r ≡ ltb (viewOf (mem (now (bytes .entry)) (now (keys .entry)) (now (order .entry)) (now (words .entry))) .pool) (missing (viewOf (mem (now (bytes .entry)) (now (keys .entry)) (now (order .entry)) (now (words .entry))) .held (page .0)) first count) ⌝ }
 {
-    let pool = pool::pool_count(keys, order, words);
     let mut i = located.chunk - first;
-    if (count - i) as u64 <= pool {
+    if pool::has_pooled(words, (count - i) as u64) {
         return false;
     }
+    let pool = pool::pool_count(words);
     let c = words[head::CHUNKS] as usize;
     let k = store::key_of(e, first as u64);
     let mut at = located.rank;
@@ -196,7 +196,7 @@ fn short_of_chunk(
     if s < words[head::CHUNKS] as usize {
         return false;
     }
-    pool::pool_count(keys, order, words) == 0
+    !pool::has_pooled(words, 1)
 }
 
 // 11: w more words do not fit the page's journal.
@@ -233,7 +233,7 @@ pub fn unallocated_refusal(
     if words[head::ENTRIES] == words[head::PAGES] + head::FIXED_PAGES {
         return 9;
     }
-    if pool::pool_count(keys, order, words) < count {
+    if !pool::has_pooled(words, count) {
         return 10;
     }
     0

@@ -8,28 +8,30 @@ use Prim.Native.Nat.{ℕ, _+_, _*_, _-_, _/_, _%_, _≤_, _<_}
 use native.Mathlib.Omega.{arith}
 use lib.Dec.{ltb, leb, eqb}
 use lib.ListN.{length, getD, set, take, drop, length-set, List·getD-eq-default}
-use lib.Seq.{getD-set-other, getD-take}
-use borrow.Author.Tests.{lt-ltb, eq-eqb, ne-eqb, ltb-true}
+use lib.Seq.{getD-take}
+use borrow.Author.Tests.{lt-ltb, le-ltb, eq-eqb, ne-eqb, ltb-true}
 use Rattle.store.specs.Keys.{keyOf, keyEntry, keyChunk}
 use Rattle.view.proofs.Missing.{missing-one}
 use Rattle.index.specs.Index.{indexed, seek, freeCount}
 use Rattle.index.proofs.Logic.{same-or-not, lt-or-ge, lt-by}
 use Rattle.index.proofs.Places.{seek-hit}
 use Rattle.page_ids.specs.declared.Layout.{Layout}
-use Rattle.store.specs.Mem.{Mem, mem, layoutOf, slotCount, pageCount, journalWords, journalLength, heldNow, inUse, dynamicLength, holders, entries, chunkBytes}
+use Rattle.store.specs.Mem.{Mem, mem, layoutOf, slotCount, pageCount, journalWords, journalLength, heldNow, inUse, dynamicLength, poolPlace, holders, entries, chunkBytes}
 use Rattle.store.specs.Indexed.{Indexed}
+use Rattle.store.specs.Pool.{Pooling}
 use Rattle.pool.specs.Hold.{lacks, Taken, Held}
 use Rattle.store.proofs.Parts.{take-set, drop-set}
-use Rattle.pool.proofs.Holds.{cut-keys}
+use Rattle.pool.proofs.Holds.{cut-keys, taken-head, taken-long}
 use Rattle.formed.specs.Pages.{LayoutRule, dynamic, group, journalCount, journalPlace}
-use Rattle.formed.specs.Parts.{tab, Note, entryOf, allocated, slotOfChunk, holds, byteAt, journal, notePlace, noteAddress, noteFirst, noteLast, oldPlace}
+use Rattle.formed.specs.Parts.{tab, Note, entryOf, allocated, slotOfChunk, holds, pool, byteAt, journal, notePlace, noteAddress, noteFirst, noteLast, oldPlace}
 use Rattle.formed.specs.WellFormed.{WellFormed, Lengths, NotedRight, holder, slotByte}
 use Rattle.formed.proofs.Sizes.{holders-long, chunks-long, lengths-kept}
-use Rattle.formed.proofs.Same.{layout-same, tab-same}
+use Rattle.formed.proofs.Same.{layout-same, tab-upto}
+use Rattle.formed.proofs.Numbers.{number-lt}
 use Rattle.formed.proofs.Keys.{le-or-gt, in-table}
 use Rattle.formed.proofs.Facts.{Facts, PageRight, SlotRight}
 use Rattle.formed.proofs.Meaning.{facts-of, formed-by}
-use Rattle.formed.proofs.Sense.{slot-near, slot-far, holds-near}
+use Rattle.formed.proofs.Sense.{pool-count, slot-near, slot-far, holds-near}
 use Rattle.view.specs.View.{viewOf, settingOf}
 use Rattle.view.specs.Steps.{missing}
 use Rattle.view.specs.Does.{Shows}
@@ -41,7 +43,7 @@ use Rattle.chunks.proofs.Ranges.{only}
 
 -- what is as it was, and what grew
 pub record Took (k : ℕ) (keys order words keys' order' words' : List ℕ) : Type 0 where
-  pub head : (i : ℕ) → (i ≡ 9 → ⊥) → getD words' i 0 ≡ getD words i 0
+  pub head : (i : ℕ) → i < poolPlace words → (i ≡ 9 → ⊥) → (i ≡ 15 → ⊥) → getD words' i 0 ≡ getD words i 0
   pub words-long : length words' ≡ length words
   pub keys-long : length keys' ≡ length keys
   pub order-long : length order' ≡ length order
@@ -49,11 +51,12 @@ pub record Took (k : ℕ) (keys order words keys' order' words' : List ℕ) : Ty
   pub page-order : drop (slotCount words') order' ≡ drop (slotCount words) order
   pub grown : Grown k (take (slotCount words) keys) (take (slotCount words') keys')
   pub index : indexed (take (slotCount words') keys') (take (slotCount words') order') (heldNow words') ≡ true
+  pub pool : Pooling keys' words'
 
-module _ (k : ℕ) (keys order words : List ℕ) (ix : Indexed keys order words) where
+module _ (k : ℕ) (keys order words : List ℕ) (ix : Indexed keys order words) (pl : Pooling keys words) where
   took-was : seek (take (slotCount words) keys) k < slotCount words → Took k keys order words keys order words
   took-was l = record {
-    head = λ i n. refl;
+    head = λ i l n e. refl;
     words-long = refl;
     keys-long = refl;
     order-long = refl;
@@ -61,27 +64,30 @@ module _ (k : ℕ) (keys order words : List ℕ) (ix : Indexed keys order words)
     page-order = refl;
     grown = grown-was k (take (slotCount words) keys) (let c = cut-keys keys order words ix in omega arith);
     index = ix .index;
+    pool = pl;
   }
 
   took-new : 0 < k → slotCount words ≤ seek (take (slotCount words) keys) k → (s : ℕ) (keys' order' words' : List ℕ) → s ≡ seek (take (slotCount words) keys') k
       → Taken k keys order words s keys' order' words' → Took k keys order words keys' order' words'
   took-new pos none s keys' order' words' at t =
       let cut = cut-keys keys order words ix in
-      let hd : (i : ℕ) → (i ≡ 9 → ⊥) → getD words' i 0 ≡ getD words i 0 = λ i n. ap (λ (x : List ℕ). getD x i 0) (t .words-are) ∙ getD-set-other words 9 i (heldNow words + 1) 0 n in
-      let c : slotCount words' ≡ slotCount words = hd 6 (λ e. omega arith) in
+      let room = pl .part .room in
+      let hd : (i : ℕ) → i < poolPlace words → (i ≡ 9 → ⊥) → (i ≡ 15 → ⊥) → getD words' i 0 ≡ getD words i 0 = taken-head k keys order words (pl .part) s keys' order' words' t in
+      let c : slotCount words' ≡ slotCount words = hd 6 (omega arith) (λ e. omega arith) (λ e. omega arith) in
       let h : take (slotCount words) keys' ≡ set (take (slotCount words) keys) s k = ap (take (slotCount words)) (t .keys-are) ∙ take-set keys (slotCount words) s k (t .slot-in) in
       let l = t .slot-in in
-      let z : getD (take (slotCount words) keys) s 0 ≡ 0 = getD-take (slotCount words) keys s 0 l ∙ t .pooled in
+      let z : getD (take (slotCount words) keys) s 0 ≡ 0 = getD-take (slotCount words) keys s 0 l ∙ t .unheld in
       let g : Grown k (take (slotCount words) keys) (set (take (slotCount words) keys) s k) = grown-new k (take (slotCount words) keys) pos (omega arith) s (omega arith) z (ap (λ (x : List ℕ). seek x k) (sym h) ∙ sym at) in
       record {
         head = hd;
-        words-long = ap length (t .words-are) ∙ length-set words 9 (heldNow words + 1);
+        words-long = taken-long k keys order words (pl .part) s keys' order' words' t;
         keys-long = ap length (t .keys-are) ∙ length-set keys s k;
         order-long = t .order-long;
         pages = ap (λ (x : ℕ). drop x keys') c ∙ ap (drop (slotCount words)) (t .keys-are) ∙ drop-set keys (slotCount words) s k l;
         page-order = ap (λ (x : ℕ). drop x order') c ∙ t .order-rest;
         grown = subst (Grown k (take (slotCount words) keys)) (sym (ap (λ (x : ℕ). take x keys') c ∙ h)) g;
         index = t .indexed-still .index;
+        pool = t .pooling-still;
       }
 
   pub took : 0 < k → (s : ℕ) (keys' order' words' : List ℕ) → Held k keys order words s keys' order' words' → Took k keys order words keys' order' words'
@@ -102,23 +108,30 @@ module _ (bytes keys order words keys' order' words' : List ℕ) (f : WellFormed
   facts : Facts m
   facts = facts-of m f
 
+  -- the head and the journals lie before the pool
+  before : 16 + 6 * journalWords words ≡ poolPlace words
+  before = let h = f .lengths .in-words in omega arith
+
+  head-same : (i : ℕ) → i < 15 → (i ≡ 9 → ⊥) → getD words' i 0 ≡ getD words i 0
+  head-same i l n = t .head i (let h = before in omega arith) n (λ e. omega arith)
+
   slots-same : slotCount words' ≡ slotCount words
-  slots-same = t .head 6 (λ e. omega arith)
+  slots-same = head-same 6 (omega arith) (λ e. omega arith)
 
   pages-same : pageCount words' ≡ pageCount words
-  pages-same = t .head 7 (λ e. omega arith)
+  pages-same = head-same 7 (omega arith) (λ e. omega arith)
 
   room-same : journalWords words' ≡ journalWords words
-  room-same = t .head 8 (λ e. omega arith)
+  room-same = head-same 8 (omega arith) (λ e. omega arith)
 
   layouts-same : layoutOf words' ≡ layoutOf words
-  layouts-same = layout-same words words' (λ i l. t .head i (λ e. omega arith))
+  layouts-same = layout-same words words' (λ i l. head-same i (omega arith) (λ e. omega arith))
 
   dynamic-same : dynamicLength words' ≡ dynamicLength words
-  dynamic-same = t .head 11 (λ e. omega arith)
+  dynamic-same = head-same 11 (omega arith) (λ e. omega arith)
 
-  length-same : (j : ℕ) → journalLength words' j ≡ journalLength words j
-  length-same j = t .head (12 + j) (λ e. omega arith)
+  length-same : (j : ℕ) → j < journalCount → journalLength words' j ≡ journalLength words j
+  length-same j l = head-same (12 + j) (omega arith) (λ e. omega arith)
 
   byte-same : (s r : ℕ) → slotByte m' s r ≡ slotByte m s r
   byte-same s r = ap (λ (x : ℕ). getD (take (256 * x) bytes) (256 * s + r) 0) slots-same
@@ -175,38 +188,45 @@ module _ (bytes keys order words keys' order' words' : List ℕ) (f : WellFormed
       (same-or-not (holder m s) 0)
 
   -- number x of word i of journal j
-  note-same : (j i x : ℕ) → getD words' (notePlace (m' .words) j i + x) 0 ≡ getD words (notePlace (m .words) j i + x) 0
-  note-same j i x = ap (λ (r : ℕ). getD words' (16 + 3 * (r * j + i) + x) 0) room-same ∙ t .head (notePlace (m .words) j i + x) (λ e. omega arith)
+  note-same : (j i x : ℕ) → j < journalCount → i < journalWords words → x < 3 → getD words' (notePlace (m' .words) j i + x) 0 ≡ getD words (notePlace (m .words) j i + x) 0
+  note-same j i x lj li lx =
+      ap (λ (r : ℕ). getD words' (16 + 3 * (r * j + i) + x) 0) room-same
+      ∙ t .head (notePlace (m .words) j i + x) (let n = number-lt (journalWords words) j i journalCount lj li in let h = before in omega arith) (λ e. omega arith) (λ e. omega arith)
 
-  address-same : (j i : ℕ) → noteAddress m' j i ≡ noteAddress m j i
-  address-same j i = ap (λ (r : ℕ). getD words' (16 + 3 * (r * j + i)) 0) room-same ∙ t .head (notePlace (m .words) j i) (λ e. omega arith)
+  address-same : (j i : ℕ) → j < journalCount → i < journalWords words → noteAddress m' j i ≡ noteAddress m j i
+  address-same j i lj li =
+      let z : notePlace (m' .words) j i ≡ notePlace (m' .words) j i + 0 = omega arith in
+      let y : notePlace (m .words) j i + 0 ≡ notePlace (m .words) j i = omega arith in
+      ap (λ (x : ℕ). getD words' x 0) z ∙ note-same j i 0 lj li (omega arith) ∙ ap (λ (x : ℕ). getD words x 0) y
 
   notes' : (j i : ℕ) → j < journalCount → i < journalLength words' j → NotedRight m' j i
   notes' j i lj li =
-      let l = length-same j in
+      let l = length-same j lj in
       let n = facts .notes j i lj (omega arith) in
-      let a = address-same j i in
+      let c = facts .in-capacity j lj in
+      let a = address-same j i lj (omega arith) in
       record {
         address = let h = n .address in omega arith;
-        first = ap (holder m') (note-same j i 1) ∙ t .grown .kept (noteFirst m j i) (let h = n .first in omega arith) ∙ n .first ∙ ap (λ (x : ℕ). keyOf (journalPlace j) (x / 256)) (sym a);
-        last = ap (holder m') (note-same j i 2) ∙ t .grown .kept (noteLast m j i) (let h = n .last in omega arith) ∙ n .last ∙ ap (λ (x : ℕ). keyOf (journalPlace j) ((x + 31) / 256)) (sym a);
+        first = ap (holder m') (note-same j i 1 lj (omega arith) (omega arith)) ∙ t .grown .kept (noteFirst m j i) (let h = n .first in omega arith) ∙ n .first ∙ ap (λ (x : ℕ). keyOf (journalPlace j) (x / 256)) (sym a);
+        last = ap (holder m') (note-same j i 2 lj (omega arith) (omega arith)) ∙ t .grown .kept (noteLast m j i) (let h = n .last in omega arith) ∙ n .last ∙ ap (λ (x : ℕ). keyOf (journalPlace j) ((x + 31) / 256)) (sym a);
       }
 
   pub took-formed : WellFormed m'
   took-formed = formed-by m' (record {
     lengths = lengths';
     layout = subst LayoutRule (sym layouts-same) (f .layout);
-    layout-width = λ i l. let h = facts .layout-width i l in let e = t .head i (λ e. omega arith) in omega arith;
+    layout-width = λ i l. let h = facts .layout-width i l in let e = head-same i (omega arith) (λ e. omega arith) in omega arith;
     length-width = let h = facts .length-width in let e = dynamic-same in omega arith;
     slots = t .index;
     pages =
         ap (λ (x : List ℕ). indexed x (drop (slotCount words') order') (inUse words')) (t .pages) ∙ ap (λ (x : List ℕ). indexed (drop (slotCount words) keys) x (inUse words')) (t .page-order)
-        ∙ ap (indexed (drop (slotCount words) keys) (drop (slotCount words) order)) (t .head 10 (λ e. omega arith)) ∙ facts .pages;
-    fixed-four = λ e l. ap (λ (x : List ℕ). getD x e 0) (t .pages) ∙ facts .fixed-four e l ∙ ap (λ (x : ℕ). x + 1) (sym (t .head e (λ q. omega arith)));
+        ∙ ap (indexed (drop (slotCount words) keys) (drop (slotCount words) order)) (head-same 10 (omega arith) (λ e. omega arith)) ∙ facts .pages;
+    fixed-four = λ e l. ap (λ (x : List ℕ). getD x e 0) (t .pages) ∙ facts .fixed-four e l ∙ ap (λ (x : ℕ). x + 1) (sym (head-same e (omega arith) (λ q. omega arith)));
     listed = listed';
     pooled = pooled';
     held = held';
-    in-capacity = λ j l. let h = facts .in-capacity j l in let a = length-same j in let b = room-same in omega arith;
+    pool = t .pool;
+    in-capacity = λ j l. let h = facts .in-capacity j l in let a = length-same j l in let b = room-same in omega arith;
     notes = notes';
   })
 
@@ -267,12 +287,21 @@ module _ (bytes keys order words keys' order' words' : List ℕ) (f : WellFormed
   abbrev noteOf : ℕ → ℕ → Note
   noteOf a at = record { address = a; old = tab 32 (λ x. getD bytes (at + x) 0) }
 
-  took-journal : (j : ℕ) → journal m' j ≡ journal m j
+  took-journal : (j : ℕ) → j < journalCount → journal m' j ≡ journal m j
   unfolding journal
-  took-journal j =
-      ap (λ (n : ℕ). tab n (λ i. noteOf (noteAddress m' j i) (oldPlace (m' .words) j i))) (length-same j)
-      ∙ tab-same (journalLength words j) _ (λ i. noteOf (noteAddress m j i) (oldPlace (m .words) j i))
-      (λ i. ap (λ (x : ℕ). noteOf x (oldPlace (m' .words) j i)) (address-same j i) ∙ ap (noteOf (noteAddress m j i)) (let c = slots-same in let r = ap (λ (x : ℕ). x * j) room-same in omega arith))
+  took-journal j lj =
+      ap (λ (n : ℕ). tab n (λ i. noteOf (noteAddress m' j i) (oldPlace (m' .words) j i))) (length-same j lj)
+      ∙ tab-upto (journalLength words j) _ (λ i. noteOf (noteAddress m j i) (oldPlace (m .words) j i))
+      (λ i li.
+      let cap = facts .in-capacity j lj in
+      ap (λ (x : ℕ). noteOf x (oldPlace (m' .words) j i)) (address-same j i lj (omega arith)) ∙ ap (noteOf (noteAddress m j i)) (let c = slots-same in let r = ap (λ (x : ℕ). x * j) room-same in omega arith))
+
+  view-journal : (j : ℕ) → viewOf m' .journal j ≡ viewOf m .journal j
+  view-journal j =
+      ⊎-elim
+      (λ (l : j < journalCount). ap (λ (x : List Note). cond (ltb j journalCount) x []) (took-journal j l))
+      (λ (l : journalCount ≤ j). rw (le-ltb j journalCount l) refl)
+      (lt-or-ge j journalCount)
 
   -- ---- where the key is that of chunk n of page p
   module _ (p n : ℕ) (listed : allocated m p ≡ true) (near : n ≤ 16777216) (is : k ≡ keyOf (entryOf m p) n) where
@@ -309,8 +338,10 @@ module _ (bytes keys order words keys' order' words' : List ℕ) (f : WellFormed
         (λ (e : q ≡ p → ⊥). rw (ne-eqb q p e) (took-other q j (λ l h. e (page-same q (omega arith)))))
         (same-or-not q p))
 
-    pub took-pool : freeCount (holders m') ≡ freeCount (holders m) - missing (holds m p) n 1
+    pub took-pool : pool m' ≡ pool m - missing (holds m p) n 1
     took-pool =
+        let before = pool-count m f in
+        let after = pool-count m' took-formed in
         let a = t .grown .left in
         let b = missing-one (holds m p) n in
         let d : lacks (holders m) k ≡ cond (holds m p n) 0 1 = ap (lacks (holders m)) is ∙ lacks-is m f p n near in
@@ -321,6 +352,5 @@ module _ (bytes keys order words keys' order' words' : List ℕ) (f : WellFormed
       formed = took-formed;
       setting = took-setting;
       view =
-          view-by (viewOf m') (holding p n 1 (viewOf m)) took-bytes took-held took-pool took-allocated took-entries dynamic-same
-          (λ j. ap (λ (x : List Note). cond (ltb j journalCount) x []) (took-journal j));
+          view-by (viewOf m') (holding p n 1 (viewOf m)) took-bytes took-held took-pool took-allocated took-entries dynamic-same view-journal;
     }

@@ -13,7 +13,8 @@ use Rattle.view.proofs.Missing.{missing-more, missing-one, missing-le}
 use Rattle.formed.proofs.Asks.{slots-asked}
 use Rattle.index.specs.Index.{seek, LowerBound}
 use Rattle.index.proofs.Places.{seek-hit}
-use Rattle.store.specs.Mem.{Mem, mem, slotCount, heldNow, holders, entries, slotOrder}
+use Rattle.bits.specs.Bits.{onesOf}
+use Rattle.store.specs.Mem.{Mem, mem, slotCount, poolWords, holders, entries, slotOrder}
 use Rattle.store.specs.Indexed.{Ranked}
 use Rattle.pool.specs.Hold.{lacks, Held}
 use Rattle.store.specs.Find.{HintLearnt}
@@ -21,7 +22,8 @@ use Rattle.pool.proofs.Holds.{held-le}
 use Rattle.formed.specs.Parts.{entryOf, slotOfChunk, allocated, holds}
 use Rattle.formed.specs.WellFormed.{WellFormed}
 use Rattle.formed.proofs.Keys.{key-entry, key-chunk}
-use Rattle.formed.proofs.Sense.{pool-is, slot-near}
+use Rattle.formed.proofs.Meaning.{pooling-of}
+use Rattle.formed.proofs.Sense.{slot-near}
 use Rattle.view.specs.View.{View, Setting, viewOf, settingOf}
 use Rattle.view.specs.Steps.{missing}
 use Rattle.view.specs.Does.{Shows}
@@ -47,7 +49,7 @@ module _ (bytes keys order words : List ℕ) (f : WellFormed (mem bytes keys ord
       omega arith
 
   pub held-took : (s : ℕ) (keys' order' words' : List ℕ) → Held k keys order words s keys' order' words' → Took k keys order words keys' order' words'
-  held-took s keys' order' words' h = took k keys order words (slots-asked m f) (omega arith) s keys' order' words' h
+  held-took s keys' order' words' h = took k keys order words (slots-asked m f) (pooling-of m f) (omega arith) s keys' order' words' h
 
   pub held-shows : (s : ℕ) (keys' order' words' : List ℕ) → Held k keys order words s keys' order' words' → Shows (settingOf m) (holding p n 1 (viewOf m)) (mem bytes keys' order' words')
   held-shows s keys' order' words' h =
@@ -80,12 +82,11 @@ module _ (m₀ : Mem) (p k count : ℕ) (asks : HoldAsks m₀ p k count) (i : �
   listed-now : allocated m₁ p ≡ true
   listed-now = ap (λ (v : View). v .allocated p) (a .shows .view) ∙ asks .listed
 
-  pub turn-room : lacks (take (slotCount words) keys) key + heldNow words ≤ slotCount words
+  pub turn-room : lacks (take (slotCount words) keys) key ≤ onesOf (poolWords words)
   turn-room =
       let f = a .shows .formed in
       let l : lacks (holders m₁) key ≡ cond (holds m₀ p (k + i)) 0 1 =
       ap (lacks (holders m₁)) key-now ∙ lacks-is m₁ f p (k + i) near ∙ ap (λ (v : View). cond (v .held p (k + i)) 0 1) (a .shows .view) ∙ ap (λ (b : Bool). cond b 0 1) (next-held p k (viewOf m₀) i) in
-      let q = pool-is m₁ f in
       let g = ap (λ (v : View). v .pool) (a .shows .view) in
       let s = missing-more (viewOf m₀ .held p) k i in
       let t = missing-le (viewOf m₀ .held p) k count (i + 1) (omega arith) in
@@ -139,7 +140,7 @@ module _ (bytes keys order words : List ℕ) (p n : ℕ) (asks : HoldAsks (mem b
   abbrev m₂ : Mem
   m₂ = mem bytes keys order words
 
-  pub one-room : lacks (take (slotCount words) keys) key + heldNow words ≤ slotCount words
+  pub one-room : lacks (take (slotCount words) keys) key ≤ onesOf (poolWords words)
   one-room = turn-room m₂ p n 1 asks 0 (omega arith) bytes keys order words (after-none m₂ p n (asks .formed)) (entryOf m₂ p) key refl (omega arith)
 
   pub one-held : (s : ℕ) (keys' order' words' : List ℕ) → Held key keys order words s keys' order' words' → After m₂ p n 1 (mem bytes keys' order' words')

@@ -26,7 +26,8 @@ use Rattle.formed.specs.WellFormed.{WellFormed, HeldAt, holder, slotByte}
 use Rattle.formed.proofs.Sizes.{holders-long, entries-long}
 use Rattle.formed.proofs.Keys.{seek-is, key-again}
 use Rattle.formed.proofs.Pages.{is-fixed}
-use Rattle.formed.proofs.Meaning.{slots-index, pages-index, page-once}
+use Rattle.formed.proofs.Meaning.{slots-index, pages-index, page-once, pooling-of}
+use Rattle.store.proofs.Pool.{pooling-kept}
 use Rattle.formed.proofs.Sense.{left-is, held-holds, holds-held}
 use Rattle.view.specs.View.{View, Setting, viewOf, settingOf}
 use Rattle.view.specs.Steps.{freed}
@@ -80,7 +81,7 @@ module _ (bytes keys order words bytes' keys' order' words' : List ℕ) (p lo hi
   f = a .page .formed
 
   slots-same : slotCount words' ≡ slotCount words
-  slots-same = g .head 6 (λ e. omega arith)
+  slots-same = g .head 6 (let h = f .lengths .in-words in omega arith) (λ e. omega arith) (λ e. omega arith)
 
   slots : (s : ℕ) → holder m' s ≡ cond (within from to (holder m s)) 0 (holder m s)
   slots s =
@@ -116,7 +117,7 @@ module _ (bytes keys order words bytes' keys' order' words' : List ℕ) (p lo hi
 
   thinned : Thinned (within from to) (λ x. false) m m'
   thinned = record {
-    head = λ i n _. g .head i n;
+    head = λ i l n _ e. g .head i l n e;
     bytes-long = g .bytes-long;
     keys-long = g .keys-long;
     order-long = g .order-long;
@@ -129,7 +130,8 @@ module _ (bytes keys order words bytes' keys' order' words' : List ℕ) (p lo hi
     pages-index =
         ap (λ (x : List ℕ). indexed x (pageOrder m') (inUse words')) pages-same
         ∙ ap (λ (x : List ℕ). indexed (entries m) x (inUse words')) (ap (λ (x : ℕ). drop x order') slots-same ∙ g .order-rest)
-        ∙ ap (indexed (entries m) (pageOrder m)) (g .head 10 (λ e. omega arith)) ∙ pages-index m f;
+        ∙ ap (indexed (entries m) (pageOrder m)) (g .head 10 (let h = f .lengths .in-words in omega arith) (λ e. omega arith) (λ e. omega arith)) ∙ pages-index m f;
+    pool = g .pooling-still;
     fixed-keys = λ k e. let d = dropped-entry k e in let h = entry-past m p (a .page) in omega arith;
     fixed-pages = λ e u. absurd (false≢true u);
     known = λ s h n. refl;
@@ -265,7 +267,7 @@ module _ (bytes keys order words : List ℕ) (p : ℕ) (a : UnlistAsks (mem byte
 
       thinned-n : Thinned (λ k. false) (λ x. eqb x (p + 1)) n n'
       thinned-n = record {
-        head = λ i _ ne. head i ne;
+        head = λ i l _ ne _. head i ne;
         bytes-long = refl;
         keys-long = rest-long keys e₁ in-keys (rm .cleared .long);
         order-long = rest-long order e₂ in-order (rm .order-long);
@@ -280,6 +282,9 @@ module _ (bytes keys order words : List ℕ) (p : ℕ) (a : UnlistAsks (mem byte
         pages-index =
             ap (λ (x : List ℕ). indexed x (pageOrder n') (inUse words₁)) entries-n ∙ ap (λ (x : List ℕ). indexed e₁ x (inUse words₁)) page-order-n
             ∙ ap (indexed e₁ e₂) (in-use-n ∙ sym one-less) ∙ rm .index;
+        pool =
+            pooling-kept words words₁ (length-set words 10 (inUse words - 1)) slots-n (λ i l. head i (λ e. let h = fn .lengths .in-words in omega arith)) keys keys₁ holders-n (head 15 (λ e. omega arith))
+            (pooling-of n fn);
         fixed-keys = λ k e. absurd (false≢true e);
         fixed-pages = λ e u. let q = only-entry n p (a .page) e (eqb-true (getD (entries n) e 0) (p + 1) u) in let h = entry-past n p (a .page) in omega arith;
         known = λ s h _. unlisted s h;

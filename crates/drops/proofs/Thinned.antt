@@ -2,23 +2,26 @@
 -- Assumes nothing.
 use mathlib.Core.Path.{_≡_, refl, sym, ap, _∙_, subst, fun-ext}
 use mathlib.Core.Bool.{Bool, true, false, cond, not, _&&_, false≢true}
+use mathlib.Core.Logic.{⊎-elim}
 use mathlib.Core.List.{List, []}
 use Prim.Native.Nat.{ℕ, _+_, _*_, _-_, _/_, _%_, _≤_, _<_}
 use native.Mathlib.Omega.{arith}
 use lib.Dec.{ltb}
 use lib.ListN.{length, getD}
-use borrow.Author.Tests.{ltb-true}
+use borrow.Author.Tests.{ltb-true, le-ltb}
 use Rattle.store.specs.Keys.{keyOf, keyEntry, keyChunk}
-use Rattle.index.proofs.Logic.{not-held}
+use Rattle.index.proofs.Logic.{not-held, lt-or-ge}
 use Rattle.index.specs.Index.{indexed}
 use Rattle.index.proofs.Places.{seek-hit}
 use Rattle.page_ids.specs.declared.Layout.{Layout}
-use Rattle.store.specs.Mem.{Mem, layoutOf, slotCount, journalWords, journalLength, heldNow, inUse, dynamicLength, holders, entries, slotOrder, pageOrder}
+use Rattle.store.specs.Mem.{Mem, layoutOf, slotCount, journalWords, journalLength, heldNow, inUse, dynamicLength, poolPlace, holders, entries, slotOrder, pageOrder}
+use Rattle.store.specs.Pool.{Pooling}
 use Rattle.formed.specs.Pages.{LayoutRule, dynamic, group, journalCount, journalPlace}
 use Rattle.formed.specs.Parts.{Note, tab, entryOf, allocated, slotOfChunk, holds, byteAt, journal, notePlace, noteAddress, noteFirst, noteLast, oldPlace}
 use Rattle.formed.specs.WellFormed.{WellFormed, Lengths, NotedRight, HeldAt, holder, slotByte}
 use Rattle.formed.proofs.Sizes.{holders-long, lengths-kept}
-use Rattle.formed.proofs.Same.{layout-same, tab-same}
+use Rattle.formed.proofs.Same.{layout-same, tab-same, tab-upto}
+use Rattle.formed.proofs.Numbers.{number-lt}
 use Rattle.formed.proofs.Keys.{in-table, key-entry}
 use Rattle.formed.proofs.Pages.{place-lt}
 use Rattle.formed.proofs.Facts.{Facts, PageRight, SlotRight}
@@ -32,7 +35,7 @@ use Rattle.view.proofs.Dropping.{without-shows}
 -- m' is m with the slots pooled whose keys the test P tells, and the entries free whose numbers the test U tells. Neither is of a fixed page,
 -- and no slot that is held still has such an entry
 pub record Thinned (P U : ℕ → Bool) (m m' : Mem) : Type 0 where
-  pub head : (i : ℕ) → (i ≡ 9 → ⊥) → (i ≡ 10 → ⊥) → getD (m' .words) i 0 ≡ getD (m .words) i 0
+  pub head : (i : ℕ) → i < poolPlace (m .words) → (i ≡ 9 → ⊥) → (i ≡ 10 → ⊥) → (i ≡ 15 → ⊥) → getD (m' .words) i 0 ≡ getD (m .words) i 0
   pub bytes-long : length (m' .bytes) ≡ length (m .bytes)
   pub keys-long : length (m' .keys) ≡ length (m .keys)
   pub order-long : length (m' .order) ≡ length (m .order)
@@ -43,6 +46,7 @@ pub record Thinned (P U : ℕ → Bool) (m m' : Mem) : Type 0 where
   pub rest : (x : ℕ) → 256 * slotCount (m .words) ≤ x → getD (m' .bytes) x 0 ≡ getD (m .bytes) x 0
   pub slots-index : indexed (holders m') (slotOrder m') (heldNow (m' .words)) ≡ true
   pub pages-index : indexed (entries m') (pageOrder m') (inUse (m' .words)) ≡ true
+  pub pool : Pooling (m' .keys) (m' .words)
   pub fixed-keys : (k : ℕ) → P k ≡ true → 4 ≤ keyEntry k
   pub fixed-pages : (e : ℕ) → U (getD (entries m) e 0) ≡ true → 4 ≤ e
   pub known : (s : ℕ) → 0 < holder m s → P (holder m s) ≡ false → U (getD (entries m) (keyEntry (holder m s)) 0) ≡ false
@@ -67,8 +71,12 @@ module _ (P U : ℕ → Bool) (m m' : Mem) (f : WellFormed m) (t : Thinned P U m
   facts : Facts m
   facts = facts-of m f
 
+  -- the head and the journals lie before the pool
+  before : 16 + 6 * journalWords (m .words) ≡ poolPlace (m .words)
+  before = let h = f .lengths .in-words in omega arith
+
   words-same : (i : ℕ) → (i < 9) → getD (m' .words) i 0 ≡ getD (m .words) i 0
-  words-same i l = t .head i (λ e. omega arith) (λ e. omega arith)
+  words-same i l = t .head i (let h = before in omega arith) (λ e. omega arith) (λ e. omega arith) (λ e. omega arith)
 
   slots-same : slotCount (m' .words) ≡ slotCount (m .words)
   slots-same = words-same 6 (omega arith)
@@ -80,10 +88,10 @@ module _ (P U : ℕ → Bool) (m m' : Mem) (f : WellFormed m) (t : Thinned P U m
   layouts-same = layout-same (m .words) (m' .words) (λ i l. words-same i (omega arith))
 
   dynamic-same : dynamicLength (m' .words) ≡ dynamicLength (m .words)
-  dynamic-same = t .head 11 (λ e. omega arith) (λ e. omega arith)
+  dynamic-same = t .head 11 (let h = before in omega arith) (λ e. omega arith) (λ e. omega arith) (λ e. omega arith)
 
-  length-same : (j : ℕ) → journalLength (m' .words) j ≡ journalLength (m .words) j
-  length-same j = t .head (12 + j) (λ e. omega arith) (λ e. omega arith)
+  length-same : (j : ℕ) → j < journalCount → journalLength (m' .words) j ≡ journalLength (m .words) j
+  length-same j l = t .head (12 + j) (let h = before in omega arith) (λ e. omega arith) (λ e. omega arith) (λ e. omega arith)
 
   -- ---- it is well formed
   lengths' : Lengths m'
@@ -149,11 +157,16 @@ module _ (P U : ℕ → Bool) (m m' : Mem) (f : WellFormed m) (t : Thinned P U m
       omega arith
 
   -- number x of word i of journal j
-  note-same : (j i x : ℕ) → getD (m' .words) (notePlace (m' .words) j i + x) 0 ≡ getD (m .words) (notePlace (m .words) j i + x) 0
-  note-same j i x = ap (λ (r : ℕ). getD (m' .words) (16 + 3 * (r * j + i) + x) 0) room-same ∙ t .head (notePlace (m .words) j i + x) (λ e. omega arith) (λ e. omega arith)
+  note-same : (j i x : ℕ) → j < journalCount → i < journalWords (m .words) → x < 3 → getD (m' .words) (notePlace (m' .words) j i + x) 0 ≡ getD (m .words) (notePlace (m .words) j i + x) 0
+  note-same j i x lj li lx =
+      ap (λ (r : ℕ). getD (m' .words) (16 + 3 * (r * j + i) + x) 0) room-same
+      ∙ t .head (notePlace (m .words) j i + x) (let n = number-lt (journalWords (m .words)) j i journalCount lj li in let h = before in omega arith) (λ e. omega arith) (λ e. omega arith) (λ e. omega arith)
 
-  address-same : (j i : ℕ) → noteAddress m' j i ≡ noteAddress m j i
-  address-same j i = ap (λ (r : ℕ). getD (m' .words) (16 + 3 * (r * j + i)) 0) room-same ∙ t .head (notePlace (m .words) j i) (λ e. omega arith) (λ e. omega arith)
+  address-same : (j i : ℕ) → j < journalCount → i < journalWords (m .words) → noteAddress m' j i ≡ noteAddress m j i
+  address-same j i lj li =
+      let z : notePlace (m' .words) j i ≡ notePlace (m' .words) j i + 0 = omega arith in
+      let y : notePlace (m .words) j i + 0 ≡ notePlace (m .words) j i = omega arith in
+      ap (λ (x : ℕ). getD (m' .words) x 0) z ∙ note-same j i 0 lj li (omega arith) ∙ ap (λ (x : ℕ). getD (m .words) x 0) y
 
   -- a slot of a fixed page is as it was
   fixed-kept : (s j k : ℕ) → j < journalCount → k < 33554432 → holder m s ≡ keyOf (journalPlace j) k → holder m' s ≡ holder m s
@@ -166,14 +179,15 @@ module _ (P U : ℕ → Bool) (m m' : Mem) (f : WellFormed m) (t : Thinned P U m
 
   notes' : (j i : ℕ) → j < journalCount → i < journalLength (m' .words) j → NotedRight m' j i
   notes' j i lj li =
-      let l = length-same j in
+      let l = length-same j lj in
       let n = facts .notes j i lj (omega arith) in
-      let a = address-same j i in
+      let c = facts .in-capacity j lj in
+      let a = address-same j i lj (omega arith) in
       let w = n .address in
       record {
         address = omega arith;
-        first = ap (holder m') (note-same j i 1) ∙ fixed-kept (noteFirst m j i) j (noteAddress m j i / 256) lj (omega arith) (n .first) ∙ n .first ∙ ap (λ (x : ℕ). keyOf (journalPlace j) (x / 256)) (sym a);
-        last = ap (holder m') (note-same j i 2) ∙ fixed-kept (noteLast m j i) j ((noteAddress m j i + 31) / 256) lj (omega arith) (n .last) ∙ n .last ∙ ap (λ (x : ℕ). keyOf (journalPlace j) ((x + 31) / 256)) (sym a);
+        first = ap (holder m') (note-same j i 1 lj (omega arith) (omega arith)) ∙ fixed-kept (noteFirst m j i) j (noteAddress m j i / 256) lj (omega arith) (n .first) ∙ n .first ∙ ap (λ (x : ℕ). keyOf (journalPlace j) (x / 256)) (sym a);
+        last = ap (holder m') (note-same j i 2 lj (omega arith) (omega arith)) ∙ fixed-kept (noteLast m j i) j ((noteAddress m j i + 31) / 256) lj (omega arith) (n .last) ∙ n .last ∙ ap (λ (x : ℕ). keyOf (journalPlace j) ((x + 31) / 256)) (sym a);
       }
 
   pub thinned-formed : WellFormed m'
@@ -188,7 +202,8 @@ module _ (P U : ℕ → Bool) (m m' : Mem) (f : WellFormed m) (t : Thinned P U m
     listed = listed';
     pooled = pooled';
     held = held';
-    in-capacity = λ j l. let h = facts .in-capacity j l in let a = length-same j in let b = room-same in omega arith;
+    pool = t .pool;
+    in-capacity = λ j l. let h = facts .in-capacity j l in let a = length-same j l in let b = room-same in omega arith;
     notes = notes';
   })
 
@@ -288,18 +303,27 @@ module _ (P U : ℕ → Bool) (m m' : Mem) (f : WellFormed m) (t : Thinned P U m
     abbrev noteOf : Mem → ℕ → ℕ → Note
     noteOf n j i = record { address = noteAddress n j i; old = tab 32 (λ x. getD (n .bytes) (oldPlace (n .words) j i + x) 0) }
 
-    journal-same : (j : ℕ) → journal m' j ≡ journal m j
+    journal-same : (j : ℕ) → j < journalCount → journal m' j ≡ journal m j
     unfolding journal
-    journal-same j =
-        ap (λ (n : ℕ). tab n (noteOf m' j)) (length-same j)
-        ∙ tab-same (journalLength (m .words) j) (noteOf m' j) (noteOf m j)
-        (λ i. rw (address-same j i) (ap (λ (o : List ℕ). record { address = noteAddress m j i; old = o })
+    journal-same j lj =
+        ap (λ (n : ℕ). tab n (noteOf m' j)) (length-same j lj)
+        ∙ tab-upto (journalLength (m .words) j) (noteOf m' j) (noteOf m j)
+        (λ i li.
+        let cap = facts .in-capacity j lj in
+        rw (address-same j i lj (omega arith)) (ap (λ (o : List ℕ). record { address = noteAddress m j i; old = o })
         (tab-same 32 _ _ (λ x. ap (λ (y : ℕ). getD (m' .bytes) (y + x) 0) (old-same j i) ∙ t .rest (oldPlace (m .words) j i + x) (omega arith)))))
       where
         old-same : (j i : ℕ) → oldPlace (m' .words) j i ≡ oldPlace (m .words) j i
         old-same j i = let c = slots-same in let r = ap (λ (x : ℕ). x * j) room-same in omega arith
 
+    view-journal : (j : ℕ) → viewOf m' .journal j ≡ viewOf m .journal j
+    view-journal j =
+        ⊎-elim
+        (λ (l : j < journalCount). ap (λ (x : List Note). cond (ltb j journalCount) x []) (journal-same j l))
+        (λ (l : journalCount ≤ j). rw (le-ltb j journalCount l) refl)
+        (lt-or-ge j journalCount)
+
     pub thinned-shows : (free : ℕ → Bool) → ((q : ℕ) → U (q + 1) ≡ free q) → Shows (settingOf m) (without (settingOf m) D free (viewOf m)) m'
     thinned-shows free is =
         without-shows m m' D free thinned-formed setting-same bytes-now held-now (λ q. pages-now q ∙ ap (λ (b : Bool). allocated m q && not b) (is q)) dynamic-same
-        (fun-ext (λ j. ap (λ (x : List Note). cond (ltb j journalCount) x []) (journal-same j)))
+        (fun-ext view-journal)

@@ -12,7 +12,9 @@ pub const ORDER: u64 = 2;
 
 pub const WORDS: u64 = 3;
 
-// The highest count of chunks, of dynamic pages and of journal words that the buffers have space for.
+// The highest counts that the buffers have space for: of chunks, and of dynamic pages and of journal words.
+pub const LENT_CHUNKS: usize = 66;
+
 pub const MOST: usize = 16;
 
 // The bytes of a chunk.
@@ -30,14 +32,20 @@ pub const ORDER_PLACES: usize = 3;
 
 pub const HEAD: usize = 16;
 
+// The chunks that have their bits in one word of the pool.
+pub const POOL_BITS: usize = 64;
+
+// The words of the pool with the highest count of chunks.
+pub const POOL_LENGTH: usize = (LENT_CHUNKS + POOL_BITS - 1) / POOL_BITS;
+
 // The lengths of the buffers with the highest counts.
-pub const BYTES_LENGTH: usize = CHUNK * MOST + OLD_BYTES * MOST;
+pub const BYTES_LENGTH: usize = CHUNK * LENT_CHUNKS + OLD_BYTES * MOST;
 
-pub const KEYS_LENGTH: usize = MOST + MOST + FIXED_PAGES;
+pub const KEYS_LENGTH: usize = LENT_CHUNKS + MOST + FIXED_PAGES;
 
-pub const ORDER_LENGTH: usize = ORDER_PLACES * MOST + MOST + FIXED_PAGES;
+pub const ORDER_LENGTH: usize = ORDER_PLACES * LENT_CHUNKS + MOST + FIXED_PAGES;
 
-pub const WORDS_LENGTH: usize = HEAD + NOTES * MOST;
+pub const WORDS_LENGTH: usize = HEAD + NOTES * MOST + POOL_LENGTH;
 
 // A place past the end of every buffer.
 pub const NOWHERE: usize = 18446744073709551615;
@@ -55,30 +63,7 @@ pub struct Lengths {
     pub words: usize,
 }
 
-// A count that the buffers have space for. A contract has no constants, so it repeats MOST.
-fn small(x: u64) -> usize
-    ensures { λ r. ⌜ r ≤ 16 ⌝ }
-{
-    if (MOST as u64) < x {
-        return MOST;
-    }
-    x as usize
-}
-
-// The lengths that follow from the counts (docs/BUFFERS.md).
-pub fn lengths_of(chunks: u64, pages: u64, room: u64) -> Lengths {
-    let c = small(chunks);
-    let p = small(pages);
-    let j = small(room);
-    Lengths {
-        bytes: CHUNK * c + OLD_BYTES * j,
-        keys: c + p + FIXED_PAGES,
-        order: ORDER_PLACES * c + p + FIXED_PAGES,
-        words: HEAD + NOTES * j,
-    }
-}
-
-// The lesser of a length and what there is.
+// The lesser of a length or a count and what there is.
 pub fn least(length: usize, there: usize) -> usize
     ensures { λ r. ⌜ r ≤ there ⌝ }
 {
@@ -86,6 +71,19 @@ pub fn least(length: usize, there: usize) -> usize
         return there;
     }
     length
+}
+
+// The lengths that follow from the counts (docs/BUFFERS.md), or from the highest ones.
+pub fn lengths_of(chunks: u64, pages: u64, room: u64) -> Lengths {
+    let c = least(chunks as usize, LENT_CHUNKS);
+    let p = least(pages as usize, MOST);
+    let j = least(room as usize, MOST);
+    Lengths {
+        bytes: CHUNK * c + OLD_BYTES * j,
+        keys: c + p + FIXED_PAGES,
+        order: ORDER_PLACES * c + p + FIXED_PAGES,
+        words: HEAD + NOTES * j + (c + POOL_BITS - 1) / POOL_BITS,
+    }
 }
 
 pub fn peek_byte(bytes: &[u8], i: usize) -> u64 {

@@ -1,6 +1,7 @@
 -- Chains of tests.
 -- Assumes nothing.
 use mathlib.Core.Path.{_≡_, refl, sym}
+use mathlib.Core.Logic.{_⊎_, inl, inr}
 use mathlib.Core.Bool.{Bool, true, false, not, _&&_, _||_, false≢true}
 
 -- a test that cannot hold
@@ -33,6 +34,10 @@ or-on false b e = e
 pub or-left : (a b : Bool) → a ≡ true → a || b ≡ true
 or-left true b e = refl
 or-left false b e = absurd (false≢true e)
+
+pub or-either : (a b : Bool) → a || b ≡ true → (a ≡ true) ⊎ (b ≡ true)
+or-either true b e = inl refl
+or-either false b e = inr e
 
 pub not-on : (a : Bool) → not a ≡ true → a ≡ false
 not-on true e = sym e

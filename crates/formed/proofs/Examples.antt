@@ -6,10 +6,11 @@ use mathlib.Core.List.{List, [], _∷_}
 use Prim.Native.Nat.{ℕ}
 use lib.ListN.{replicate}
 use Rattle.index.specs.Index.{all, keyBefore, usedCount, indexed}
+use Rattle.bits.specs.Bits.{freeBits}
 use Rattle.store.specs.Mem.{Mem, mem}
 use Rattle.formed.specs.Buffers.{bytesFor}
 use Rattle.formed.specs.Pages.{dynamic}
-use Rattle.formed.specs.Formed.{zeros, heldRight, slotRight, sized, narrow, headRight, entryRight, journalRight, contents, wellFormed}
+use Rattle.formed.specs.Formed.{zeros, heldRight, slotRight, sized, narrow, headRight, entryRight, poolRight, journalRight, contents, wellFormed}
 use Rattle.formed.specs.WellFormed.{WellFormed}
 use Rattle.formed.proofs.Meaning.{well-formed-means}
 
@@ -21,13 +22,13 @@ abbrev order₀ : List ℕ
 order₀ = 0 ∷ 0 ∷ 0 ∷ 1 ∷ 2 ∷ 3 ∷ 4 ∷ 0 ∷ 0 ∷ 0 ∷ 0 ∷ []
 
 abbrev words₀ : List ℕ
-words₀ = 1 ∷ 4 ∷ 5 ∷ 6 ∷ 64 ∷ 8 ∷ 2 ∷ 1 ∷ 1 ∷ 1 ∷ 5 ∷ 1 ∷ 1 ∷ 0 ∷ 0 ∷ 0 ∷ 0 ∷ 0 ∷ 0 ∷ 0 ∷ 0 ∷ 0 ∷ []
+words₀ = 1 ∷ 4 ∷ 5 ∷ 6 ∷ 64 ∷ 8 ∷ 2 ∷ 1 ∷ 1 ∷ 1 ∷ 5 ∷ 1 ∷ 1 ∷ 0 ∷ 0 ∷ 0 ∷ 0 ∷ 0 ∷ 0 ∷ 0 ∷ 0 ∷ 0 ∷ 2 ∷ []
 
 abbrev memory₀ : Mem
 memory₀ = mem (replicate (bytesFor 2 1) 0) keys₀ order₀ words₀
 
 pub passes : wellFormed memory₀ ≡ true
-unfolding wellFormed sized headRight narrow contents entryRight journalRight dynamic indexed all keyBefore usedCount slotRight heldRight zeros
+unfolding wellFormed sized headRight narrow contents entryRight poolRight freeBits journalRight dynamic indexed all keyBefore usedCount slotRight heldRight zeros
 passes = refl
 
 pub inhabited : WellFormed memory₀

@@ -14,9 +14,11 @@ use Rattle.page_ids.specs.Decode.{badLayout}
 use Rattle.index.specs.Index.{all, indexed}
 use Rattle.index.proofs.Logic.{and-both, same-or-not, lt-or-ge}
 use Rattle.index.proofs.All.{all-intro}
-use Rattle.store.specs.Mem.{Mem, layoutOf, slotCount, journalWords, journalLength, heldNow, inUse, dynamicLength, holders, entries, slotOrder, pageOrder, chunkBytes}
+use Rattle.bits.specs.Bits.{freeWord}
+use Rattle.store.specs.Mem.{Mem, layoutOf, slotCount, journalWords, journalLength, heldNow, inUse, dynamicLength, poolLength, poolWord, poolSkip, holders, entries, slotOrder, pageOrder, chunkBytes}
+use Rattle.store.specs.Pool.{Pooling}
 use Rattle.formed.specs.Pages.{LayoutRule, dynamic, group, journalCount, journalPlace}
-use Rattle.formed.specs.Formed.{chunk, slotAt, sized, narrow, headRight, entryRight, noted, journalRight, contents, wellFormed}
+use Rattle.formed.specs.Formed.{chunk, slotAt, sized, narrow, headRight, entryRight, poolRight, noted, journalRight, contents, wellFormed}
 use Rattle.formed.specs.WellFormed.{holder, slotByte, Lengths, NotedRight}
 use Rattle.formed.proofs.Bools.{or-left}
 use Rattle.formed.proofs.Sizes.{sized-test, holders-long, narrow-test}
@@ -47,6 +49,7 @@ pub record Facts (m : Mem) : Type 0 where
   pub listed : (e : ℕ) → 4 ≤ e → 0 < getD (entries m) e 0 → PageRight (m .words) (getD (entries m) e 0)
   pub pooled : (s : ℕ) → s < slotCount (m .words) → holder m s ≡ 0 → (r : ℕ) → r < 256 → slotByte m s r ≡ 0
   pub held : (s : ℕ) → 0 < holder m s → SlotRight m s (holder m s)
+  pub pool : Pooling (m .keys) (m .words)
   pub in-capacity : (j : ℕ) → j < journalCount → journalLength (m .words) j ≤ journalWords (m .words)
   pub notes : (j i : ℕ) → j < journalCount → i < journalLength (m .words) j → NotedRight m j i
 
@@ -80,6 +83,16 @@ module _ (m : Mem) (f : Facts m) where
       ∙ held-test (entries m) (holder m s) (chunk (chunkBytes m) s) (r .entry) (r .top) (λ e. zero-tail (chunkBytes m) s (r .tail e)))
       (same-or-not (holder m s) 0)
 
+  pool-pass : poolRight (holders m) (m .words) ≡ true
+  unfolding poolRight
+  pool-pass =
+      let n = poolLength (slotCount (m .words)) in
+      let t = poolSkip (m .words) in
+      and-both (all (λ i. eqb (poolWord (m .words) i) (freeWord (holders m) i)) n) _
+      (all-intro (λ i. eqb (poolWord (m .words) i) (freeWord (holders m) i)) n (λ i l. eq-eqb (poolWord (m .words) i) (freeWord (holders m) i) (f .pool .bits i l)))
+      (and-both (leb t n) _ (le-leb t n (f .pool .part .skip))
+      (all-intro (λ i. eqb (poolWord (m .words) i) 0) t (λ i l. eq-eqb (poolWord (m .words) i) 0 (f .pool .part .skipped i l))))
+
   journal-pass : (j : ℕ) → j < journalCount → journalRight (holders m) (m .words) j ≡ true
   unfolding journalRight
   journal-pass j l =
@@ -98,4 +111,5 @@ module _ (m : Mem) (f : Facts m) where
       (and-both (indexed (holders m) (slotOrder m) (heldNow (m .words))) (indexed (entries m) (pageOrder m) (inUse (m .words))) (f .slots) (f .pages))
       (and-both (all (entryRight (m .words) (entries m)) (length (entries m))) _ (all-intro (entryRight (m .words) (entries m)) (length (entries m)) entry-pass)
       (and-both (all (slotAt (entries m) (holders m) (chunkBytes m)) (length (holders m))) _ (all-intro (slotAt (entries m) (holders m) (chunkBytes m)) (length (holders m)) slot-pass)
-      (all-intro (journalRight (holders m) (m .words)) journalCount journal-pass)))))
+      (and-both (poolRight (holders m) (m .words)) _ pool-pass
+      (all-intro (journalRight (holders m) (m .words)) journalCount journal-pass))))))

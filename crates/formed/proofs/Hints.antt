@@ -72,6 +72,7 @@ module _ (m : Mem) (f : WellFormed m) where
       listed = g .listed;
       pooled = g .pooled;
       held = λ s p. let x = g .held s p in record { entry = x .entry; top = x .top; tail = x .tail };
+      pool = g .pool;
       in-capacity = g .in-capacity;
       notes = λ j i l li. let x = g .notes j i l li in record { address = x .address; first = x .first; last = x .last };
     }

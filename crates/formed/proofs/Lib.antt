@@ -6,7 +6,9 @@ pub mod Pages
 pub mod Keys
 pub mod Slots
 pub mod Noted
+pub mod Numbers
 pub mod Facts
+pub mod PoolWords
 pub mod Stages
 pub mod Meaning
 pub mod Sense

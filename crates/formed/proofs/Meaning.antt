@@ -3,7 +3,7 @@
 use mathlib.Core.Path.{_≡_, refl, sym, ap, _∙_}
 use mathlib.Core.Logic.{_⊎_, inl, inr, ⊎-elim}
 use mathlib.Core.Bool.{Bool, true, false, not, _&&_, false≢true}
-use Prim.Native.Nat.{ℕ, _+_, _*_, _-_, _/_, _%_, _≤_, _<_}
+use Prim.Native.Nat.{ℕ, _+_, _*_, _-_, _/_, _%_, _^_, _≤_, _<_}
 use native.Mathlib.Omega.{arith}
 use lib.Dec.{leb, eqb}
 use lib.ListN.{length, getD, take, drop, List·getD-eq-default}
@@ -15,11 +15,15 @@ use Rattle.index.proofs.Logic.{and-left, and-right, same-or-not, lt-or-ge}
 use Rattle.index.proofs.All.{all-at}
 use Rattle.index.proofs.Places.{seek-hit, seek-upto}
 use Rattle.index.proofs.Meaning.{index-means, index-test, once}
-use Rattle.store.specs.Mem.{Mem, layoutOf, slotCount, pageCount, journalWords, journalLength, heldNow, inUse, dynamicLength, holders, entries, slotOrder, pageOrder, chunkBytes}
+use Rattle.bits.specs.Bits.{bitOf, freeBit, freeWord}
+use Rattle.bits.proofs.Free.{free-lt, free-on, free-off, free-none, free-means, free-is}
+use Rattle.store.specs.Pool.{Pooling}
+use Rattle.store.proofs.Pool.{pool-at, pool-bit}
+use Rattle.store.specs.Mem.{Mem, layoutOf, slotCount, pageCount, journalWords, journalLength, heldNow, inUse, dynamicLength, poolLength, poolWord, poolWords, poolSkip, holders, entries, slotOrder, pageOrder, chunkBytes}
 use Rattle.formed.specs.Pages.{LayoutRule, fixedId, dynamic, group, fixed, journalCount, journalPlace, journalPage}
 use Rattle.formed.specs.Parts.{entryOf, slotOfChunk, holds, byteAt, noteAddress, noteFirst, noteLast}
-use Rattle.formed.specs.Formed.{zeros, chunk, slotAt, sized, narrow, headRight, entryRight, noted, journalRight, contents, wellFormed}
-use Rattle.formed.specs.WellFormed.{holder, slotByte, Pooled, HeldAt, OnePlace, ListedAt, ListedPage, Lengths, NotedRight, WellFormed}
+use Rattle.formed.specs.Formed.{zeros, chunk, slotAt, sized, narrow, headRight, entryRight, poolRight, noted, journalRight, contents, wellFormed}
+use Rattle.formed.specs.WellFormed.{holder, slotByte, Pooled, HeldAt, OnePlace, HeldOnce, PooledOnce, ListedAt, ListedPage, Lengths, NotedRight, WellFormed}
 use Rattle.formed.proofs.Bools.{refute}
 use Rattle.formed.proofs.Sizes.{lengths-are, holders-long, entries-long, chunks-long, width-head, width-length}
 use Rattle.formed.proofs.Pages.{layout-rule, fixed-id, is-fixed, place-lt, page-means}
@@ -49,7 +53,10 @@ module _ (m : Mem) (f : wellFormed m ≡ true) where
   T₂ = all (slotAt (entries m) (holders m) (chunkBytes m)) (length (holders m))
 
   abbrev T₃ : Bool
-  T₃ = all (journalRight (holders m) (m .words)) journalCount
+  T₃ = poolRight (holders m) (m .words)
+
+  abbrev T₄ : Bool
+  T₄ = all (journalRight (holders m) (m .words)) journalCount
 
   len : Lengths m
   unfolding wellFormed
@@ -78,15 +85,20 @@ module _ (m : Mem) (f : wellFormed m ≡ true) where
 
   t₁ : T₁ ≡ true
   unfolding contents
-  t₁ = and-left T₁ (T₂ && T₃) (and-right (X₁ && X₂) (contents m) u₃)
+  t₁ = and-left T₁ (T₂ && (T₃ && T₄)) (and-right (X₁ && X₂) (contents m) u₃)
+
+  rest : T₂ && (T₃ && T₄) ≡ true
+  unfolding contents
+  rest = and-right T₁ (T₂ && (T₃ && T₄)) (and-right (X₁ && X₂) (contents m) u₃)
 
   t₂ : T₂ ≡ true
-  unfolding contents
-  t₂ = and-left T₂ T₃ (and-right T₁ (T₂ && T₃) (and-right (X₁ && X₂) (contents m) u₃))
+  t₂ = and-left T₂ (T₃ && T₄) rest
 
   t₃ : T₃ ≡ true
-  unfolding contents
-  t₃ = and-right T₂ T₃ (and-right T₁ (T₂ && T₃) (and-right (X₁ && X₂) (contents m) u₃))
+  t₃ = and-left T₃ T₄ (and-right T₂ (T₃ && T₄) rest)
+
+  t₄ : T₄ ≡ true
+  t₄ = and-right T₃ T₄ (and-right T₂ (T₃ && T₄) rest)
 
   slots-once : (s t : ℕ) → 0 < holder m s → holder m s ≡ holder m t → s ≡ t
   slots-once = once (holders m) (slotOrder m) (heldNow (m .words)) x₁
@@ -113,18 +125,64 @@ module _ (m : Mem) (f : wellFormed m ≡ true) where
   facts : (s : ℕ) → 0 < holder m s → (0 < getD (entries m) (keyEntry (holder m s)) 0) × (keyChunk (holder m s) ≤ 16777216) × (keyChunk (holder m s) ≡ 16777216 → zeros (drop 31 (chunk (chunkBytes m) s)) ≡ true)
   facts s p = held-means (entries m) (holder m s) (chunk (chunkBytes m) s) (slot-hold (entries m) (holders m) (chunkBytes m) s (slot-right s (held-in s p)) p)
 
-  each : (s : ℕ) → s < slotCount (m .words) → OnePlace m s ⊎ Pooled m s
+  -- the pool
+  abbrev P₁ : ℕ → Bool
+  P₁ i = eqb (poolWord (m .words) i) (freeWord (holders m) i)
+
+  abbrev P₂ : ℕ → Bool
+  P₂ i = eqb (poolWord (m .words) i) 0
+
+  abbrev n : ℕ
+  n = poolLength (slotCount (m .words))
+
+  abbrev t : ℕ
+  t = poolSkip (m .words)
+
+  pool-rest : leb t n && all P₂ t ≡ true
+  unfolding poolRight
+  pool-rest = and-right (all P₁ n) (leb t n && all P₂ t) t₃
+
+  pooling : Pooling (m .keys) (m .words)
+  unfolding poolRight
+  pooling = record {
+    part = record {
+      few = len .chunks-hi;
+      room = let h = len .in-words in omega arith;
+      skip = leb-true t n (and-left (leb t n) (all P₂ t) pool-rest);
+      skipped = λ i l. eqb-true (poolWord (m .words) i) 0 (all-at P₂ t i (and-right (leb t n) (all P₂ t) pool-rest) l);
+    };
+    bits = λ i l. eqb-true (poolWord (m .words) i) (freeWord (holders m) i) (all-at P₁ n i (and-left (all P₁ n) (leb t n && all P₂ t) t₃) l);
+  }
+
+  in-keys : slotCount (m .words) ≤ length (m .keys)
+  in-keys = let h = len .in-keys in omega arith
+
+  -- a slot is pooled exactly where it holds nothing
+  pooled-unheld : (s : ℕ) → Pooled m s → (s < slotCount (m .words)) × (holder m s ≡ 0)
+  pooled-unheld s b =
+      let h = free-means (holders m) s (sym (pool-bit (m .keys) (m .words) pooling in-keys s) ∙ b) in
+      let l = hs-long in
+      let i = h .0 in
+      (omega arith, h .1)
+
+  unheld-pooled : (s : ℕ) → s < slotCount (m .words) → holder m s ≡ 0 → Pooled m s
+  unheld-pooled s l z = pool-bit (m .keys) (m .words) pooling in-keys s ∙ free-on (holders m) s (let h = hs-long in omega arith) z
+
+  each : (s : ℕ) → s < slotCount (m .words) → HeldOnce m s ⊎ PooledOnce m s
   each s l =
       ⊎-elim
-      (λ (z : holder m s ≡ 0). inr z)
+      (λ (z : holder m s ≡ 0). inr (record { pooled = unheld-pooled s l z; unheld = z }))
       (λ (n : holder m s ≡ 0 → ⊥).
       let p : 0 < holder m s = omega arith in
       let g = facts s p .0 in
       inl (record {
-        page = getD (entries m) (keyEntry (holder m s)) 0 - 1;
-        chunk = keyChunk (holder m s);
-        there = record { held = p; page = omega arith; chunk = refl };
-        only = λ q k h. (let e = h .page in omega arith, sym (h .chunk));
+        place = record {
+          page = getD (entries m) (keyEntry (holder m s)) 0 - 1;
+          chunk = keyChunk (holder m s);
+          there = record { held = p; page = omega arith; chunk = refl };
+          only = λ q k h. (let e = h .page in omega arith, sym (h .chunk));
+        };
+        not-pooled = λ b. n (pooled-unheld s b .1);
       }))
       (same-or-not (holder m s) 0)
 
@@ -157,7 +215,7 @@ module _ (m : Mem) (f : wellFormed m ≡ true) where
       (le-or-gt (a / 256) 16777216)
 
   clean : (s r : ℕ) → s < slotCount (m .words) → Pooled m s → r < 256 → slotByte m s r ≡ 0
-  clean s r l z h = chunk-zero (chunkBytes m) s (slot-pool (entries m) (holders m) (chunkBytes m) s (slot-right s l) z) r h
+  clean s r l z h = chunk-zero (chunkBytes m) s (slot-pool (entries m) (holders m) (chunkBytes m) s (slot-right s l) (pooled-unheld s z .1)) r h
 
   -- the pages
   entry-right : (e : ℕ) → e < pageCount (m .words) + 4 → entryRight (m .words) (entries m) e ≡ true
@@ -189,7 +247,7 @@ module _ (m : Mem) (f : wellFormed m ≡ true) where
 
   -- the journals
   journal-right : (j : ℕ) → j < journalCount → journalRight (holders m) (m .words) j ≡ true
-  journal-right j l = all-at (journalRight (holders m) (m .words)) journalCount j t₃ l
+  journal-right j l = all-at (journalRight (holders m) (m .words)) journalCount j t₄ l
 
   abbrev J₂ : ℕ → Bool
   J₂ j = all (noted (holders m) (take (3 * journalWords (m .words)) (drop (16 + 3 * journalWords (m .words) * j) (m .words))) (keyOf (journalPlace j) 0)) (journalLength (m .words) j)
@@ -232,6 +290,7 @@ module _ (m : Mem) (f : wellFormed m ≡ true) where
     lengths = len;
     layout = rule;
     each-once = each;
+    none-past = λ s l b. let i = pooled-unheld s b .0 in omega arith;
     no-two = two;
     none-above = λ s p k h. let l = facts s (h .held) .1 in let e = h .chunk in omega arith;
     zero-past = past;
@@ -250,6 +309,9 @@ module _ (m : Mem) (f : wellFormed m ≡ true) where
       layout-width = width-head (m .words) thin;
       length-width = width-length (m .words) thin;
       page-width = λ e p h. page-facts e p h .0;
+      pool-width = λ i l. let e = pooling .bits i l in let h = free-lt (holders m) (64 * i) 64 in omega arith;
+      pool-skip = pooling .part .skip;
+      pool-skipped = pooling .part .skipped;
     };
   }
 
@@ -298,7 +360,45 @@ module _ (m : Mem) (f : WellFormed m) where
   slot-right-of s p =
       let h = holders-long m (f .lengths) in
       let l = in-table (holders m) s p in
-      ⊎-elim (λ (o : OnePlace m s). held-right s p o) (λ (z : holder m s ≡ 0). absurd (omega arith)) (f .each-once s (omega arith))
+      ⊎-elim (λ (o : HeldOnce m s). held-right s p (o .place)) (λ (o : PooledOnce m s). absurd (let z = o .unheld in omega arith)) (f .each-once s (omega arith))
+
+  -- the pool: each bit of its words is that of the slot's key
+  in-table-keys : slotCount (m .words) ≤ length (m .keys)
+  in-table-keys = let h = f .lengths .in-keys in omega arith
+
+  no-bit : (s : ℕ) → (Pooled m s → ⊥) → bitOf (poolWords (m .words)) s ≡ 0
+  no-bit s n = let g : bitOf (poolWords (m .words)) s < 2 = omega arith in omega arith
+
+  bit-is : (s : ℕ) → bitOf (poolWords (m .words)) s ≡ freeBit (holders m) s
+  bit-is s =
+      let h = holders-long m (f .lengths) in
+      ⊎-elim
+      (λ (l : s < slotCount (m .words)).
+      ⊎-elim
+      (λ (o : HeldOnce m s). no-bit s (o .not-pooled) ∙ sym (free-off (holders m) s (o .place .there .held)))
+      (λ (o : PooledOnce m s). o .pooled ∙ sym (free-on (holders m) s (omega arith) (o .unheld)))
+      (f .each-once s l))
+      (λ (l : slotCount (m .words) ≤ s). no-bit s (f .none-past s l) ∙ sym (free-none (holders m) s (omega arith)))
+      (lt-or-ge s (slotCount (m .words)))
+
+  pub pooling-of : Pooling (m .keys) (m .words)
+  pooling-of = record {
+    part = record {
+      few = f .lengths .chunks-hi;
+      room = let h = f .lengths .in-words in omega arith;
+      skip = f .encoded .pool-skip;
+      skipped = f .encoded .pool-skipped;
+    };
+    bits = λ i l.
+        free-is (holders m) (64 * i) 64 (poolWord (m .words) i) (f .encoded .pool-width i l)
+        (λ r lr.
+        let q : (64 * i + r) / 64 ≡ i = omega arith in
+        let e : (64 * i + r) % 64 ≡ r = omega arith in
+        ap (λ (x : ℕ). x / 2 ^ r % 2) (sym (pool-at (m .words) i)) ∙ sym (rw (q, e)) ∙ bit-is (64 * i + r));
+  }
+
+  unheld-pool : (s : ℕ) → s < slotCount (m .words) → holder m s ≡ 0 → Pooled m s
+  unheld-pool s l z = bit-is s ∙ free-on (holders m) s (let h = holders-long m (f .lengths) in omega arith) z
 
   -- the facts, each once
   pub facts-of : Facts m
@@ -314,8 +414,9 @@ module _ (m : Mem) (f : WellFormed m) where
         let q : getD (entries m) e 0 ≡ getD (entries m) e 0 - 1 + 1 = omega arith in
         let h : ListedAt m e (getD (entries m) e 0 - 1) = record { past-fixed = ge; there = q } in
         record { width = let w = f .encoded .page-width e (getD (entries m) e 0 - 1) h in omega arith; kind = f .pages-dynamic e (getD (entries m) e 0 - 1) h; below = f .pages-below e (getD (entries m) e 0 - 1) h };
-    pooled = λ s l z r lr. f .pooled-zero s r l z lr;
+    pooled = λ s l z r lr. f .pooled-zero s r l (unheld-pool s l z) lr;
     held = slot-right-of;
+    pool = pooling-of;
     in-capacity = f .in-capacity;
     notes = f .encoded .notes;
   }

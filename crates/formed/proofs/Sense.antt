@@ -10,20 +10,21 @@ use lib.ListN.{length, getD, List·getD-eq-default}
 use borrow.Author.Tests.{lt-ltb, le-leb, lt-leb, ltb-true, ltb-false}
 use Rattle.page_ids.specs.Decode.{Page, none, page, decoded, isNone, isDynamic, isFixed}
 use Rattle.store.specs.Keys.{keyOf, keyEntry, keyChunk}
-use Rattle.index.specs.Index.{seek}
+use Rattle.index.specs.Index.{seek, freeCount}
 use Rattle.index.proofs.Logic.{lt-or-ge}
 use Rattle.index.proofs.Counts.{used-free}
 use Rattle.index.proofs.Orders.{index-count}
 use Rattle.index.proofs.Places.{seek-hit, seek-upto}
 use Rattle.store.specs.Mem.{Mem, layoutOf, slotCount, pageCount, heldNow, inUse, holders, entries, slotOrder, pageOrder, chunkBytes}
+use Rattle.store.proofs.Pool.{pool-free}
 use Rattle.formed.specs.Pages.{fixed, dynamic}
 use Rattle.formed.specs.Parts.{entryOf, allocated, entriesLeft, slotOfChunk, holds, pool, byteAt}
-use Rattle.formed.specs.WellFormed.{holder, slotByte, HeldAt, OnePlace, ListedPage, WellFormed}
+use Rattle.formed.specs.WellFormed.{holder, slotByte, HeldAt, HeldOnce, PooledOnce, ListedPage, WellFormed}
 use Rattle.formed.proofs.Bools.{refute}
 use Rattle.formed.proofs.Sizes.{holders-long, entries-long, chunks-long}
 use Rattle.formed.proofs.Pages.{is-fixed, fixed-at}
 use Rattle.formed.proofs.Keys.{le-or-gt, in-table, seek-is, key-entry, key-chunk, key-again}
-use Rattle.formed.proofs.Meaning.{slots-index, pages-index, slot-once, page-once}
+use Rattle.formed.proofs.Meaning.{slots-index, pages-index, slot-once, page-once, pooling-of}
 
 no-kind : (d : Page) → isNone d ≡ true → (isFixed d ≡ false) × (isDynamic d ≡ false)
 no-kind none u = (refl, refl)
@@ -45,8 +46,13 @@ unfolding holds
 holds-near m p k l = rw (slot-near m p k l)
 
 module _ (m : Mem) (f : WellFormed m) where
+  -- the bits set are those of the slots that hold nothing
+  pub pool-count : pool m ≡ freeCount (holders m)
+  pool-count = pool-free (m .keys) (m .words) (pooling-of m f) (let h = f .lengths .in-keys in omega arith)
+
   pub pool-is : pool m + heldNow (m .words) ≡ slotCount (m .words)
   pool-is =
+      let p = pool-count in
       let a = used-free (holders m) in
       let b = index-count (holders m) (slotOrder m) (heldNow (m .words)) (slots-index m f) in
       let c = holders-long m (f .lengths) in
@@ -86,7 +92,7 @@ module _ (m : Mem) (f : WellFormed m) where
       let hit : holder m (slotOfChunk m p k) ≡ keyOf (entryOf m p) k = ap (holder m) e ∙ seek-hit (holders m) (keyOf (entryOf m p) k) v in
       let pos : 0 < holder m (slotOfChunk m p k) = omega arith in
       let n : keyEntry (holder m (slotOfChunk m p k)) ≡ entryOf m p = ap keyEntry hit ∙ key-entry (entryOf m p) k (omega arith) in
-      let g : 0 < getD (entries m) (keyEntry (holder m (slotOfChunk m p k))) 0 = ⊎-elim (λ (o : OnePlace m (slotOfChunk m p k)). let w = o .there .page in omega arith) (λ (z : holder m (slotOfChunk m p k) ≡ 0). absurd (omega arith)) (f .each-once (slotOfChunk m p k) lt) in
+      let g : 0 < getD (entries m) (keyEntry (holder m (slotOfChunk m p k))) 0 = ⊎-elim (λ (o : HeldOnce m (slotOfChunk m p k)). let w = o .place .there .page in omega arith) (λ (o : PooledOnce m (slotOfChunk m p k)). absurd (let z = o .unheld in omega arith)) (f .each-once (slotOfChunk m p k) lt) in
       let i : keyEntry (holder m (slotOfChunk m p k)) < length (entries m) = in-table (entries m) (keyEntry (holder m (slotOfChunk m p k))) g in
       record {
         held = pos;

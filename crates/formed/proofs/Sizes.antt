@@ -17,12 +17,12 @@ use Rattle.formed.specs.WellFormed.{Lengths}
 
 -- 01: no buffer is longer; the lower bounds of the counts are not needed
 pub counts-bound : (c p j : ℕ) → c ≤ 65536 → p ≤ 4096 → j ≤ 65536
-    → (bytesFor c j ≤ 33554432) × (keysFor c p ≤ 33554432) × (orderFor c p ≤ 33554432) × (wordsFor j ≤ 33554432)
+    → (bytesFor c j ≤ 33554432) × (keysFor c p ≤ 33554432) × (orderFor c p ≤ 33554432) × (wordsFor c j ≤ 33554432)
 counts-bound c p j x y z = (omega arith, omega arith, omega arith, omega arith)
 
 module _ (b k o w c p j : ℕ) where
   abbrev S₃ : Bool
-  S₃ = eqb o (orderFor c p) && eqb w (wordsFor j)
+  S₃ = eqb o (orderFor c p) && eqb w (wordsFor c j)
 
   abbrev S₂ : Bool
   S₂ = eqb k (keysFor c p) && S₃
@@ -50,8 +50,8 @@ module _ (b k o w c p j : ℕ) where
         journal-hi = leb-true j 65536 (and-right P₂ (leb j 65536) rest);
         in-bytes = eqb-true b (bytesFor c j) (and-left (eqb b (bytesFor c j)) S₂ s₁);
         in-keys = eqb-true k (keysFor c p) (and-left (eqb k (keysFor c p)) S₃ s₂);
-        in-order = eqb-true o (orderFor c p) (and-left (eqb o (orderFor c p)) (eqb w (wordsFor j)) s₃);
-        in-words = eqb-true w (wordsFor j) (and-right (eqb o (orderFor c p)) (eqb w (wordsFor j)) s₃);
+        in-order = eqb-true o (orderFor c p) (and-left (eqb o (orderFor c p)) (eqb w (wordsFor c j)) s₃);
+        in-words = eqb-true w (wordsFor c j) (and-right (eqb o (orderFor c p)) (eqb w (wordsFor c j)) s₃);
       }
 
   pub fit-test : LengthsFit b k o w c p j → lengthsFit b k o w c p j ≡ true
@@ -61,7 +61,7 @@ module _ (b k o w c p j : ℕ) where
       (and-both P₂ (leb j 65536) (and-both (leb 1 p) (leb p 4096) (le-leb 1 p (r .pages-lo)) (le-leb p 4096 (r .pages-hi))) (le-leb j 65536 (r .journal-hi))))
       (and-both (eqb b (bytesFor c j)) S₂ (eq-eqb b (bytesFor c j) (r .in-bytes))
       (and-both (eqb k (keysFor c p)) S₃ (eq-eqb k (keysFor c p) (r .in-keys))
-      (and-both (eqb o (orderFor c p)) (eqb w (wordsFor j)) (eq-eqb o (orderFor c p) (r .in-order)) (eq-eqb w (wordsFor j) (r .in-words)))))
+      (and-both (eqb o (orderFor c p)) (eqb w (wordsFor c j)) (eq-eqb o (orderFor c p) (r .in-order)) (eq-eqb w (wordsFor c j) (r .in-words)))))
 
   -- the same of a test that passed
   pub lengths-bound : LengthsFit b k o w c p j → (b ≤ 33554432) × (k ≤ 33554432) × (o ≤ 33554432) × (w ≤ 33554432)

@@ -4,7 +4,7 @@ use mathlib.Core.Path.{_≡_}
 use mathlib.Core.Bool.{Bool, _&&_}
 use Prim.Native.Nat.{ℕ, _+_, _*_, _≤_}
 use lib.Dec.{leb, eqb}
-use Rattle.store.specs.Mem.{headLength, fixedCount}
+use Rattle.store.specs.Mem.{headLength, fixedCount, poolLength}
 use Rattle.formed.specs.Pages.{journalCount}
 
 abbrev pub bytesFor : (chunks words : ℕ) → ℕ
@@ -16,8 +16,8 @@ keysFor chunks pages = chunks + pages + fixedCount
 abbrev pub orderFor : (chunks pages : ℕ) → ℕ
 orderFor chunks pages = 3 * chunks + pages + fixedCount
 
-abbrev pub wordsFor : (words : ℕ) → ℕ
-wordsFor words = headLength + 3 * journalCount * words
+abbrev pub wordsFor : (chunks words : ℕ) → ℕ
+wordsFor chunks words = headLength + 3 * journalCount * words + poolLength chunks
 
 -- the three counts are in bounds
 abbrev pub countsFit : (chunks pages words : ℕ) → Bool
@@ -25,7 +25,7 @@ countsFit chunks pages words = (leb 1 chunks && leb chunks 65536) && ((leb 1 pag
 
 -- b, k, o and w are the lengths of the four buffers for these counts
 abbrev pub lengthsAre : (b k o w chunks pages words : ℕ) → Bool
-lengthsAre b k o w chunks pages words = eqb b (bytesFor chunks words) && (eqb k (keysFor chunks pages) && (eqb o (orderFor chunks pages) && eqb w (wordsFor words)))
+lengthsAre b k o w chunks pages words = eqb b (bytesFor chunks words) && (eqb k (keysFor chunks pages) && (eqb o (orderFor chunks pages) && eqb w (wordsFor chunks words)))
 
 -- the counts are in bounds and the lengths are right; otherwise refusal 2
 abbrev pub lengthsFit : (b k o w chunks pages words : ℕ) → Bool
@@ -41,4 +41,4 @@ pub record LengthsFit (b k o w chunks pages words : ℕ) : Type 0 where
   pub in-bytes : b ≡ bytesFor chunks words
   pub in-keys : k ≡ keysFor chunks pages
   pub in-order : o ≡ orderFor chunks pages
-  pub in-words : w ≡ wordsFor words
+  pub in-words : w ≡ wordsFor chunks words

@@ -9,7 +9,8 @@ use lib.ListN.{length, getD, take, drop}
 use Rattle.store.specs.Keys.{lastChunk, keyOf, keyEntry, keyChunk}
 use Rattle.page_ids.specs.Decode.{badLayout}
 use Rattle.index.specs.Index.{all, indexed}
-use Rattle.store.specs.Mem.{Mem, headLength, fixedCount, layoutOf, slotCount, pageCount, journalWords, heldNow, inUse, dynamicLength, journalLength, holders, entries, slotOrder, pageOrder, chunkBytes}
+use Rattle.bits.specs.Bits.{freeWord}
+use Rattle.store.specs.Mem.{Mem, headLength, fixedCount, layoutOf, slotCount, pageCount, journalWords, heldNow, inUse, dynamicLength, journalLength, poolLength, poolWord, poolSkip, holders, entries, slotOrder, pageOrder, chunkBytes}
 use Rattle.formed.specs.Pages.{dynamic, group, journalCount, journalPlace}
 use Rattle.formed.specs.Buffers.{lengthsFit}
 
@@ -49,12 +50,18 @@ unfoldable pub heldRight : List ℕ → ℕ → List ℕ → Bool
 heldRight es k b =
     ltb 0 (getD es (keyEntry k) 0) && (leb (keyChunk k) lastChunk && cond (eqb (keyChunk k) lastChunk) (zeros (drop 31 b)) true)
 
--- a pooled chunk is zero, a held one is rightly held
+-- a chunk that is not held is zero, a held one is rightly held
 unfoldable pub slotRight : List ℕ → ℕ → List ℕ → Bool
 slotRight es k b = cond (eqb k 0) (zeros b) (heldRight es k b)
 
 abbrev pub slotAt : List ℕ → List ℕ → List ℕ → ℕ → Bool
 slotAt es hs bs s = slotRight es (getD hs s 0) (chunk bs s)
+
+-- each word of the pool has the bits of its slots' holders hs, and those that a search skips are 0
+unfoldable pub poolRight : List ℕ → List ℕ → Bool
+poolRight hs w =
+    all (λ i. eqb (poolWord w i) (freeWord hs i)) (poolLength (slotCount w))
+    && (leb (poolSkip w) (poolLength (slotCount w)) && all (λ i. eqb (poolWord w i) 0) (poolSkip w))
 
 -- the chunks of word i, of which ns has the three numbers, are held at the slots noted; k is the key of the page's chunk 0
 abbrev pub noted : List ℕ → List ℕ → ℕ → ℕ → Bool
@@ -68,12 +75,13 @@ journalRight hs w j =
     leb (journalLength w j) (journalWords w)
     && all (noted hs (take (3 * journalWords w) (drop (headLength + 3 * journalWords w * j) w)) (keyOf (journalPlace j) 0)) (journalLength w j)
 
--- pages, slots, journals
+-- pages, slots, pool, journals
 unfoldable pub contents : Mem → Bool
 contents m =
     all (entryRight (m .words) (entries m)) (length (entries m))
     && (all (slotAt (entries m) (holders m) (chunkBytes m)) (length (holders m))
-    && all (journalRight (holders m) (m .words)) journalCount)
+    && (poolRight (holders m) (m .words)
+    && all (journalRight (holders m) (m .words)) journalCount))
 
 -- WELL FORMED: refusal 3 is that this is false
 unfoldable pub wellFormed : Mem → Bool

@@ -5,9 +5,10 @@ use mathlib.Core.List.{List, [], _∷_}
 use Prim.Native.Nat.{ℕ, zero, suc, _+_, _*_, _/_, _%_}
 use lib.Dec.{ltb}
 use lib.ListN.{length, getD}
+use Rattle.bits.specs.Bits.{onesOf}
 use Rattle.store.specs.Find.{slotWithin}
 use Rattle.index.specs.Index.{seek, freeCount}
-use Rattle.store.specs.Mem.{Mem, headLength, slotCount, journalWords, journalLength, holders, entries, chunkBytes}
+use Rattle.store.specs.Mem.{Mem, headLength, slotCount, journalWords, journalLength, poolWords, holders, entries, chunkBytes}
 
 -- f 0, f 1, .., f (n - 1)
 unfoldable pub tab : {A : Type 0} → ℕ → (ℕ → A) → List A
@@ -32,9 +33,9 @@ slotOfChunk m p k = slotWithin (m .keys) (m .words) (entryOf m p) k
 unfoldable pub holds : Mem → ℕ → ℕ → Bool
 holds m p k = ltb (slotOfChunk m p k) (slotCount (m .words))
 
--- the pool: how many slots hold no chunk
+-- the pool's size: how many of its bits are set
 abbrev pub pool : Mem → ℕ
-pool m = freeCount (holders m)
+pool m = onesOf (poolWords (m .words))
 
 -- the byte at address a of page p; where no slot holds its chunk, the place lies past the chunks, and the byte is 0
 unfoldable pub byteAt : Mem → ℕ → ℕ → ℕ

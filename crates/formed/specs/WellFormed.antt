@@ -3,17 +3,18 @@
 use mathlib.Core.Path.{_≡_}
 use mathlib.Core.Bool.{true}
 use mathlib.Core.Logic.{_⊎_}
-use Prim.Native.Nat.{ℕ, _+_, _*_, _/_, _<_, _≤_}
+use Prim.Native.Nat.{ℕ, _+_, _*_, _/_, _^_, _<_, _≤_}
 use lib.ListN.{length, getD}
 use Rattle.store.specs.Keys.{lastChunk, keyOf, keyEntry, keyChunk}
 use Rattle.index.specs.Index.{Index}
-use Rattle.store.specs.Mem.{Mem, fixedCount, layoutOf, slotCount, pageCount, journalWords, heldNow, inUse, dynamicLength, journalLength, holders, entries, slotOrder, pageOrder, chunkBytes}
+use Rattle.bits.specs.Bits.{bitOf}
+use Rattle.store.specs.Mem.{Mem, fixedCount, layoutOf, slotCount, pageCount, journalWords, heldNow, inUse, dynamicLength, journalLength, poolLength, poolWord, poolWords, poolSkip, holders, entries, slotOrder, pageOrder, chunkBytes}
 use Rattle.formed.specs.Pages.{LayoutRule, fixedId, fixed, dynamic, group, journalCount, journalPlace, journalPage}
 use Rattle.formed.specs.Buffers.{LengthsFit}
 use Rattle.formed.specs.Parts.{holds, byteAt, noteAddress, noteFirst, noteLast}
 
 -- ---- chunks by slot, pages by entry: the words in which the sentence speaks of page ids and chunk numbers
--- the key that slot s holds, 0 where it is pooled
+-- the key that slot s holds, 0 where it holds none
 abbrev pub holder : Mem → ℕ → ℕ
 holder m s = getD (holders m) s 0
 
@@ -21,8 +22,9 @@ holder m s = getD (holders m) s 0
 abbrev pub slotByte : Mem → ℕ → ℕ → ℕ
 slotByte m s r = getD (chunkBytes m) (256 * s + r) 0
 
+-- slot s is pooled: its bit is set
 abbrev pub Pooled : Mem → ℕ → Type 0
-Pooled m s = holder m s ≡ 0
+Pooled m s = bitOf (poolWords (m .words)) s ≡ 1
 
 -- slot s is held as chunk k of page p
 pub record HeldAt (m : Mem) (s p k : ℕ) : Type 0 where
@@ -36,6 +38,16 @@ pub record OnePlace (m : Mem) (s : ℕ) : Type 0 where
   pub chunk : ℕ
   pub there : HeldAt m s page chunk
   pub only : (p k : ℕ) → HeldAt m s p k → (p ≡ page) × (k ≡ chunk)
+
+-- .. and not pooled
+pub record HeldOnce (m : Mem) (s : ℕ) : Type 0 where
+  pub place : OnePlace m s
+  pub not-pooled : Pooled m s → ⊥
+
+-- slot s is pooled, and not held
+pub record PooledOnce (m : Mem) (s : ℕ) : Type 0 where
+  pub pooled : Pooled m s
+  pub unheld : holder m s ≡ 0
 
 -- entry e lists page p (the first entries are the fixed pages')
 pub record ListedAt (m : Mem) (e p : ℕ) : Type 0 where
@@ -65,6 +77,9 @@ pub record Encoded (m : Mem) : Type 0 where
   pub layout-width : (i : ℕ) → i < 6 → getD (m .words) i 0 ≤ 4294967295
   pub length-width : dynamicLength (m .words) ≤ 4294967295
   pub page-width : (e p : ℕ) → ListedAt m e p → p ≤ 4294967295
+  pub pool-width : (i : ℕ) → i < poolLength (slotCount (m .words)) → poolWord (m .words) i < 2 ^ 64
+  pub pool-skip : poolSkip (m .words) ≤ poolLength (slotCount (m .words))
+  pub pool-skipped : (i : ℕ) → i < poolSkip (m .words) → poolWord (m .words) i ≡ 0
 
 -- ---- 01's sentence
 pub record WellFormed (m : Mem) : Type 0 where
@@ -72,7 +87,9 @@ pub record WellFormed (m : Mem) : Type 0 where
   pub lengths : Lengths m
   pub layout : LayoutRule (layoutOf (m .words))
   -- each chunk is held at one place or pooled, once
-  pub each-once : (s : ℕ) → s < slotCount (m .words) → OnePlace m s ⊎ Pooled m s
+  pub each-once : (s : ℕ) → s < slotCount (m .words) → HeldOnce m s ⊎ PooledOnce m s
+  -- 02: no bit is set past the last chunk
+  pub none-past : (s : ℕ) → slotCount (m .words) ≤ s → Pooled m s → ⊥
   -- no place has two chunks
   pub no-two : (s t p k : ℕ) → HeldAt m s p k → HeldAt m t p k → s ≡ t
   -- and none lies above chunk 16,777,216

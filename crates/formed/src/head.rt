@@ -54,7 +54,7 @@ pub fn lengths_ok(
     if order as u64 != 3 * c + p + head::FIXED_PAGES {
         return false;
     }
-    if words as u64 != HEAD_LENGTH + WORD_NUMBERS * j {
+    if words as u64 != HEAD_LENGTH + WORD_NUMBERS * j + store::pool_length(c) {
         return false;
     }
     true

@@ -5,7 +5,7 @@ ghost use Prim.Native.Nat.{_+_, _*_, _/_, _<_, _≤_};
 ghost use lib.Dec.{eqb, leb};
 ghost use lib.ListN.{length, getD, take, drop};
 ghost use Rattle.index.specs.Index.{all};
-ghost use Rattle.store.specs.Mem.{headLength, fixedCount, layoutOf, journalWords};
+ghost use Rattle.store.specs.Mem.{headLength, fixedCount, layoutOf, slotCount, journalWords};
 ghost use Rattle.formed.specs.Pages.{journalCount, journalPlace, JournalOf};
 ghost use Rattle.formed.specs.Buffers.{wordsFor};
 ghost use Rattle.formed.specs.Formed.{noted, journalRight};
@@ -80,7 +80,7 @@ fn notes_ok(holders: &[u64], notes: &[u64], n: usize, k: u64) -> bool
 
 // Whether journal j is right.
 fn journal_ok(holders: &[u64], words: &[u64], j: usize) -> bool
-    requires { ⌜ (j < journalCount) × (journalWords (now words) ≤ 65536) × (length (now words) ≡ wordsFor (journalWords (now words))) ⌝ }
+    requires { ⌜ (j < journalCount) × (journalWords (now words) ≤ 65536) × (length (now words) ≡ wordsFor (slotCount (now words)) (journalWords (now words))) ⌝ }
     ensures { λ r. ⌜ r ≡ journalRight (now (holders .entry)) (now (words .entry)) j ⌝ }
 {
     let most = words[head::JOURNAL_WORDS] as usize;
@@ -96,7 +96,7 @@ fn journal_ok(holders: &[u64], words: &[u64], j: usize) -> bool
 
 // Whether every journal is right.
 pub fn journals_ok(holders: &[u64], words: &[u64]) -> bool
-    requires { ⌜ (journalWords (now words) ≤ 65536) × (length (now words) ≡ wordsFor (journalWords (now words))) ⌝ }
+    requires { ⌜ (journalWords (now words) ≤ 65536) × (length (now words) ≡ wordsFor (slotCount (now words)) (journalWords (now words))) ⌝ }
     ensures { λ r. ⌜ r ≡ all (journalRight (now (holders .entry)) (now (words .entry))) journalCount ⌝ }
 {
     let mut j = 0;

@@ -11,6 +11,7 @@ ghost use Rattle.formed.specs.Formed.{narrow, contents, wellFormed};
 pub mod entry;
 pub mod head;
 pub mod journals;
+pub mod pool_words;
 pub mod slot;
 
 // Whether the slots and the entries are indexed. Both tables are cut at c; n slots are held, u entries are in use.
@@ -24,7 +25,7 @@ fn tables_ok(keys: &[u64], order: &[u32], c: usize, n: usize, u: usize) -> bool
     index::index_ok(&keys[c..], &order[c..], u)
 }
 
-// Whether the tables, the pages, the slots and the journals are right, in buffers of the right lengths.
+// Whether the tables, the pages, the slots, the pool and the journals are right, in buffers of the right lengths.
 fn parts_ok(bytes: &[u8], keys: &[u64], order: &[u32], words: &[u64]) -> bool
     requires { ⌜ Lengths (mem (now bytes) (now keys) (now order) (now words)) ⌝ }
     requires { ⌜ narrow (now words) ≡ true ⌝ }
@@ -45,6 +46,9 @@ fn parts_ok(bytes: &[u8], keys: &[u64], order: &[u32], words: &[u64]) -> bool
     }
     let end = 256 * c;
     if !slot::slots_ok(&keys[c..], &keys[0..c], &bytes[0..end]) {
+        return false;
+    }
+    if !pool_words::pool_ok(&keys[0..c], words) {
         return false;
     }
     journals::journals_ok(&keys[0..c], words)

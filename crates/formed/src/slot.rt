@@ -1,4 +1,4 @@
-// The slots: a pooled chunk is zero, a held one has a place in an entry that is in use.
+// The slots: a chunk that is not held is zero, a held one has a place in an entry that is in use.
 ghost use mathlib.Core.Path.{_≡_};
 ghost use Prim.Native.Nat.{_*_, _<_};
 ghost use lib.ListN.{length};

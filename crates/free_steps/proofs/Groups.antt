@@ -15,7 +15,9 @@ use Rattle.index.specs.Index.{indexed, freeCount}
 use Rattle.index.proofs.Logic.{same-or-not, lt-or-ge, and-right}
 use Rattle.index.proofs.Places.{seek-hit}
 use Rattle.page_ids.specs.declared.Layout.{Layout}
-use Rattle.store.specs.Mem.{Mem, mem, headLength, layoutOf, slotCount, pageCount, journalWords, journalLength, dynamicLength, heldNow, inUse, holders, entries}
+use Rattle.bits.specs.Bits.{onesOf}
+use Rattle.store.specs.Mem.{Mem, mem, headLength, layoutOf, slotCount, pageCount, journalWords, journalLength, dynamicLength, heldNow, inUse, holders, entries, poolPlace}
+use Rattle.store.proofs.Pool.{pool-kept, pooling-kept}
 use Rattle.formed.specs.Pages.{LayoutRule, dynamic, group, journalCount}
 use Rattle.formed.specs.Parts.{Note, tab, entryOf, allocated, slotOfChunk, holds, byteAt, journal, noteAddress, oldPlace}
 use Rattle.formed.specs.WellFormed.{WellFormed, Lengths, NotedRight}
@@ -276,6 +278,9 @@ module _ (bytes keys order words : List ℕ) (n : ℕ) (a : ShortenAsks (mem byt
   slots-o : slotCount w ≡ slotCount words
   slots-o = head 6 (λ e. omega arith)
 
+  pool-o : (i : ℕ) → poolPlace words ≤ i → getD w i 0 ≡ getD words i 0
+  pool-o i l = head i (λ e. let h = a .formed .lengths .in-words in omega arith)
+
   room-o : journalWords w ≡ journalWords words
   room-o = head 8 (λ e. omega arith)
 
@@ -321,6 +326,7 @@ module _ (bytes keys order words : List ℕ) (n : ℕ) (a : ShortenAsks (mem byt
     listed = listed-o;
     pooled = λ s l z r h. ap (λ (c : ℕ). getD (take (256 * c) bytes) (256 * s + r) 0) slots-o ∙ facts .pooled s (let c = slots-o in omega arith) (ap (λ (c : ℕ). getD (take c keys) s 0) (sym slots-o) ∙ z) r h;
     held = slots-right;
+    pool = pooling-kept words w (length-set words 11 n) slots-o pool-o keys keys (ap (λ (c : ℕ). take c keys) slots-o) (head 15 (λ e. omega arith)) (facts .pool);
     in-capacity = λ j l. let h = facts .in-capacity j l in let x = length-o j in let y = room-o in omega arith;
     notes = notes-right;
   })
@@ -372,6 +378,6 @@ module _ (bytes keys order words : List ℕ) (n : ℕ) (a : ShortenAsks (mem byt
   shortened-shows = record {
     formed = formed-o;
     setting = rw (layout-o, slots-o, head 7 (λ e. omega arith), room-o);
-    view = view-by (viewOf o') (shortened n (viewOf o)) bytes-o held-o (ap (λ (c : ℕ). freeCount (take c keys)) slots-o) pages-o (ap (λ (c : ℕ). freeCount (drop c keys)) slots-o) eleven
+    view = view-by (viewOf o') (shortened n (viewOf o)) bytes-o held-o (ap onesOf (pool-kept words w (length-set words 11 n) slots-o pool-o)) pages-o (ap (λ (c : ℕ). freeCount (drop c keys)) slots-o) eleven
         (λ j. ap (λ (x : List Note). cond (ltb j journalCount) x []) (journal-o j));
   }

@@ -5,7 +5,7 @@ fn main() {
     let mut bytes = [0u8; 49152];
     let mut keys = [0u64; 196];
     let mut order = [0u32; 452];
-    let mut words = [0u64; 1552];
+    let mut words = [0u64; 1554];
     let mut line = [0u8; 104];
     let mut input = io::large_buffer();
     let mut output = io::large_buffer();

@@ -24,7 +24,7 @@ use Rattle.view.proofs.Equal.{view-by}
 use Rattle.journal.specs.Steps.{cutting}
 use Rattle.formed.proofs.Same.{tab-upto}
 use Rattle.journal.proofs.Lists.{tab-take}
-use Rattle.journal.proofs.Kept.{noteIn, note-same, same-setting, same-view, same-facts, journal-is, journal-same, noted-by}
+use Rattle.journal.proofs.Kept.{JournalsAlone, noteIn, note-same, same-setting, same-view, same-facts, journal-is, journal-same, noted-by}
 use Rattle.journal.proofs.Shown.{shows-then, shows-same, journal-at, journal-none}
 
 module _ (bytes keys order words : List ℕ) (w : WellFormed (mem bytes keys order words)) (j n : ℕ) (which : j < journalCount) (mark : n ≤ journalLength words j) where
@@ -46,8 +46,12 @@ module _ (bytes keys order words : List ℕ) (w : WellFormed (mem bytes keys ord
   other : (x : ℕ) → (x ≡ 12 + j → ⊥) → getD words' x 0 ≡ getD words x 0
   other x = getD-set-other words (12 + j) x n 0
 
-  head : (i : ℕ) → i < 12 → getD words' i 0 ≡ getD words i 0
-  head i l = other i (λ e. omega arith)
+  alone : JournalsAlone words words'
+  alone = record {
+    head = λ i l. other i (λ e. omega arith);
+    skip = other 15 (λ e. omega arith);
+    pool = λ i l. let h = f .lengths .in-words in other i (λ e. omega arith);
+  }
 
   length-here : (k : ℕ) → k ≡ j → journalLength words' k ≡ n
   length-here k e = ap (λ (x : ℕ). getD words' (12 + x) 0) e ∙ getD-set-same words (12 + j) n 0 (let h = f .lengths .in-words in omega arith)
@@ -69,16 +73,16 @@ module _ (bytes keys order words : List ℕ) (w : WellFormed (mem bytes keys ord
   notes k i l li =
       let le = shorter k in
       let h = f .notes k i l (omega arith) in
-      noted-by bytes keys order words bytes words' f refl long head (λ b lb. refl) k i (noteAddress m k i) (noteFirst m k i) (noteLast m k i)
+      noted-by bytes keys order words bytes words' f refl long alone (λ b lb. refl) k i (noteAddress m k i) (noteFirst m k i) (noteLast m k i)
       (other (notePlace words k i) (λ e. omega arith)) (other (notePlace words k i + 1) (λ e. omega arith)) (other (notePlace words k i + 2) (λ e. omega arith)) (h .address) (h .first) (h .last)
 
   pub cut-formed : WellFormed m'
-  cut-formed = formed-by m' (same-facts bytes keys order words bytes words' f refl long head (λ b lb. refl) (λ k l. let a = shorter k in let b = f .in-capacity k l in omega arith) notes)
+  cut-formed = formed-by m' (same-facts bytes keys order words bytes words' f refl long alone (λ b lb. refl) (λ k l. let a = shorter k in let b = f .in-capacity k l in omega arith) notes)
 
   journal-cut : (k : ℕ) → k ≡ j → journal m' k ≡ take n (journal m k)
   unfolding journal
   journal-cut k e =
-      journal-is bytes keys order words bytes words' f refl long head (λ b lb. refl) k
+      journal-is bytes keys order words bytes words' f refl long alone (λ b lb. refl) k
       ∙ ap (λ (x : ℕ). tab x (noteIn bytes words' (slotCount words) (journalWords words) k)) (length-here k e)
       ∙ tab-upto n (noteIn bytes words' (slotCount words) (journalWords words) k) (noteIn bytes words (slotCount words) (journalWords words) k) (λ i l. kept-note k i)
       ∙ sym (tab-take n (journalLength words k) (noteIn bytes words (slotCount words) (journalWords words) k) (let b : journalLength words k ≡ journalLength words j = ap (λ (x : ℕ). getD words (12 + x) 0) e in omega arith))
@@ -91,7 +95,7 @@ module _ (bytes keys order words : List ℕ) (w : WellFormed (mem bytes keys ord
       (λ (e : k ≡ j). journal-at m' k l ∙ journal-cut k e ∙ ap (take n) (sym (journal-at m k l)) ∙ sym (ap (λ (b : Bool). cond b (take n (viewOf m .journal k)) (viewOf m .journal k)) (eq-eqb k j e)))
       (λ (ne : k ≡ j → ⊥).
       journal-at m' k l
-      ∙ journal-same bytes keys order words bytes words' f refl long head (λ b lb. refl) k (length-other k ne) (λ i li. kept-note k i)
+      ∙ journal-same bytes keys order words bytes words' f refl long alone (λ b lb. refl) k (length-other k ne) (λ i li. kept-note k i)
       ∙ sym (journal-at m k l)
       ∙ sym (ap (λ (b : Bool). cond b (take n (viewOf m .journal k)) (viewOf m .journal k)) (ne-eqb k j ne)))
       (same-or-not k j))
@@ -101,8 +105,8 @@ module _ (bytes keys order words : List ℕ) (w : WellFormed (mem bytes keys ord
   pub cut-shows : Shows (settingOf m) (cutting j n (viewOf m)) m'
   cut-shows = record {
     formed = cut-formed;
-    setting = same-setting bytes keys order words bytes words' f refl long head (λ b lb. refl);
-    view = same-view bytes keys order words bytes words' f refl long head (λ b lb. refl) (cutting j n (viewOf m)) (λ p a. refl) (λ p k. refl) refl (λ p. refl) refl refl view-cut;
+    setting = same-setting bytes keys order words bytes words' f refl long alone (λ b lb. refl);
+    view = same-view bytes keys order words bytes words' f refl long alone (λ b lb. refl) (cutting j n (viewOf m)) (λ p a. refl) (λ p k. refl) refl (λ p. refl) refl refl view-cut;
   }
 
 -- all journals, emptied one after another

@@ -1,4 +1,4 @@
--- A memory whose keys and order are as they were, as are the first 12 numbers of its head and the bytes of its chunks: all that changes is its journals.
+-- A memory whose keys and order are as they were, as are the first 12 numbers of its head, its pool and the bytes of its chunks: all that changes is its journals.
 -- Assumes nothing.
 use mathlib.Core.Path.{_≡_, sym, ap, _∙_, subst, refl}
 use mathlib.Core.Bool.{cond}
@@ -12,7 +12,9 @@ use Rattle.formed.proofs.Sizes.{lengths-kept}
 use Rattle.store.specs.Keys.{keyOf, keyEntry}
 use Rattle.page_ids.specs.declared.Layout.{Layout}
 use Rattle.index.specs.Index.{indexed, seek, freeCount}
-use Rattle.store.specs.Mem.{Mem, mem, layoutOf, slotCount, journalWords, journalLength, heldNow, inUse, dynamicLength, holders, entries, slotOrder, pageOrder, chunkBytes}
+use Rattle.bits.specs.Bits.{onesOf}
+use Rattle.store.specs.Mem.{Mem, mem, layoutOf, slotCount, journalWords, journalLength, heldNow, inUse, dynamicLength, poolPlace, poolSkip, holders, entries, slotOrder, pageOrder, chunkBytes}
+use Rattle.store.proofs.Pool.{pool-kept, pooling-kept}
 use Rattle.formed.specs.Pages.{LayoutRule, dynamic, group, journalCount, journalPlace}
 use Rattle.formed.specs.Parts.{tab, Note, byteAt, slotOfChunk, holds, pool, allocated, entriesLeft, journal, noteAddress, noteFirst, noteLast, notePlace}
 use Rattle.formed.specs.WellFormed.{holder, Lengths, NotedRight}
@@ -20,6 +22,12 @@ use Rattle.formed.proofs.Facts.{Facts, SlotRight, PageRight}
 use Rattle.view.specs.View.{View, settingOf, viewOf}
 use Rattle.view.proofs.Equal.{view-by}
 use Rattle.formed.proofs.Same.{tab-upto}
+
+-- words' are words except for the journals
+pub record JournalsAlone (words words' : List ℕ) : Type 0 where
+  pub head : (i : ℕ) → i < 12 → getD words' i 0 ≡ getD words i 0
+  pub skip : poolSkip words' ≡ poolSkip words
+  pub pool : (i : ℕ) → poolPlace words ≤ i → getD words' i 0 ≡ getD words i 0
 
 -- word i of journal j, of a memory with c slots and room for r words in each journal
 abbrev pub noteIn : List ℕ → List ℕ → ℕ → ℕ → ℕ → ℕ → Note
@@ -31,7 +39,7 @@ note-same a a' f g e h = let t = tab-upto 32 f g h in λ k. record { address = e
 
 module _ (bytes keys order words bytes' words' : List ℕ) (f : Facts (mem bytes keys order words))
     (lb : length bytes' ≡ length bytes) (lw : length words' ≡ length words)
-    (head : (i : ℕ) → i < 12 → getD words' i 0 ≡ getD words i 0)
+    (alone : JournalsAlone words words')
     (body : (b : ℕ) → b < 256 * slotCount words → getD bytes' b 0 ≡ getD bytes b 0) where
   abbrev m : Mem
   m = mem bytes keys order words
@@ -40,10 +48,10 @@ module _ (bytes keys order words bytes' words' : List ℕ) (f : Facts (mem bytes
   m' = mem bytes' keys order words'
 
   c : slotCount words' ≡ slotCount words
-  c = head 6 (omega arith)
+  c = alone .head 6 (omega arith)
 
   r : journalWords words' ≡ journalWords words
-  r = head 8 (omega arith)
+  r = alone .head 8 (omega arith)
 
   big : 256 * slotCount words ≤ length bytes
   big = let h = f .lengths .in-bytes in omega arith
@@ -67,16 +75,16 @@ module _ (bytes keys order words bytes' words' : List ℕ) (f : Facts (mem bytes
 
   pub same-layout : layoutOf words' ≡ layoutOf words
   same-layout = λ k. record {
-    «static_memory» = record { 0 = head 0 (omega arith) k };
-    calldata = record { 0 = head 1 (omega arith) k };
-    «bootloader_heap» = record { 0 = head 2 (omega arith) k };
-    «bootloader_aux» = record { 0 = head 3 (omega arith) k };
-    base = record { 0 = head 4 (omega arith) k };
-    stride = head 5 (omega arith) k;
+    «static_memory» = record { 0 = alone .head 0 (omega arith) k };
+    calldata = record { 0 = alone .head 1 (omega arith) k };
+    «bootloader_heap» = record { 0 = alone .head 2 (omega arith) k };
+    «bootloader_aux» = record { 0 = alone .head 3 (omega arith) k };
+    base = record { 0 = alone .head 4 (omega arith) k };
+    stride = alone .head 5 (omega arith) k;
   }
 
   pub same-setting : settingOf m' ≡ settingOf m
-  same-setting = let l = same-layout in λ k. record { layout = l k; chunks = c k; pages = head 7 (omega arith) k; journalWords = r k }
+  same-setting = let l = same-layout in λ k. record { layout = l k; chunks = c k; pages = alone .head 7 (omega arith) k; journalWords = r k }
 
   -- ---- the view but for the journals
   pub same-byte : (p a : ℕ) → byteAt m' p a ≡ byteAt m p a
@@ -97,7 +105,7 @@ module _ (bytes keys order words bytes' words' : List ℕ) (f : Facts (mem bytes
   pub same-view : (v : View) → ((p a : ℕ) → byteAt m p a ≡ v .bytes p a) → ((p k : ℕ) → holds m p k ≡ v .held p k) → pool m ≡ v .pool → ((p : ℕ) → allocated m p ≡ v .allocated p)
       → entriesLeft m ≡ v .entriesLeft → dynamicLength words ≡ v .dynamicLength → ((j : ℕ) → viewOf m' .journal j ≡ v .journal j) → viewOf m' ≡ v
   same-view v b h p a e d j =
-      view-by (viewOf m') v (λ q x. same-byte q x ∙ b q x) (λ q k. same-holds q k ∙ h q k) (ap freeCount same-holders ∙ p) (λ q. same-allocated q ∙ a q) (ap freeCount same-entries ∙ e) (head 11 (omega arith) ∙ d) j
+      view-by (viewOf m') v (λ q x. same-byte q x ∙ b q x) (λ q k. same-holds q k ∙ h q k) (ap onesOf (pool-kept words words' lw c (alone .pool)) ∙ p) (λ q. same-allocated q ∙ a q) (ap freeCount same-entries ∙ e) (alone .head 11 (omega arith) ∙ d) j
 
   pub journal-is : (j : ℕ) → journal m' j ≡ tab (journalLength words' j) (noteIn bytes' words' (slotCount words) (journalWords words) j)
   unfolding journal
@@ -129,7 +137,7 @@ module _ (bytes keys order words bytes' words' : List ℕ) (f : Facts (mem bytes
 
   same-lengths : Lengths m'
   same-lengths =
-      lengths-kept m m' (record { slots = c; pages = head 7 (omega arith); journals = r; bytes-long = lb; keys-long = refl; order-long = refl; words-long = lw }) (f .lengths)
+      lengths-kept m m' (record { slots = c; pages = alone .head 7 (omega arith); journals = r; bytes-long = lb; keys-long = refl; order-long = refl; words-long = lw }) (f .lengths)
 
   same-slot : (s k : ℕ) → SlotRight m s k → SlotRight m' s k
   same-slot s k h = record {
@@ -142,18 +150,18 @@ module _ (bytes keys order words bytes' words' : List ℕ) (f : Facts (mem bytes
   same-page x h = record {
     width = h .width;
     kind = ap (λ (l : Layout). dynamic l (x - 1)) same-layout ∙ h .kind;
-    below = subst (λ (l : Layout). group l (x - 1) < dynamicLength words') (sym same-layout) (let d = head 11 (omega arith) in let g = h .below in omega arith);
+    below = subst (λ (l : Layout). group l (x - 1) < dynamicLength words') (sym same-layout) (let d = alone .head 11 (omega arith) in let g = h .below in omega arith);
   }
 
   pub same-facts : ((j : ℕ) → j < journalCount → journalLength words' j ≤ journalWords words) → ((j i : ℕ) → j < journalCount → i < journalLength words' j → NotedRight m' j i) → Facts m'
   same-facts cap notes = record {
     lengths = same-lengths;
     layout = subst LayoutRule (sym same-layout) (f .layout);
-    layout-width = λ i l. let h = head i (omega arith) in let g = f .layout-width i l in omega arith;
-    length-width = let h = head 11 (omega arith) in let g = f .length-width in omega arith;
-    slots = ap (λ (x : ℕ). indexed (take x keys) (take x order) (heldNow words')) c ∙ ap (indexed (holders m) (slotOrder m)) (head 9 (omega arith)) ∙ f .slots;
-    pages = ap (λ (x : ℕ). indexed (drop x keys) (drop x order) (inUse words')) c ∙ ap (indexed (entries m) (pageOrder m)) (head 10 (omega arith)) ∙ f .pages;
-    fixed-four = λ e l. ap (λ (x : List ℕ). getD x e 0) same-entries ∙ f .fixed-four e l ∙ ap (λ (x : ℕ). x + 1) (sym (head e (omega arith)));
+    layout-width = λ i l. let h = alone .head i (omega arith) in let g = f .layout-width i l in omega arith;
+    length-width = let h = alone .head 11 (omega arith) in let g = f .length-width in omega arith;
+    slots = ap (λ (x : ℕ). indexed (take x keys) (take x order) (heldNow words')) c ∙ ap (indexed (holders m) (slotOrder m)) (alone .head 9 (omega arith)) ∙ f .slots;
+    pages = ap (λ (x : ℕ). indexed (drop x keys) (drop x order) (inUse words')) c ∙ ap (indexed (entries m) (pageOrder m)) (alone .head 10 (omega arith)) ∙ f .pages;
+    fixed-four = λ e l. ap (λ (x : List ℕ). getD x e 0) same-entries ∙ f .fixed-four e l ∙ ap (λ (x : ℕ). x + 1) (sym (alone .head e (omega arith)));
     listed = λ e ge p.
         let q : getD (entries m') e 0 ≡ getD (entries m) e 0 = ap (λ (x : List ℕ). getD x e 0) same-entries in
         subst (PageRight words') (sym q) (same-page (getD (entries m) e 0) (f .listed e ge (omega arith)));
@@ -163,6 +171,7 @@ module _ (bytes keys order words bytes' words' : List ℕ) (f : Facts (mem bytes
     held = λ s p.
         let q : holder m' s ≡ holder m s = ap (λ (x : List ℕ). getD x s 0) same-holders in
         subst (SlotRight m' s) (sym q) (same-slot s (holder m s) (f .held s (omega arith)));
+    pool = pooling-kept words words' lw c (alone .pool) keys keys same-holders (alone .skip) (f .pool);
     in-capacity = λ j l. let h = cap j l in let rr = r in omega arith;
     notes = notes;
   }

@@ -1,6 +1,5 @@
 -- The laws that the proofs of this crate share.
 pub mod Lists
-pub mod Numbers
 pub mod NoteSets
 pub mod Kept
 pub mod Shown

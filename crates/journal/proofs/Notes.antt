@@ -12,7 +12,7 @@ use borrow.Author.Tests.{eq-eqb, ne-eqb}
 use Rattle.store.specs.Find.{slotAtEntry}
 use Rattle.index.specs.Index.{seek}
 use Rattle.index.proofs.Logic.{same-or-not, lt-or-ge}
-use Rattle.store.specs.Mem.{Mem, mem, layoutOf, slotCount, journalWords, journalLength}
+use Rattle.store.specs.Mem.{Mem, mem, layoutOf, slotCount, journalWords, journalLength, poolPlace}
 use Rattle.formed.specs.Pages.{journalCount, journalPlace, journalPage}
 use Rattle.formed.specs.Parts.{Note, tab, holds, journal, noteAddress, noteFirst, noteLast, wordNumber, oldPlace}
 use Rattle.formed.specs.WellFormed.{WellFormed, NotedRight}
@@ -28,9 +28,9 @@ use Rattle.view.specs.Steps.{wordNow}
 use Rattle.journal.specs.Steps.{NoteSlots}
 use Rattle.formed.proofs.Same.{tab-upto}
 use Rattle.journal.proofs.Lists.{tab-snoc}
-use Rattle.journal.proofs.Numbers.{number-lt, number-apart}
+use Rattle.formed.proofs.Numbers.{number-lt, number-apart}
 use Rattle.journal.proofs.NoteSets.{set-long, set-other, set-length, set-address, set-first, set-last}
-use Rattle.journal.proofs.Kept.{noteIn, note-same, same-setting, same-view, same-facts, journal-is, journal-same, noted-by}
+use Rattle.journal.proofs.Kept.{JournalsAlone, noteIn, note-same, same-setting, same-view, same-facts, journal-is, journal-same, noted-by}
 use Rattle.journal.proofs.Shown.{journal-at, journal-none, journal-long}
 use Rattle.journal.proofs.Places.{slot-there, slot-in, slot-key}
 
@@ -109,8 +109,19 @@ module _ (bytes keys order words : List ℕ) (j a : ℕ) (asks : NoteAsks (mem b
   long : length words' ≡ length words
   long = set-long words (12 + j) N a s t small inside
 
-  head : (i : ℕ) → i < 12 → getD words' i 0 ≡ getD words i 0
-  head i l = set-other words (12 + j) N a s t small inside i (λ e. omega arith) (λ e. omega arith) (λ e. omega arith) (λ e. omega arith)
+  -- its three numbers lie before the pool
+  before : 16 + 3 * N + 3 ≤ poolPlace words
+  before = let h = w .lengths .in-words in let g = number-lt (journalWords words) j (journalLength words j) journalCount (asks .which) room in omega arith
+
+  alone : JournalsAlone words words'
+  alone = record {
+    head = λ i l. set-other words (12 + j) N a s t small inside i (λ e. omega arith) (λ e. omega arith) (λ e. omega arith) (λ e. omega arith);
+    skip = set-other words (12 + j) N a s t small inside 15 (λ e. omega arith) (λ e. omega arith) (λ e. omega arith) (λ e. let h = asks .which in omega arith);
+    pool = λ i l.
+        let b = before in
+        let h = small in
+        set-other words (12 + j) N a s t small inside i (λ e. omega arith) (λ e. omega arith) (λ e. omega arith) (λ e. omega arith);
+  }
 
   length-here : (k : ℕ) → k ≡ j → journalLength words' k ≡ journalLength words k + 1
   length-here k e = ap (λ (x : ℕ). getD words' (12 + x) 0) e ∙ set-length words (12 + j) N a s t small inside ∙ ap (λ (x : ℕ). getD words (12 + x) 0 + 1) (sym e)
@@ -158,12 +169,12 @@ module _ (bytes keys order words : List ℕ) (j a : ℕ) (asks : NoteAsks (mem b
     kept-right : (k i : ℕ) → k < journalCount → i < journalLength words k → NotedRight m' k i
     kept-right k i l li =
         let h = f .notes k i l li in
-        noted-by bytes keys order words bytes' words' f lb long head body k i (noteAddress m k i) (noteFirst m k i) (noteLast m k i)
+        noted-by bytes keys order words bytes' words' f lb long alone body k i (noteAddress m k i) (noteFirst m k i) (noteLast m k i)
         (kept-address (wordNumber words k i) (old-number k i l li)) (kept-first (wordNumber words k i) (old-number k i l li)) (kept-last (wordNumber words k i) (old-number k i l li)) (h .address) (h .first) (h .last)
 
     new-right : NotedRight m' j (journalLength words j)
     new-right =
-        noted-by bytes keys order words bytes' words' f lb long head body j (journalLength words j) a s t
+        noted-by bytes keys order words bytes' words' f lb long alone body j (journalLength words j) a s t
         (set-address words (12 + j) N a s t small inside) (set-first words (12 + j) N a s t small inside) (set-last words (12 + j) N a s t small inside) (asks .address)
         (slot-key m w j (asks .which) (a / 256) ns s (slots .first) first-held) (slot-key m w j (asks .which) ((a + 31) / 256) nt t (slots .last) last-held)
 
@@ -198,7 +209,7 @@ module _ (bytes keys order words : List ℕ) (j a : ℕ) (asks : NoteAsks (mem b
     journal-more : (k : ℕ) → k < journalCount → k ≡ j → journal m' k ≡ journal m k ++ (newest ∷ [])
     unfolding journal
     journal-more k l e =
-        journal-is bytes keys order words bytes' words' f lb long head body k
+        journal-is bytes keys order words bytes' words' f lb long alone body k
         ∙ ap (λ (x : ℕ). tab x (noteIn bytes' words' (slotCount words) (journalWords words) k)) (length-here k e ∙ add-one (journalLength words k))
         ∙ tab-snoc (journalLength words k) (noteIn bytes' words' (slotCount words) (journalWords words) k)
         ∙ ap (λ (x : List Note). x ++ (noteIn bytes' words' (slotCount words) (journalWords words) k (journalLength words k) ∷ []))
@@ -214,7 +225,7 @@ module _ (bytes keys order words : List ℕ) (j a : ℕ) (asks : NoteAsks (mem b
         (λ (e : k ≡ j). journal-at m' k l ∙ journal-more k l e ∙ ap (λ (x : List Note). x ++ (newest ∷ [])) (sym (journal-at m k l)) ∙ sym (ap (λ (b : Bool). cond b (viewOf m .journal k ++ (newest ∷ [])) (viewOf m .journal k)) (eq-eqb k j e)))
         (λ (ne : k ≡ j → ⊥).
         journal-at m' k l
-        ∙ journal-same bytes keys order words bytes' words' f lb long head body k (length-other k l ne) (λ i li. kept-note k i l li)
+        ∙ journal-same bytes keys order words bytes' words' f lb long alone body k (length-other k l ne) (λ i li. kept-note k i l li)
         ∙ sym (journal-at m k l)
         ∙ sym (ap (λ (b : Bool). cond b (viewOf m .journal k ++ (newest ∷ [])) (viewOf m .journal k)) (ne-eqb k j ne)))
         (same-or-not k j))
@@ -224,9 +235,9 @@ module _ (bytes keys order words : List ℕ) (j a : ℕ) (asks : NoteAsks (mem b
 
     noted-shows : Shows (settingOf m) (noting j (newest ∷ []) (viewOf m)) m'
     noted-shows = record {
-      formed = formed-by m' (same-facts bytes keys order words bytes' words' f lb long head body cap notes);
-      setting = same-setting bytes keys order words bytes' words' f lb long head body;
-      view = same-view bytes keys order words bytes' words' f lb long head body (noting j (newest ∷ []) (viewOf m)) (λ p x. refl) (λ p k. refl) refl (λ p. refl) refl refl view-noted;
+      formed = formed-by m' (same-facts bytes keys order words bytes' words' f lb long alone body cap notes);
+      setting = same-setting bytes keys order words bytes' words' f lb long alone body;
+      view = same-view bytes keys order words bytes' words' f lb long alone body (noting j (newest ∷ []) (viewOf m)) (λ p x. refl) (λ p k. refl) refl (λ p. refl) refl refl view-noted;
     }
 
   -- what `note` leaves

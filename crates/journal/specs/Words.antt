@@ -13,7 +13,7 @@ use Rattle.bodies.specs.Words.{placeIn, Spread}
 -- bytes and words have the lengths of a memory
 pub record Long (bytes words : List ℕ) : Type 0 where
   pub in-bytes : length bytes ≡ bytesFor (slotCount words) (journalWords words)
-  pub in-words : length words ≡ wordsFor (journalWords words)
+  pub in-words : length words ≡ wordsFor (slotCount words) (journalWords words)
   pub chunks-hi : slotCount words ≤ 65536
   pub journal-hi : journalWords words ≤ 65536
 

@@ -532,7 +532,7 @@ module _ (s : Setting) (calldata : List ℕ) (narrow : Narrow s) (m : Mem) where
       go : (n : ℕ) → answered n nothing ≡ result → Goes m (Open s calldata) result
       go zero e =
           let asks = open-asks nothing s m (length calldata) 0 e refl in
-          let t = started-there s m asks (head-width s (m .words) (narrow .statics) (narrow .calldata) (narrow .heap) (narrow .aux) (narrow .base) (narrow .stride)) in
+          let t = started-there s m asks (λ w. head-width s w (narrow .statics) (narrow .calldata) (narrow .heap) (narrow .aux) (narrow .base) (narrow .stride)) in
           let q = calldata-asks nothing s m (length calldata) 0 e refl (t .memory) (t .shows) in
           let u = calldata-there (t .memory) (s .layout .calldata .0) calldata q in
           let d = open-done nothing s m calldata 0 e refl (t .memory) (u .memory) (t .shows) (u .shows) in

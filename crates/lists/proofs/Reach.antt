@@ -3,21 +3,24 @@
 use mathlib.Core.Path.{_≡_, refl, sym, ap, _∙_, subst}
 use mathlib.Core.Logic.{⊎-elim}
 use mathlib.Core.List.{List, _++_}
-use Prim.Native.Nat.{ℕ, zero, suc, _+_, _*_, _-_, _/_, _%_, _≤_, _<_, max}
+use Prim.Native.Nat.{ℕ, zero, suc, _+_, _*_, _-_, _/_, _%_, _^_, _≤_, _<_, min, max}
 use native.Mathlib.Numerals.{add-one}
 use native.Mathlib.Omega.{arith}
 use lib.ListN.{length, getD, set, take, drop, length-set, length-drop, length-append, replicate}
 use lib.Seq.{length-take-le}
 use Rattle.store.specs.Keys.{keyOf}
-use Rattle.formed.proofs.Same.{tab-at}
+use Rattle.formed.proofs.Same.{tab-at, tab-long}
 use Rattle.formed.proofs.Asks.{slots-asked}
+use Rattle.formed.proofs.Meaning.{pooling-of}
 use Rattle.index.specs.Index.{seek}
 use Rattle.index.proofs.Logic.{lt-or-ge}
-use Rattle.store.specs.Mem.{Mem, mem, layoutOf, slotCount, pageCount, heldNow, inUse, journalWords, journalLength, holders}
+use Rattle.bits.specs.Bits.{onesOf, lowestOf}
+use Rattle.store.specs.Mem.{Mem, mem, layoutOf, slotCount, pageCount, heldNow, inUse, journalWords, journalLength, poolLength, poolWords}
 use Rattle.store.specs.Indexed.{Indexed}
-use Rattle.pool.specs.Hold.{lacks, Held}
+use Rattle.store.specs.Pool.{Pooling}
+use Rattle.pool.specs.Hold.{lacks, unpooled, Held}
 use Rattle.store.specs.Find.{slotFor, slotAtEntry}
-use Rattle.pool.proofs.Holds.{part-room, insertable, taken, lacking, held-new, held-was}
+use Rattle.pool.proofs.Holds.{insertable, taken, lacking, held-new, held-was}
 use Rattle.store.proofs.Parts.{rest-part}
 use Rattle.formed.specs.Pages.{group, journalCount, journalPlace, journalPage}
 use Rattle.formed.specs.Parts.{entryOf, tab, wordNumber, oldPlace}
@@ -33,14 +36,14 @@ use Rattle.pages.proofs.Taking as taking
 use Rattle.pages.proofs.Listing.{listed-already, entry-asks, listed-now}
 use Rattle.journal.specs.Words.{noteSet}
 use Rattle.journal.specs.Steps.{alignedFrom, AlignedAsks, restoring, undoing, UndoAsks, RollBackAsks}
-use Rattle.journal.proofs.Numbers.{number-lt}
+use Rattle.formed.proofs.Numbers.{number-lt}
 use Rattle.journal.proofs.Notes.{note-slots, note-room, note-shows}
 use Rattle.journal.proofs.Aligned.{aligned-none, aligned-asks, aligned-more}
 use Rattle.journal.proofs.Undos.{back-asks, back-slots, back-more, back-none, undo-shows, heap-asks, aux-asks, rolled}
 use Rattle.formed.proofs.Keys.{le-or-gt}
-use Rattle.opening.specs.Opening.{headed, OpenAsks, FixedAsks, FirstPages, CalldataAsks}
+use Rattle.opening.specs.Opening.{PoolFull, headed, OpenAsks, FixedAsks, FirstPages, CalldataAsks}
 use Rattle.opening.proofs.Fixed.{first-none, first-asks, first-more}
-use Rattle.opening.proofs.Starts.{fixed-asks, started}
+use Rattle.opening.proofs.Starts.{part-long, filled, words-asks, fixed-asks, started}
 use Rattle.opening.proofs.Calldata.{hold-asks, put-asks, calldata-put}
 use Rattle.lists.proofs.Inserts.{free, insert}
 
@@ -57,23 +60,23 @@ record Holding (k : ℕ) (keys order words : List ℕ) : Type 0 where
   words' : List ℕ
   held : Held k keys order words slot keys' order' words'
 
-hold : (keys order words : List ℕ) (ix : Indexed keys order words) (k : ℕ) → 0 < k → lacks (take (slotCount words) keys) k + heldNow words ≤ slotCount words → Holding k keys order words
-hold keys order words ix k pos enough =
+hold : (keys order words : List ℕ) (ix : Indexed keys order words) (p : Pooling keys words) (k : ℕ) → 0 < k → lacks (take (slotCount words) keys) k ≤ onesOf (poolWords words) → Holding k keys order words
+hold keys order words ix p k pos enough =
     let c = slotCount words in
+    let s = lowestOf (poolWords words) in
     ⊎-elim
     (λ (l : seek (take c keys) k < c). record { slot = seek (take c keys) k; keys' = keys; order' = order; words' = words; held = held-was keys order words ix k pos (seek (take c keys) k) refl l })
     (λ (l : c ≤ seek (take c keys) k).
-    let r = lacking keys order words ix k pos l enough in
-    let f = free (take (c - 0) keys) (part-room keys order words ix r) in
-    let z : (f .place < length (take (c - 0) keys)) × (getD (take (c - 0) keys) (f .place) 0 ≡ 0) = (f .inside, f .none) in
-    let i = insert (take (c - 0) keys) (take (c - 0) order) (heldNow words) (f .place) k (insertable keys order words ix (f .place) z k pos l r) in
-    let t = taken keys order words ix (f .place) z k pos l r (set (take (c - 0) keys) (f .place) k) (i .order) (i .long) refl (i .index) in
+    let some = lacking keys order words ix k pos l enough in
+    let i = insert (take (c - 0) keys) (take (c - 0) order) (heldNow words) s k (insertable keys order words ix p some s refl k pos l) in
+    let w = set (unpooled words s) 9 (heldNow words + 1) in
+    let t = taken keys order words ix p some s refl k pos l (set (take (c - 0) keys) s k) (i .order) (i .long) refl w refl (i .index) in
     record {
-      slot = f .place;
-      keys' = set (take (c - 0) keys) (f .place) k ++ drop (c - 0) keys;
+      slot = s;
+      keys' = set (take (c - 0) keys) s k ++ drop (c - 0) keys;
       order' = i .order ++ drop (c - 0) order;
-      words' = set words 9 (heldNow words + 1);
-      held = held-new keys order words ix k pos l (f .place) _ _ _ t;
+      words' = w;
+      held = held-new keys order words ix k pos (p .part) s _ _ w t l;
     })
     (lt-or-ge (seek (take c keys) k) c)
 
@@ -92,7 +95,8 @@ module _ (m : Mem) (p k n : ℕ) (asks : HoldAsks m p k n) where
   turn zero l = record { keys = m .keys; order = m .order; words = m .words; after = after-none m p k (asks .formed) }
   turn (suc i) l =
       let t = turn i (omega arith) in
-      let h = hold (t .keys) (t .order) (t .words) (slots-asked (mem (m .bytes) (t .keys) (t .order) (t .words)) (t .after .shows .formed)) (key i) (omega arith)
+      let f = t .after .shows .formed in
+      let h = hold (t .keys) (t .order) (t .words) (slots-asked (mem (m .bytes) (t .keys) (t .order) (t .words)) f) (pooling-of (mem (m .bytes) (t .keys) (t .order) (t .words)) f) (key i) (omega arith)
       (turn-room m p k n asks i l (m .bytes) (t .keys) (t .order) (t .words) (t .after) (entryOf m p) (key i) refl refl) in
       record {
         keys = h .keys';
@@ -334,19 +338,49 @@ first-pages ws ks os asks (suc n) l =
       pages = subst (λ (x : ℕ). FirstPages ws (set (t .keys) n k) (i .order) x) (add-one n) (first-more ws (t .keys) (t .order) n (t .pages) (omega arith) (set (t .keys) n k) (i .order) refl (i .index));
     }
 
-module _ (s : Setting) (m : Mem) (asks : OpenAsks s m) (width : (i : ℕ) → i < 6 → getD (headed s (m .words)) i 0 ≤ 4294967295) where
-  pub started-there : Reached s (emptyView s)
-  started-there =
+-- the words with a full pool
+module _ (s : Setting) (m : Mem) (asks : OpenAsks s m) where
+  abbrev ones : ℕ → ℕ
+  ones i = 2 ^ min (s .chunks - 64 * i) 64 - 1
+
+  abbrev at : ℕ
+  at = length (m .words) - poolLength (s .chunks)
+
+  abbrev lent : List ℕ
+  lent = take (length (m .words) - at) (drop at (m .words))
+
+  room : poolLength (s .chunks) ≤ length (m .words)
+  room = let h = asks .sizes .in-words in omega arith
+
+  abbrev filledWords : List ℕ
+  filledWords = take at (m .words) ++ (tab (length lent) ones ++ drop (length (m .words) - at) (drop at (m .words)))
+
+  full : PoolFull (s .chunks) filledWords
+  full = filled (s .chunks) (m .words) room at refl (tab (length lent) ones) (tab-long (length lent) ones) (λ i l. tab-at (length lent) ones i l)
+
+  filled-asks : OpenAsks s (mem (m .bytes) (m .keys) (m .order) filledWords)
+  filled-asks =
+      words-asks s (m .bytes) (m .keys) (m .order) (m .words) filledWords asks
+      (let a = length-take-le at (m .words) (omega arith) in
+      let b = tab-long (length lent) ones in
+      let c = part-long (s .chunks) (m .words) room at refl in
+      let d = length-drop (length (m .words) - at) (drop at (m .words)) in
+      let e = length-drop at (m .words) in
+      let r = room in
+      simp (length-append) (omega arith))
+
+  pub started-there : ((w : List ℕ) (i : ℕ) → i < 6 → getD (headed s w) i 0 ≤ 4294967295) → Reached s (emptyView s)
+  started-there width =
       let k₁ : List ℕ = replicate (length (m .keys)) 0 in
-      let w₁ = headed s (m .words) in
+      let w₁ = headed s filledWords in
       let ks = take (length k₁ - s .chunks) (drop (s .chunks) k₁) in
       let os = take (length (m .order) - s .chunks) (drop (s .chunks) (m .order)) in
-      let t = first-pages w₁ ks os (fixed-asks s (m .bytes) (m .keys) (m .order) (m .words) asks width k₁ w₁ refl refl) 4 (omega arith) in
+      let t = first-pages w₁ ks os (fixed-asks s (m .bytes) (m .keys) (m .order) filledWords filled-asks (width filledWords) full k₁ w₁ refl refl) 4 (omega arith) in
       record {
         memory = mem _ _ _ _;
         shows =
-            started s (m .bytes) (m .keys) (m .order) (m .words) asks width k₁ w₁ refl refl (replicate (length (take (256 * s .chunks - 0) (m .bytes))) 0) (t .keys) (t .order) refl (t .keys-long) (t .order-long)
-            (t .pages);
+            started s (m .bytes) (m .keys) (m .order) filledWords filled-asks (width filledWords) full k₁ w₁ refl refl (replicate (length (take (256 * s .chunks - 0) (m .bytes))) 0) (t .keys) (t .order) refl (t .keys-long)
+            (t .order-long) (t .pages);
       }
 
 -- and calldata put on its page

@@ -8,12 +8,14 @@ use Prim.Native.Nat.{ℕ, _+_, _*_, _-_, _/_, _≤_, _<_}
 use native.Mathlib.Omega.{arith}
 use lib.Dec.{leb}
 use lib.ListN.{length, getD, set, take, drop, length-set, length-append, length-map, length-drop, List·getD-eq-default}
-use lib.Seq.{getD-take, getD-set-same, getD-set-other, length-take-le}
+use lib.Seq.{getD-take, getD-drop, getD-set-same, getD-set-other, length-take-le}
 use borrow.Author.Tests.{le-leb, leb-true}
 use Rattle.store.specs.Keys.{keyEntry, keyChunk}
 use Rattle.formed.proofs.Same.{tab-at, tab-long}
 use Rattle.index.proofs.Logic.{lt-or-ge, and-left, le-of-not-lt}
-use Rattle.store.specs.Mem.{Mem, mem, layoutOf, slotCount, heldNow, inUse, holders, entries, slotOrder, pageOrder}
+use Rattle.bits.specs.Bits.{freeWord}
+use Rattle.store.specs.Mem.{Mem, mem, layoutOf, slotCount, journalWords, heldNow, inUse, poolLength, poolPlace, poolSkip, holders, entries, slotOrder, pageOrder}
+use Rattle.store.specs.Pool.{Pooling}
 use Rattle.store.proofs.Parts.{take-front, drop-front}
 use Rattle.formed.specs.Pages.{dynamic}
 use Rattle.formed.specs.Parts.{tab}
@@ -71,26 +73,69 @@ module _ (m : Mem) (f : WellFormed m) (D : ℕ → ℕ → Bool) (free : ℕ →
   abbrev byte : ℕ → ℕ
   byte x = cond (P (holder m (x / 256))) 0 (getD (m .bytes) x 0)
 
-  abbrev m' : Mem
-  m' =
-      mem (tab (length (m .bytes)) byte) (thin P (holders m) ++ thin U (entries m)) (slots .order ++ pages .order) (set (set (m .words) 9 (slots .count)) 10 (pages .count))
+  -- the words with the new counts, and with the pool of the slots that hold nothing now; a search skips none of its words
+  abbrev w₁ : List ℕ
+  w₁ = set (set (set (m .words) 9 (slots .count)) 10 (pages .count)) 15 0
 
-  head : (i : ℕ) → (i ≡ 9 → ⊥) → (i ≡ 10 → ⊥) → getD (m' .words) i 0 ≡ getD (m .words) i 0
-  head i a b = getD-set-other (set (m .words) 9 (slots .count)) 10 i (pages .count) 0 b ∙ getD-set-other (m .words) 9 i (slots .count) 0 a
+  abbrev at : ℕ
+  at = poolPlace (m .words)
+
+  abbrev bits : List ℕ
+  bits = tab (poolLength (slotCount (m .words))) (freeWord (thin P (holders m)))
+
+  abbrev m' : Mem
+  m' = mem (tab (length (m .bytes)) byte) (thin P (holders m) ++ thin U (entries m)) (slots .order ++ pages .order) (take at w₁ ++ bits)
+
+  w₁-long : length w₁ ≡ length (m .words)
+  w₁-long = length-set (set (set (m .words) 9 (slots .count)) 10 (pages .count)) 15 0 ∙ length-set (set (m .words) 9 (slots .count)) 10 (pages .count) ∙ length-set (m .words) 9 (slots .count)
+
+  in-words : 16 + 6 * journalWords (m .words) + poolLength (slotCount (m .words)) ≡ length (m .words)
+  in-words = sym (f .lengths .in-words)
+
+  cut : length (take at w₁) ≡ at
+  cut = length-take-le at w₁ (let l = w₁-long in omega arith)
+
+  words-long : length (m' .words) ≡ length (m .words)
+  words-long =
+      let a = cut in
+      let b = tab-long (poolLength (slotCount (m .words))) (freeWord (thin P (holders m))) in
+      let c = in-words in
+      simp (length-append) (omega arith)
+
+  -- before the pool, and in it
+  low : (i : ℕ) → i < at → getD (m' .words) i 0 ≡ getD w₁ i 0
+  low i l = sym (getD-take at (m' .words) i 0 l) ∙ ap (λ (x : List ℕ). getD x i 0) (take-front (take at w₁) bits at cut) ∙ getD-take at w₁ i 0 l
+
+  high : (i : ℕ) → i < poolLength (slotCount (m .words)) → getD (m' .words) (at + i) 0 ≡ freeWord (thin P (holders m)) i
+  high i l = sym (getD-drop at (m' .words) i 0) ∙ ap (λ (x : List ℕ). getD x i 0) (drop-front (take at w₁) bits at cut) ∙ tab-at (poolLength (slotCount (m .words))) (freeWord (thin P (holders m))) i l
+
+  head : (i : ℕ) → i < at → (i ≡ 9 → ⊥) → (i ≡ 10 → ⊥) → (i ≡ 15 → ⊥) → getD (m' .words) i 0 ≡ getD (m .words) i 0
+  head i l a b e =
+      low i l ∙ getD-set-other (set (set (m .words) 9 (slots .count)) 10 (pages .count)) 15 i 0 0 e
+      ∙ getD-set-other (set (m .words) 9 (slots .count)) 10 i (pages .count) 0 b ∙ getD-set-other (m .words) 9 i (slots .count) 0 a
 
   slots-same : slotCount (m' .words) ≡ slotCount (m .words)
-  slots-same = head 6 (λ e. omega arith) (λ e. omega arith)
+  slots-same = head 6 (let w = in-words in omega arith) (λ e. omega arith) (λ e. omega arith) (λ e. omega arith)
 
   held-now : heldNow (m' .words) ≡ slots .count
   held-now =
-      let l = f .lengths .in-words in
-      getD-set-other (set (m .words) 9 (slots .count)) 10 9 (pages .count) 0 (λ e. omega arith) ∙ getD-set-same (m .words) 9 (slots .count) 0 (omega arith)
+      let l = in-words in
+      low 9 (omega arith) ∙ getD-set-other (set (set (m .words) 9 (slots .count)) 10 (pages .count)) 15 9 0 0 (λ e. omega arith)
+      ∙ getD-set-other (set (m .words) 9 (slots .count)) 10 9 (pages .count) 0 (λ e. omega arith) ∙ getD-set-same (m .words) 9 (slots .count) 0 (omega arith)
 
   in-use-now : inUse (m' .words) ≡ pages .count
   in-use-now =
-      let l = f .lengths .in-words in
+      let l = in-words in
       let e = length-set (m .words) 9 (slots .count) in
-      getD-set-same (set (m .words) 9 (slots .count)) 10 (pages .count) 0 (omega arith)
+      low 10 (omega arith) ∙ getD-set-other (set (set (m .words) 9 (slots .count)) 10 (pages .count)) 15 10 0 0 (λ e. omega arith)
+      ∙ getD-set-same (set (m .words) 9 (slots .count)) 10 (pages .count) 0 (omega arith)
+
+  skip-now : poolSkip (m' .words) ≡ 0
+  skip-now =
+      let l = in-words in
+      let a = length-set (m .words) 9 (slots .count) in
+      let b = length-set (set (m .words) 9 (slots .count)) 10 (pages .count) in
+      low 15 (omega arith) ∙ getD-set-same (set (set (m .words) 9 (slots .count)) 10 (pages .count)) 15 0 0 (omega arith)
 
   thin-long : length (thin P (holders m)) ≡ slotCount (m .words)
   thin-long = length-map (holders m) (λ k. cond (P k) 0 k) ∙ holders-long m (f .lengths)
@@ -100,6 +145,24 @@ module _ (m : Mem) (f : WellFormed m) (D : ℕ → ℕ → Bool) (free : ℕ →
 
   holders-now : holders m' ≡ thin P (holders m)
   holders-now = ap (λ (c : ℕ). take c (m' .keys)) slots-same ∙ take-front (thin P (holders m)) (thin U (entries m)) (slotCount (m .words)) thin-long
+
+  pool-now : Pooling (m' .keys) (m' .words)
+  pool-now =
+      let c = slots-same in
+      let l = words-long in
+      let w = in-words in
+      let z = skip-now in
+      record {
+        part = record {
+          few = let h = f .lengths .chunks-hi in omega arith;
+          room = omega arith;
+          skip = omega arith;
+          skipped = λ i h. absurd (omega arith);
+        };
+        bits = λ i h.
+            let here : poolPlace (m' .words) + i ≡ at + i = omega arith in
+            ap (λ (x : ℕ). getD (m' .words) x 0) here ∙ high i (omega arith) ∙ ap (λ (x : List ℕ). freeWord x i) (sym holders-now);
+      }
 
   entries-now : entries m' ≡ thin U (entries m)
   entries-now = ap (λ (c : ℕ). drop c (m' .keys)) slots-same ∙ drop-front (thin P (holders m)) (thin U (entries m)) (slotCount (m .words)) thin-long
@@ -159,13 +222,14 @@ module _ (m : Mem) (f : WellFormed m) (D : ℕ → ℕ → Bool) (free : ℕ →
         let c = length-drop (slotCount (m .words)) (m .order) in
         let l = f .lengths .in-order in
         simp (length-append) (omega arith);
-    words-long = length-set (set (m .words) 9 (slots .count)) 10 (pages .count) ∙ length-set (m .words) 9 (slots .count);
+    words-long = words-long;
     slots = λ s. ap (λ (ks : List ℕ). getD ks s 0) holders-now ∙ thin-at P (holders m) s;
     pages = λ e. ap (λ (ks : List ℕ). getD ks e 0) entries-now ∙ thin-at U (entries m) e;
     chunk = chunk;
     rest = rest;
     slots-index = rw (holders-now, slot-order-now, held-now) (slots .index);
     pages-index = rw (entries-now, page-order-now, in-use-now) (pages .index);
+    pool = pool-now;
     fixed-keys = λ k p. leb-true 4 (keyEntry k) (and-left (leb 4 (keyEntry k)) _ p);
     fixed-pages = λ e u. le-of-not-lt (λ l.
         let v = f .encoded .fixed-four e l in

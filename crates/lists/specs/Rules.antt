@@ -30,7 +30,7 @@ pub record Rules : Type 3 where
   pub well-formed : (m : Mem) → (wellFormed m ≡ true → WellFormed m) × (WellFormed m → wellFormed m ≡ true)
   -- refusal 2: for counts in bounds no buffer is longer than 33,554,432
   pub buffers-bound : (chunks pages words : ℕ) → chunks ≤ 65536 → pages ≤ 4096 → words ≤ 65536
-      → (bytesFor chunks words ≤ 33554432) × (keysFor chunks pages ≤ 33554432) × (orderFor chunks pages ≤ 33554432) × (wordsFor words ≤ 33554432)
+      → (bytesFor chunks words ≤ 33554432) × (keysFor chunks pages ≤ 33554432) × (orderFor chunks pages ≤ 33554432) × (wordsFor chunks words ≤ 33554432)
   -- an undecodable page is not allocated
   pub undecodable-not-allocated : (m : Mem) → WellFormed m → (p : ℕ) → undecodable (settingOf m) p ≡ true → allocated m p ≡ false
   -- a page that is undecodable or not allocated reads zero at every address

@@ -4,16 +4,19 @@ use mathlib.Core.Path.{_≡_, refl, sym, ap, _∙_}
 use mathlib.Core.Logic.{⊎-elim}
 use mathlib.Core.Bool.{Bool, true, false, cond, not}
 use mathlib.Core.List.{List, [], _∷_, _++_, append-nil}
-use Prim.Native.Nat.{ℕ, zero, suc, _+_, _*_, _-_, _≤_, _<_}
+use Prim.Native.Nat.{ℕ, zero, suc, _+_, _*_, _-_, _/_, _^_, _≤_, _<_, min}
 use native.Mathlib.Nat.{le-of-eq}
 use native.Mathlib.Omega.{arith}
 use lib.Dec.{ltb}
 use lib.ListN.{length, getD, set, take, drop, replicate, length-append, length-drop, length-replicate, drop-of-length-le}
-use lib.Seq.{length-take-le, getD-drop}
+use lib.Seq.{length-take-le, getD-drop, getD-append-add}
 use borrow.Author.Tests.{le-ltb}
 use Rattle.index.proofs.Logic.{both-ways, not-held}
-use Rattle.store.specs.Mem.{Mem, mem}
-use Rattle.store.proofs.Parts.{sub-zero, take-front, drop-front, put-long, rest-part}
+use Rattle.bits.specs.Bits.{freeWord}
+use Rattle.bits.proofs.Free.{free-zeros}
+use Rattle.store.specs.Mem.{Mem, mem, poolLength, poolPlace, poolWord}
+use Rattle.store.specs.Pool.{Pooling}
+use Rattle.store.proofs.Parts.{sub-zero, take-front, drop-front, put-long, rest-part, rest-high}
 use Rattle.formed.specs.Pages.{LayoutRule, fixed, journalCount}
 use Rattle.formed.specs.Parts.{tab, byteAt, slotOfChunk, holds, allocated, journal}
 use Rattle.formed.specs.WellFormed.{holder, WellFormed, ListedPage}
@@ -25,13 +28,13 @@ use Rattle.view.specs.View.{Setting, viewOf}
 use Rattle.view.specs.Steps.{emptyView}
 use Rattle.view.specs.Does.{Shows}
 use Rattle.view.proofs.Equal.{view-by}
-use Rattle.opening.specs.Opening.{headed, OpenAsks, FixedAsks, FirstPages}
+use Rattle.opening.specs.Opening.{PoolFull, headed, OpenAsks, FixedAsks, FirstPages}
 use Rattle.opening.proofs.Fixed.{getD-zeros, take-zeros, empty-index}
 
--- ---- the head: 14 stores
+-- ---- the head: 15 stores
 pub head-stores : (a b c d e f g h i : ℕ) (w : List ℕ) → 16 ≤ length w
-    → set (set (set (set (set (set (set (set (set (set (set (set (set (set w 0 a) 1 b) 2 c) 3 d) 4 e) 5 f) 6 g) 7 h) 8 i) 9 0) 10 4) 11 0) 12 0) 13 0
-    ≡ a ∷ b ∷ c ∷ d ∷ e ∷ f ∷ g ∷ h ∷ i ∷ 0 ∷ 4 ∷ 0 ∷ 0 ∷ 0 ∷ drop 14 w
+    → set (set (set (set (set (set (set (set (set (set (set (set (set (set (set w 0 a) 1 b) 2 c) 3 d) 4 e) 5 f) 6 g) 7 h) 8 i) 9 0) 10 4) 11 0) 12 0) 13 0) 15 0
+    ≡ a ∷ b ∷ c ∷ d ∷ e ∷ f ∷ g ∷ h ∷ i ∷ 0 ∷ 4 ∷ 0 ∷ 0 ∷ 0 ∷ getD w 14 0 ∷ 0 ∷ drop 16 w
 head-stores a b c d e f g h i [] l = absurd (omega arith)
 head-stores a b c d e f g h i (_ ∷ []) l = absurd (omega arith)
 head-stores a b c d e f g h i (_ ∷ _ ∷ []) l = absurd (omega arith)
@@ -46,11 +49,23 @@ head-stores a b c d e f g h i (_ ∷ _ ∷ _ ∷ _ ∷ _ ∷ _ ∷ _ ∷ _ ∷ _
 head-stores a b c d e f g h i (_ ∷ _ ∷ _ ∷ _ ∷ _ ∷ _ ∷ _ ∷ _ ∷ _ ∷ _ ∷ _ ∷ []) l = absurd (omega arith)
 head-stores a b c d e f g h i (_ ∷ _ ∷ _ ∷ _ ∷ _ ∷ _ ∷ _ ∷ _ ∷ _ ∷ _ ∷ _ ∷ _ ∷ []) l = absurd (omega arith)
 head-stores a b c d e f g h i (_ ∷ _ ∷ _ ∷ _ ∷ _ ∷ _ ∷ _ ∷ _ ∷ _ ∷ _ ∷ _ ∷ _ ∷ _ ∷ []) l = absurd (omega arith)
-head-stores a b c d e f g h i (_ ∷ _ ∷ _ ∷ _ ∷ _ ∷ _ ∷ _ ∷ _ ∷ _ ∷ _ ∷ _ ∷ _ ∷ _ ∷ _ ∷ w) l = refl
+head-stores a b c d e f g h i (_ ∷ _ ∷ _ ∷ _ ∷ _ ∷ _ ∷ _ ∷ _ ∷ _ ∷ _ ∷ _ ∷ _ ∷ _ ∷ _ ∷ []) l = absurd (omega arith)
+head-stores a b c d e f g h i (_ ∷ _ ∷ _ ∷ _ ∷ _ ∷ _ ∷ _ ∷ _ ∷ _ ∷ _ ∷ _ ∷ _ ∷ _ ∷ _ ∷ _ ∷ []) l = absurd (omega arith)
+head-stores a b c d e f g h i (_ ∷ _ ∷ _ ∷ _ ∷ _ ∷ _ ∷ _ ∷ _ ∷ _ ∷ _ ∷ _ ∷ _ ∷ _ ∷ _ ∷ _ ∷ _ ∷ w) l = refl
 
--- ---- the new memory: no chunk has bytes, no slot is held, the four fixed pages are listed, and the head says so
+-- the head is the first 16 numbers
+headed-past : (s : Setting) (w : List ℕ) (y : ℕ) → getD (headed s w) (16 + y) 0 ≡ getD w (16 + y) 0
+headed-past s w y =
+    getD-append-add
+    (s .layout .«static_memory» .0 ∷ s .layout .calldata .0 ∷ s .layout .«bootloader_heap» .0 ∷ s .layout .«bootloader_aux» .0 ∷ s .layout .base .0 ∷ s .layout .stride
+    ∷ s .chunks ∷ s .pages ∷ s .journalWords ∷ 0 ∷ 4 ∷ 0 ∷ 0 ∷ 0 ∷ getD w 14 0 ∷ 0 ∷ [])
+    (drop 16 w) y 0
+    ∙ getD-drop 16 w y 0
+
+-- ---- the new memory: no chunk has bytes, no slot is held, every slot is pooled, the four fixed pages are listed, and the head says so
 module _ (s : Setting) (b k o w : List ℕ) (asks : OpenAsks s (mem b k o w)) (width : (i : ℕ) → i < 6 → getD (headed s w) i 0 ≤ 4294967295)
     (bare : (i : ℕ) → getD (take (256 * s .chunks) b) i 0 ≡ 0) (free : (i : ℕ) → getD (take (s .chunks) k) i 0 ≡ 0)
+    (full : PoolFull (s .chunks) w)
     (first : FirstPages (headed s w) (drop (s .chunks) k) (drop (s .chunks) o) 4) where
   abbrev m : Mem
   m = mem b k o (headed s w)
@@ -64,7 +79,30 @@ module _ (s : Setting) (b k o w : List ℕ) (asks : OpenAsks s (mem b k o w)) (w
   silent (suc (suc j)) l = absurd (omega arith)
 
   long : length (headed s w) ≡ length w
-  long = let q = asks .sizes .in-words in let d = length-drop 14 w in omega arith
+  long = let q = asks .sizes .in-words in let d = length-drop 16 w in omega arith
+
+  -- the pool's words lie past the head
+  pool-bits : (i : ℕ) → i < poolLength (s .chunks) → poolWord (headed s w) i ≡ freeWord (take (s .chunks) k) i
+  pool-bits i l =
+      let q = asks .sizes .in-words in
+      let g = long in
+      let y = length w - poolLength (s .chunks) + i - 16 in
+      let here : poolPlace (headed s w) + i ≡ 16 + y = omega arith in
+      let there : 16 + y ≡ length w - poolLength (s .chunks) + i = omega arith in
+      let c : length (take (s .chunks) k) ≡ s .chunks = length-take-le (s .chunks) k (let h = asks .sizes .in-keys in omega arith) in
+      ap (λ (x : ℕ). getD (headed s w) x 0) here ∙ headed-past s w y ∙ ap (λ (x : ℕ). getD w x 0) there ∙ full i l
+      ∙ ap (λ (x : ℕ). 2 ^ min (x - 64 * i) 64 - 1) (sym c) ∙ sym (free-zeros (take (s .chunks) k) free i)
+
+  pooling : Pooling k (headed s w)
+  pooling = record {
+    part = record {
+      few = asks .sizes .chunks-hi;
+      room = let q = asks .sizes .in-words in let g = long in omega arith;
+      skip = omega arith;
+      skipped = λ i l. absurd (omega arith);
+    };
+    bits = pool-bits;
+  }
 
   facts : Facts m
   facts = record {
@@ -88,6 +126,7 @@ module _ (s : Setting) (b k o w : List ℕ) (asks : OpenAsks s (mem b k o w)) (w
     listed = λ e ge p. absurd (let z = first .rest e ge in omega arith);
     pooled = λ t l z r lr. bare (256 * t + r);
     held = λ t p. absurd (let z = free t in omega arith);
+    pool = pooling;
     in-capacity = λ j l. let z = silent j l in omega arith;
     notes = λ j i l h. absurd (let z = silent j l in omega arith);
   }
@@ -144,8 +183,44 @@ rest-long xs e c l q =
     let d : length e ≡ length xs - c = q ∙ ap length (rest-part xs c) ∙ length-drop c xs in
     omega arith
 
+-- ---- the pool is filled: at is where it begins, and e what is written there
+module _ (c : ℕ) (words : List ℕ) (room : poolLength c ≤ length words) (at : ℕ) (here : at ≡ length words - poolLength c) where
+  in-words : at ≤ length words
+  in-words = omega arith
+
+  pub part-long : length (take (length words - at) (drop at words)) ≡ (c + 63) / 64
+  part-long = ap length (rest-part words at) ∙ length-drop at words ∙ omega arith
+
+  pub filled : (e : List ℕ) → length e ≡ length (take (length words - at) (drop at words))
+      → ((i : ℕ) → i < length (take (length words - at) (drop at words)) → getD e i 0 ≡ 2 ^ min (c - 64 * i) 64 - 1)
+      → PoolFull c (take at words ++ (e ++ drop (length words - at) (drop at words)))
+  filled e kept ones i l =
+      let w = take at words ++ (e ++ drop (length words - at) (drop at words)) in
+      let g : length w ≡ length words = ap length (put-rest words e at) ∙ rest-long words e at in-words kept in
+      let p = part-long in
+      let q : length w - poolLength c + i ≡ at + i = omega arith in
+      ap (λ (x : ℕ). getD w x 0) q ∙ sym (getD-drop at w i 0) ∙ ap (λ (x : List ℕ). getD x i 0) (rest-high words e at in-words) ∙ ones i (omega arith)
+
+-- words of another content and the same length ask no more
+pub words-asks : (s : Setting) (bytes keys order words words' : List ℕ) → OpenAsks s (mem bytes keys order words) → length words' ≡ length words → OpenAsks s (mem bytes keys order words')
+words-asks s bytes keys order words words' asks long = record {
+  layout = asks .layout;
+  sizes = record {
+    chunks-lo = asks .sizes .chunks-lo;
+    chunks-hi = asks .sizes .chunks-hi;
+    pages-lo = asks .sizes .pages-lo;
+    pages-hi = asks .sizes .pages-hi;
+    journal-hi = asks .sizes .journal-hi;
+    in-bytes = asks .sizes .in-bytes;
+    in-keys = asks .sizes .in-keys;
+    in-order = asks .sizes .in-order;
+    in-words = long ∙ asks .sizes .in-words;
+  };
+}
+
 -- ---- what the steps of `start_with` leave: k₁ and w₁ are the keys, cleared, and the words with the new head
 module _ (s : Setting) (bytes keys order words : List ℕ) (asks : OpenAsks s (mem bytes keys order words)) (width : (i : ℕ) → i < 6 → getD (headed s words) i 0 ≤ 4294967295)
+    (full : PoolFull (s .chunks) words)
     (k₁ w₁ : List ℕ) (blank : k₁ ≡ replicate (length keys) 0) (head : w₁ ≡ headed s words) where
   k₁-long : length k₁ ≡ length keys
   k₁-long = ap length blank ∙ length-replicate (length keys) 0
@@ -226,4 +301,4 @@ module _ (s : Setting) (bytes keys order words : List ℕ) (asks : OpenAsks s (m
         (take (s .chunks) order ++ (e₃ ++ drop (length order - s .chunks) (drop (s .chunks) order))) w₁)
     started =
         rw (sub-zero (256 * s .chunks), put-rest k₁ e₂ (s .chunks), put-rest order e₃ (s .chunks), head)
-        (new-memory s (e₁ ++ drop (256 * s .chunks) bytes) (take (s .chunks) k₁ ++ e₂) (take (s .chunks) order ++ e₃) words asks′ width no-bytes no-holder four)
+        (new-memory s (e₁ ++ drop (256 * s .chunks) bytes) (take (s .chunks) k₁ ++ e₂) (take (s .chunks) order ++ e₃) words asks′ width no-bytes no-holder full four)

@@ -3,14 +3,13 @@
 use mathlib.Core.Path.{_≡_}
 use mathlib.Core.Bool.{Bool, true, false, _&&_}
 use mathlib.Core.List.{List, _∷_}
-use Prim.Native.Nat.{ℕ, _+_, _*_, _<_, _≤_}
+use Prim.Native.Nat.{ℕ, _+_, _*_, _-_, _^_, _<_, _≤_, min}
 use lib.ListN.{length, getD, drop}
 use Rattle.index.specs.Index.{indexed}
 use Rattle.page_ids.specs.declared.Layout.{Layout}
 use Rattle.page_ids.specs.Decode.{badLayout}
 use Rattle.outcome.specs.Outcome.{Outcome, done, firstOf}
-use Rattle.store.specs.Mem.{Mem, fixedCount, journalsPlace, layoutOf, slotCount}
-use Rattle.formed.specs.Pages.{journalCount}
+use Rattle.store.specs.Mem.{Mem, headLength, fixedCount, layoutOf, slotCount, poolLength}
 use Rattle.formed.specs.Buffers.{lengthsFit, LengthsFit}
 use Rattle.view.specs.View.{Setting, settingOf}
 use Rattle.view.specs.Steps.{emptyView}
@@ -21,11 +20,15 @@ use Rattle.view.specs.Calls.{Value, nothing}
 abbrev pub settingFrom : Layout → ℕ → ℕ → ℕ → Setting
 settingFrom l chunks pages journalWords = record { layout = l; chunks = chunks; pages = pages; journalWords = journalWords }
 
--- the words w with the head of a new memory: four entries are in use, and all else that counts is 0. The head's last two numbers say nothing
+-- the last words of w have the bits of c slots set, and no other
+abbrev pub PoolFull : ℕ → List ℕ → Type 0
+PoolFull c w = (i : ℕ) → i < poolLength c → getD w (length w - poolLength c + i) 0 ≡ 2 ^ min (c - 64 * i) 64 - 1
+
+-- the words w with the head of a new memory: four entries are in use, and all else that counts is 0. Number 14 of the head says nothing
 abbrev pub headed : Setting → List ℕ → List ℕ
 headed s w =
     s .layout .«static_memory» .0 ∷ s .layout .calldata .0 ∷ s .layout .«bootloader_heap» .0 ∷ s .layout .«bootloader_aux» .0 ∷ s .layout .base .0 ∷ s .layout .stride
-    ∷ s .chunks ∷ s .pages ∷ s .journalWords ∷ 0 ∷ fixedCount ∷ 0 ∷ 0 ∷ 0 ∷ drop (journalsPlace + journalCount) w
+    ∷ s .chunks ∷ s .pages ∷ s .journalWords ∷ 0 ∷ fixedCount ∷ 0 ∷ 0 ∷ 0 ∷ getD w 14 0 ∷ 0 ∷ drop headLength w
 
 -- ---- starting
 -- refusal 2 is that this is false: the counts are in bounds, and the buffers have the lengths that they ask for

@@ -3,14 +3,14 @@ ghost use mathlib.Core.Path.{_≡_};
 ghost use Prim.Native.Nat.{_≤_};
 ghost use lib.ListN.{length, replicate};
 ghost use Rattle.outcome.specs.Outcome.{answered, answerOutcome};
-ghost use Rattle.store.specs.Mem.{mem, headLength, fixedCount};
+ghost use Rattle.store.specs.Mem.{mem, headLength, fixedCount, poolLength};
 ghost use Rattle.view.specs.View.{settingOf};
 ghost use Rattle.view.specs.Steps.{emptyView, opened};
 ghost use Rattle.view.specs.Calls.{nothing, OpenDoes};
 ghost use Rattle.view.specs.Does.{Shows};
 ghost use Rattle.page_ids.specs.declared.Layout.{Layout};
 ghost use Rattle.page_ids.specs.Decode.{layoutFrom};
-ghost use Rattle.opening.specs.Opening.{settingFrom, headed, sizesRight, OpenAsks, FixedAsks, FirstPages, openingOutcome, CalldataAsks};
+ghost use Rattle.opening.specs.Opening.{settingFrom, PoolFull, headed, sizesRight, OpenAsks, FixedAsks, FirstPages, openingOutcome, CalldataAsks};
 use outcome::Answer;
 use page_ids::Address;
 use page_ids::BasePage;
@@ -40,7 +40,16 @@ fn clear_keys(keys: &mut [u64])
     }
 }
 
-// The head: layout and counts, no slot held, four entries in use, dynamic length 0, and no word in a journal.
+// Every slot is pooled: the bits of all of them are set, and no other. Of the words before the pool's the contract says nothing.
+fn fill_pool(words: &mut [u64], chunks: u32)
+    requires { ⌜ (chunks ≤ 65536) × (poolLength chunks ≤ length (now words)) ⌝ }
+    ensures { λ _. ⌜ PoolFull chunks (now (words .exit)) ⌝ }
+{
+    let at = words.len() - store::pool_length(chunks as u64) as usize;
+    bits::fill(&mut words[at..], chunks as usize);
+}
+
+// The head: layout and counts, no slot held, four entries in use, dynamic length 0, no word in a journal, and no word of the pool to skip.
 fn write_head(
     words: &mut [u64],
     statics: PageId,
@@ -70,6 +79,7 @@ fn write_head(
     words[head::DYNAMIC_LENGTH] = 0;
     words[head::HEAP_JOURNAL] = 0;
     words[head::AUX_JOURNAL] = 0;
+    words[head::POOL_SKIP] = 0;
 }
 
 // Lists the four fixed pages, whose ids the head has, as entries 0 to 3.
@@ -107,6 +117,7 @@ fn start_with(
     let end = 256 * c;
     clear_bytes(&mut bytes[0..end]);
     clear_keys(keys);
+    fill_pool(words, chunks);
     write_head(
         words,
         statics,

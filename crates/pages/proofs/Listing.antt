@@ -18,7 +18,9 @@ use Rattle.index.proofs.Logic.{same-or-not, lt-or-ge}
 use Rattle.index.proofs.Counts.{used-free, count-fill}
 use Rattle.index.proofs.Places.{seek-hit, seek-le, seek-other}
 use Rattle.index.proofs.Meaning.{once}
-use Rattle.store.specs.Mem.{Mem, mem, layoutOf, slotCount, pageCount, journalWords, journalLength, inUse, dynamicLength, holders, entries, slotOrder, pageOrder, chunkBytes}
+use Rattle.bits.specs.Bits.{onesOf}
+use Rattle.store.specs.Mem.{Mem, mem, layoutOf, slotCount, pageCount, journalWords, journalLength, inUse, dynamicLength, holders, entries, slotOrder, pageOrder, chunkBytes, poolPlace}
+use Rattle.store.proofs.Pool.{pool-kept, pooling-kept}
 use Rattle.formed.specs.Pages.{LayoutRule, fixed, dynamic, group, journalPlace}
 use Rattle.formed.specs.Parts.{Note, tab, entryOf, allocated, entriesLeft, slotOfChunk, holds, byteAt, notePlace, noteAddress, noteFirst, noteLast, oldPlace, journal}
 use Rattle.formed.specs.WellFormed.{WellFormed, Lengths, ListedPage, NotedRight, holder}
@@ -172,6 +174,9 @@ module _ (m : Mem) (p : ℕ) (a : ListAsks m p) where
       eight : journalWords words' ≡ journalWords (m .words)
       eight = low 8 (omega arith)
 
+      pool-after : (i : ℕ) → poolPlace (m .words) ≤ i → getD words' i 0 ≡ getD (m .words) i 0
+      pool-after i l = past i (let h = a .formed .lengths .in-words in omega arith)
+
       layout-kept : layoutOf words' ≡ layoutOf (m .words)
       layout-kept = layout-same (m .words) words' (λ i x. low i (omega arith))
 
@@ -281,6 +286,7 @@ module _ (m : Mem) (p : ℕ) (a : ListAsks m p) where
         listed = listed-right;
         pooled = λ s x z b r. ap (λ (y : List ℕ). getD y (256 * s + b) 0) chunks-kept ∙ f .pooled s (let h = six in omega arith) (sym (ap (λ (y : List ℕ). getD y s 0) holders-kept) ∙ z) b r;
         held = slot-right;
+        pool = pooling-kept (m .words) words' words-long six pool-after (m .keys) keys' holders-kept (past 15 (omega arith)) (f .pool);
         in-capacity = λ j x. let c = f .in-capacity j x in let h = journal-long j in let g = eight in omega arith;
         notes = λ j i x y. note-right j i (f .notes j i x (let h = journal-long j in omega arith));
       }
@@ -348,6 +354,6 @@ module _ (m : Mem) (p : ℕ) (a : ListAsks m p) where
       listed-now = record {
         formed = formed-by m' new-facts;
         setting = rw (layout-kept, six, low 7 (omega arith), eight);
-        view = listing-by (layoutOf (m .words)) p (viewOf m) (viewOf m') bytes-kept holds-kept (ap freeCount holders-kept) pages-shown (rw not-listed one-less) (rw listed-dynamic eleven)
+        view = listing-by (layoutOf (m .words)) p (viewOf m) (viewOf m') bytes-kept holds-kept (ap onesOf (pool-kept (m .words) words' words-long six pool-after)) pages-shown (rw not-listed one-less) (rw listed-dynamic eleven)
             (λ j. ap (λ (x : List Note). cond (ltb j 2) x []) (journal-kept j));
       }

@@ -1,8 +1,9 @@
 // Page entries: a page is allocated.
 ghost use mathlib.Core.Path.{_≡_};
 ghost use mathlib.Core.Bool.{false};
-ghost use Prim.Native.Nat.{_≤_, max};
-ghost use lib.ListN.{length, set};
+ghost use Prim.Native.Nat.{_<_, _≤_, max};
+ghost use lib.ListN.{length, getD, set};
+ghost use Rattle.index.specs.Index.{usedCount};
 ghost use Rattle.store.specs.Mem.{mem, headLength, dynamicLengthPlace, dynamicLength};
 ghost use Rattle.formed.specs.Parts.{entryOf};
 ghost use Rattle.view.specs.View.{settingOf, viewOf};
@@ -23,6 +24,26 @@ fn raise(words: &mut [u64], least: u64)
     words[head::DYNAMIC_LENGTH] = least;
 }
 
+// The index of some free entry of a table that has one: `guess`, if that is free. The contract does not say which.
+fn free_place(keys: &[u64], guess: usize) -> usize
+    requires { ⌜ usedCount (now keys) < length (now keys) ⌝ }
+    ensures { λ r. ⌜ (r < length (now (keys .entry))) × (getD (now (keys .entry)) r 0 ≡ 0) ⌝ }
+{
+    if guess < keys.len() {
+        if keys[guess] == 0 {
+            return guess;
+        }
+    }
+    let mut i = 0;
+    while i < keys.len() {
+        if keys[i] == 0 {
+            return i;
+        }
+        i += 1;
+    }
+    0
+}
+
 // Gives a free entry to a dynamic page that has none, makes the dynamic length reach past its group, and returns the entry.
 fn take_entry(keys: &mut [u64], order: &mut [u32], words: &mut [u64], page: PageId) -> usize
     requires { ⌜ EntryAsks (now keys) (now order) (now words) (page .0) ⌝ }
@@ -31,7 +52,7 @@ fn take_entry(keys: &mut [u64], order: &mut [u32], words: &mut [u64], page: Page
     let c = words[head::CHUNKS] as usize;
     let n = words[head::ENTRIES] as usize;
     let group = (page.0 as u64 - words[head::BASE]) / words[head::STRIDE];
-    let e = pool::free_place(&keys[c..], n);
+    let e = free_place(&keys[c..], n);
     index::insert(
         &mut keys[c..],
         &mut order[c..],

@@ -8,17 +8,20 @@ use Prim.Native.Nat.{ℕ, _+_, _*_, _-_, _/_, _≤_, _<_}
 use native.Mathlib.Omega.{arith}
 use lib.Dec.{leb}
 use lib.ListN.{length, getD, set, take, drop, length-set}
-use lib.Seq.{getD-set-same, getD-set-other, getD-take}
+use lib.Seq.{getD-set-same, getD-set-other, getD-take, ext-getD}
 use borrow.Author.Tests.{lt-ltb, le-ltb, le-leb, lt-leb}
-use Rattle.index.specs.Index.{LowerBound, Removed}
+use Rattle.index.specs.Index.{all, keyAt, rises, LowerBound, Cleared, Removed}
 use Rattle.index.proofs.Logic.{same-or-not, lt-or-ge}
-use Rattle.index.proofs.Orders.{slot-lt, index-rises}
+use Rattle.index.proofs.Orders.{key-pos, slot-lt, rank-one, index-rises}
 use Rattle.index.proofs.Removes.{ranks-order, rank-within, rank-outside}
-use Rattle.store.specs.Mem.{slotCount, heldNow}
+use Rattle.store.specs.Mem.{heldPlace, poolSkipPlace, slotCount, heldNow, poolPlace}
 use Rattle.store.specs.Indexed.{Indexed}
-use Rattle.pool.specs.Give.{Zeroed, SlotRun, Wiped, within, Released}
+use Rattle.store.specs.Pool.{Pooling}
 use Rattle.store.proofs.Parts.{sub-zero, take-front, drop-front, put-long}
-use Rattle.pool.proofs.Holds.{cut-keys, cut-order}
+use Rattle.pool.specs.Give.{Zeroed, SlotRun, Wiped, repooledAll, Repoolable, within, Released}
+use Rattle.pool.proofs.Pools.{pool-high, count-kept, keys-kept}
+use Rattle.pool.proofs.Holds.{cut-keys, cut-order, held-le}
+use Rattle.pool.proofs.Puts.{Back, back}
 
 -- ---- the loop of `clear`
 pub zero-none : (bs : List ℕ) (at : ℕ) → Zeroed bs at 0 bs
@@ -138,7 +141,7 @@ cases lo hi k x y inside outside =
     (lt-or-ge k lo)
 
 -- ---- `give`
-module _ (bytes keys order words : List ℕ) (ix : Indexed keys order words) (lo hi from to : ℕ) (room : 256 * slotCount words ≤ length bytes) (pos : 0 < lo) (le : lo ≤ hi)
+module _ (bytes keys order words : List ℕ) (ix : Indexed keys order words) (p : Pooling keys words) (lo hi from to : ℕ) (room : 256 * slotCount words ≤ length bytes) (pos : 0 < lo) (le : lo ≤ hi)
     (lower : LowerBound (take (slotCount words - 0) keys) (take (slotCount words - 0) order) (heldNow words) lo from)
     (upper : LowerBound (take (slotCount words - 0) keys) (take (slotCount words - 0) order) (heldNow words) hi to) where
   abbrev ks : List ℕ
@@ -153,6 +156,9 @@ module _ (bytes keys order words : List ℕ) (ix : Indexed keys order words) (lo
   high : LowerBound ks os (heldNow words) hi to
   high = rw (sub-zero (slotCount words)) at upper
 
+  up : all (rises ks os) (heldNow words) ≡ true
+  up = index-rises ks os (heldNow words) (ix .index)
+
   pub in-order : from ≤ to
   in-order = ranks-order ks os (heldNow words) lo hi from to (ix .index) low high le
 
@@ -161,20 +167,55 @@ module _ (bytes keys order words : List ℕ) (ix : Indexed keys order words) (lo
 
   slot-of-rank : (i : ℕ) → i < to → getD os i 0 < slotCount words
   slot-of-rank i b =
-      let h = slot-lt ks os (heldNow words) (index-rises ks os (heldNow words) (ix .index)) i (let w = high .within in omega arith) in
+      let h = slot-lt ks os (heldNow words) up i (let w = high .within in omega arith) in
       let c = cut-keys keys order words ix in
       omega arith
 
   pub chunks-in : (i : ℕ) → from ≤ i → i < to → 256 * getD (take (slotCount words - 0) order) i 0 + 256 ≤ length bytes
   chunks-in i a b = rw (sub-zero (slotCount words)) (let h = slot-of-rank i b in omega arith)
 
-  module _ (bytes' e₁ e₂ : List ℕ) (wiped : Wiped bytes (take (slotCount words - 0) order) from to bytes')
+  -- the slots at the ranks are held, and no two of them are one
+  held : (i : ℕ) → from ≤ i → i < to → 0 < keyAt ks os i
+  held i a b = key-pos ks os (heldNow words) up i (let w = high .within in omega (arith, w, b))
+
+  apart : (i j : ℕ) → from ≤ i → i < j → j < to → getD os i 0 ≡ getD os j 0 → ⊥
+  apart i j a b d e =
+      let w = high .within in
+      let h = rank-one ks os (heldNow words) up i j (omega (arith, w, b, d)) (omega (arith, w, d)) (ap (λ (x : ℕ). getD ks x 0) e) in
+      omega (arith, h, b)
+
+  pub repoolable : Repoolable words (take (slotCount words - 0) order) from to
+  repoolable = rw (sub-zero (slotCount words)) record {
+    keys = keys;
+    in-keys = ix .in-keys;
+    pooling = p;
+    start = in-order;
+    end = let w = high .within in let h = held-le keys order words ix in let c = cut-order keys order words ix in omega (arith, w, h, c);
+    held = held;
+    apart = apart;
+  }
+
+  -- the keys of the slots after those at the ranks were given up
+  slot-keys : (e : List ℕ) → Cleared ks os from to e → (s : ℕ) → getD e s 0 ≡ cond (within lo hi (getD ks s 0)) 0 (getD ks s 0)
+  slot-keys e g s =
+      cases lo hi (getD ks s 0) (getD e s 0) (getD ks s 0)
+      (λ a b. let r = rank-within ks os (heldNow words) lo hi from to (ix .index) low high s pos a b in ap (λ (x : ℕ). getD e x 0) (sym (r .is)) ∙ g .gone (r .rank) (r .from-le) (r .to-lt))
+      (λ o. g .kept s (rank-outside ks os (heldNow words) lo hi from to (ix .index) low high s o))
+
+  module _ (bytes' words₁ e₁ e₂ : List ℕ) (wiped : Wiped bytes (take (slotCount words - 0) order) from to bytes')
+      (put : words₁ ≡ repooledAll words (take (slotCount words - 0) order) from (to - from))
       (gone : Removed (take (slotCount words - 0) keys) (take (slotCount words - 0) order) (heldNow words) from to e₁ e₂) where
     w : Wiped bytes os from to bytes'
     w = rw (sub-zero (slotCount words)) at wiped
 
     g : Removed ks os (heldNow words) from to e₁ e₂
     g = rw (sub-zero (slotCount words)) at gone
+
+    b : Back keys words os from to words₁
+    b =
+        let q : from + (to - from) ≡ to = (let h = in-order in omega (arith, h)) in
+        let e : words₁ ≡ repooledAll words os from (to - from) = put ∙ ap (λ (x : ℕ). repooledAll words (take x order) from (to - from)) (sub-zero (slotCount words)) in
+        rw e (subst (λ (x : ℕ). Back keys words os from x (repooledAll words os from (to - from))) q (back keys words os from to (ix .in-keys) p held apart (to - from) (omega (arith, q))))
 
     l₁ : length e₁ ≡ slotCount words
     l₁ = g .cleared .long ∙ cut-keys keys order words ix
@@ -185,12 +226,6 @@ module _ (bytes keys order words : List ℕ) (ix : Indexed keys order words) (lo
     key-in : (s : ℕ) → s < slotCount words → getD keys s 0 ≡ getD ks s 0
     key-in s l = sym (getD-take (slotCount words) keys s 0 l)
 
-    slot-keys : (s : ℕ) → s < slotCount words → getD e₁ s 0 ≡ cond (within lo hi (getD ks s 0)) 0 (getD ks s 0)
-    slot-keys s l =
-        cases lo hi (getD ks s 0) (getD e₁ s 0) (getD ks s 0)
-        (λ a b. let r = rank-within ks os (heldNow words) lo hi from to (ix .index) low high s pos a b in ap (λ (x : ℕ). getD e₁ x 0) (sym (r .is)) ∙ g .cleared .gone (r .rank) (r .from-le) (r .to-lt))
-        (λ o. g .cleared .kept s (rank-outside ks os (heldNow words) lo hi from to (ix .index) low high s o))
-
     chunk-bytes : (s r : ℕ) → s < slotCount words → r < 256 → getD bytes' (256 * s + r) 0 ≡ cond (within lo hi (getD ks s 0)) 0 (getD bytes (256 * s + r) 0)
     chunk-bytes s r l h =
         let e : (256 * s + r) / 256 ≡ s = omega arith in
@@ -198,30 +233,61 @@ module _ (bytes keys order words : List ℕ) (ix : Indexed keys order words) (lo
         (λ a b. let q = rank-within ks os (heldNow words) lo hi from to (ix .index) low high s pos a b in ap (λ (x : ℕ). getD bytes' (256 * x + r) 0) (sym (q .is)) ∙ w .gone (q .rank) r (q .from-le) (q .to-lt) h)
         (λ o. w .kept (256 * s + r) (λ i a b q. rank-outside ks os (heldNow words) lo hi from to (ix .index) low high s o i a b (q ∙ e)))
 
-    pub given : Released lo hi bytes keys order words bytes' (e₁ ++ drop (slotCount words - 0) keys) (e₂ ++ drop (slotCount words - 0) order) (set words 9 (heldNow words - (to - from)))
+    -- the keys that the pool's bits are of are those that are left
+    keys-left : take (slotCount words) (b .left) ≡ e₁
+    keys-left =
+        ext-getD 0 (take (slotCount words) (b .left)) e₁ (b .cleared .long ∙ sym (g .cleared .long))
+        (λ s l. slot-keys (take (slotCount words) (b .left)) (b .cleared) s ∙ sym (slot-keys e₁ (g .cleared) s))
+
+    abbrev held' : ℕ
+    held' = heldNow words - (to - from)
+
+    abbrev words' : List ℕ
+    words' = set words₁ heldPlace held'
+
+    words-long : length words' ≡ length words
+    words-long = length-set words₁ heldPlace held' ∙ b .long
+
+    words-head : (i : ℕ) → i < poolPlace words → (i ≡ heldPlace → ⊥) → (i ≡ poolSkipPlace → ⊥) → getD words' i 0 ≡ getD words i 0
+    words-head i l n k = getD-set-other words₁ heldPlace i held' 0 n ∙ b .low i l k
+
+    six : slotCount words' ≡ slotCount words
+    six = let h = pool-high words (p .part) in words-head 6 (omega (arith, h)) (λ e. omega (arith, e)) (λ e. omega (arith, e))
+
+    nine : heldNow words' ≡ held'
+    nine = getD-set-same words₁ heldPlace held' 0 (let h = ix .head in let l = b .long in omega (arith, h, l))
+
+    front : take (slotCount words) (e₁ ++ drop (slotCount words) keys) ≡ e₁
+    front = take-front e₁ (drop (slotCount words) keys) (slotCount words) l₁
+
+    pooling : Pooling (e₁ ++ drop (slotCount words) keys) words'
+    pooling =
+        keys-kept (b .left) (e₁ ++ drop (slotCount words) keys) words' (ap (λ (x : ℕ). take x (e₁ ++ drop (slotCount words) keys)) six ∙ front ∙ sym keys-left ∙ ap (λ (x : ℕ). take x (b .left)) (sym six))
+        (count-kept (b .left) words₁ held' (b .pooling))
+
+    pub given : Released lo hi bytes keys order words bytes' (e₁ ++ drop (slotCount words - 0) keys) (e₂ ++ drop (slotCount words - 0) order) (set words₁ heldPlace (heldNow words - (to - from)))
     given =
-        let six : getD (set words 9 (heldNow words - (to - from))) 6 0 ≡ slotCount words = getD-set-other words 9 6 (heldNow words - (to - from)) 0 (λ z. omega arith) in
-        let nine : getD (set words 9 (heldNow words - (to - from))) 9 0 ≡ heldNow words - (to - from) = getD-set-same words 9 (heldNow words - (to - from)) 0 (let h = ix .head in omega arith) in
+        let s = six in
         let lk : length (e₁ ++ drop (slotCount words) keys) ≡ length keys = put-long keys e₁ (slotCount words) l₁ (ix .in-keys) in
         let lo′ : length (e₂ ++ drop (slotCount words) order) ≡ length order = put-long order e₂ (slotCount words) l₂ (ix .in-order) in
-        let front : take (slotCount words) (e₁ ++ drop (slotCount words) keys) ≡ e₁ = take-front e₁ (drop (slotCount words) keys) (slotCount words) l₁ in
         let here : (s : ℕ) → s < slotCount words → getD (e₁ ++ drop (slotCount words) keys) s 0 ≡ getD e₁ s 0 = λ s l. sym (getD-take (slotCount words) (e₁ ++ drop (slotCount words) keys) s 0 l) ∙ ap (λ (x : List ℕ). getD x s 0) front in
         rw (sub-zero (slotCount words)) record {
-          slot-keys = λ s l. here s l ∙ slot-keys s l ∙ ap (λ (x : ℕ). cond (within lo hi x) 0 x) (sym (key-in s l));
+          slot-keys = λ s l. here s l ∙ slot-keys e₁ (g .cleared) s ∙ ap (λ (x : ℕ). cond (within lo hi x) 0 x) (sym (key-in s l));
           chunk-bytes = λ s r l h. chunk-bytes s r l h ∙ ap (λ (x : ℕ). cond (within lo hi x) 0 (getD bytes (256 * s + r) 0)) (sym (key-in s l));
-          bytes-rest = λ x l. w .kept x (λ i a b q. let h = slot-of-rank i b in omega arith);
+          bytes-rest = λ x l. w .kept x (λ i a b q. let h = slot-of-rank i b in omega (arith, h, l, q));
           keys-rest = drop-front e₁ (drop (slotCount words) keys) (slotCount words) l₁;
           order-rest = drop-front e₂ (drop (slotCount words) order) (slotCount words) l₂;
-          head = λ i n. getD-set-other words 9 i (heldNow words - (to - from)) 0 n;
+          head = words-head;
           bytes-long = w .long;
           keys-long = lk;
           order-long = lo′;
-          words-long = length-set words 9 (heldNow words - (to - from));
+          words-long = words-long;
           indexed-still = record {
-            head = let h = ix .head in let q = length-set words 9 (heldNow words - (to - from)) in omega arith;
-            few = let h = ix .few in omega arith;
-            in-keys = let h = ix .in-keys in omega arith;
-            in-order = let h = ix .in-order in omega arith;
+            head = let h = ix .head in let q = words-long in omega (arith, h, q);
+            few = let h = ix .few in omega (arith, h, s);
+            in-keys = let h = ix .in-keys in omega (arith, h, s, lk);
+            in-order = let h = ix .in-order in omega (arith, h, s, lo′);
             index = rw (six, nine, front, take-front e₂ (drop (slotCount words) order) (slotCount words) l₂) (g .index);
           };
+          pooling-still = pooling;
         }

@@ -87,7 +87,7 @@ fn main() {
     let mut bytes = [0u8; 256];
     let mut keys = [0u64; 6];
     let mut order = [0u32; 8];
-    let mut words = [0u64; 16];
+    let mut words = [0u64; 17];
     opening::open(
         &mut bytes,
         &mut keys,

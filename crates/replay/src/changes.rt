@@ -214,7 +214,7 @@ fn on_part(
     memory: usize,
     call: Call,
 ) -> Numbers
-    requires { ⌜ (length (now bytes) ≡ 65536) × (length (now keys) ≡ 248) × (length (now order) ≡ 632) × (length (now words) ≡ 1568) × (memory ≤ 1) ⌝ }
+    requires { ⌜ (length (now bytes) ≡ 65536) × (length (now keys) ≡ 248) × (length (now order) ≡ 632) × (length (now words) ≡ 1572) × (memory ≤ 1) ⌝ }
 {
     let b = BYTES * memory;
     let k = KEYS * memory;

@@ -14,7 +14,7 @@ pub const KEYS: usize = 124;
 
 pub const ORDER: usize = 316;
 
-pub const WORDS: usize = 784;
+pub const WORDS: usize = 786;
 
 // The lengths of the buffers of two memories.
 pub const ALL_BYTES: usize = 2 * BYTES;

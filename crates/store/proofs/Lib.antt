@@ -2,4 +2,5 @@
 
 pub mod Parts
 pub mod Slots
+pub mod Pool
 pub mod Finds

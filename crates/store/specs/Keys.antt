@@ -1,4 +1,4 @@
--- Keys: the key of a slot says which chunk of which page entry the slot holds; 0 says that it is pooled.
+-- Keys: the key of a slot says which chunk of which page entry the slot holds; 0 says that it holds none.
 -- Assumes nothing.
 use Prim.Native.Nat.{ℕ, _+_, _*_, _-_, _/_, _%_}
 

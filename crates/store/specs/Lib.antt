@@ -2,4 +2,5 @@
 pub mod Mem
 pub mod Keys
 pub mod Indexed
+pub mod Pool
 pub mod Find

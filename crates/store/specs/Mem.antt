@@ -1,15 +1,15 @@
 -- A memory: the four lent buffers, and the parts of them that have a meaning (docs/BUFFERS.md draws them).
 -- Assumes nothing.
 use mathlib.Core.List.{List}
-use Prim.Native.Nat.{ℕ, _+_, _*_}
-use lib.ListN.{getD, take, drop}
+use Prim.Native.Nat.{ℕ, _+_, _*_, _-_, _/_}
+use lib.ListN.{length, getD, take, drop}
 use Rattle.page_ids.specs.declared.Layout.{Layout}
 use Rattle.page_ids.specs.Decode.{layoutFrom}
 
 -- bytes: 256 for each slot, then 32 for each word that the journals have room for
--- keys: for each slot the key of the place that it holds, 0 where it is pooled; then for each page entry the page's id + 1, 0 where it is free
+-- keys: for each slot the key of the place that it holds, 0 where it holds none; then for each page entry the page's id + 1, 0 where it is free
 -- order: the held slots by ascending key; then, from the same place on as in keys, the entries in use by ascending page id; then hints, which say nothing
--- words: the head; then three numbers for each word that the journals have room for: its address, and the slots of its first and its last chunk
+-- words: the head; then three numbers for each word that the journals have room for: its address, and the slots of its first and its last chunk; then the pool, a bit for each slot
 pub record Mem : Type 0 where
   pub bytes : List ℕ
   pub keys : List ℕ
@@ -40,6 +40,9 @@ dynamicLengthPlace = 11
 abbrev pub journalsPlace : ℕ
 journalsPlace = 12
 
+abbrev pub poolSkipPlace : ℕ
+poolSkipPlace = 15
+
 -- 01's layout: the first six numbers of the head
 abbrev pub layoutOf : List ℕ → Layout
 layoutOf w = layoutFrom (getD w 0 0) (getD w 1 0) (getD w 2 0) (getD w 3 0) (getD w 4 0) (getD w 5 0)
@@ -67,6 +70,23 @@ dynamicLength w = getD w dynamicLengthPlace 0
 -- the length of journal j: 0 is that of the bootloader heap, 1 that of the bootloader aux heap
 abbrev pub journalLength : List ℕ → ℕ → ℕ
 journalLength w j = getD w (journalsPlace + j) 0
+
+-- how many 64-bit words the pool of c slots has, and where they begin: they are the last words
+abbrev pub poolLength : ℕ → ℕ
+poolLength c = (c + 63) / 64
+
+abbrev pub poolPlace : List ℕ → ℕ
+poolPlace w = length w - poolLength (slotCount w)
+
+abbrev pub poolWord : List ℕ → ℕ → ℕ
+poolWord w i = getD w (poolPlace w + i) 0
+
+abbrev pub poolWords : List ℕ → List ℕ
+poolWords w = drop (poolPlace w) w
+
+-- how many of them a search for a pooled slot skips, from the first on: they are 0
+abbrev pub poolSkip : List ℕ → ℕ
+poolSkip w = getD w poolSkipPlace 0
 
 -- the parts
 abbrev pub holders : Mem → List ℕ

@@ -32,6 +32,8 @@ pub const JOURNAL_COUNT: usize = 2;
 pub const HEAP_JOURNAL: usize = JOURNALS;
 
 pub const AUX_JOURNAL: usize = JOURNALS + 1;
+// how many of the pool's words a search for a pooled slot skips, from the first on: they are 0
+pub const POOL_SKIP: usize = 15;
 // how many numbers the head has
 pub const LENGTH: usize = 16;
 // how many fixed pages there are: they have the entries from 0 on

@@ -1,4 +1,4 @@
-// Slots of chunks, in the lent buffers of a memory: keys, the lookup of chunks and pages, and hints.
+// Slots of chunks, in the lent buffers of a memory: keys, the place of the pool, the lookup of chunks and pages, and hints.
 ghost use mathlib.Core.Path.{_≡_};
 ghost use mathlib.Core.Bool.{true};
 ghost use Prim.Native.Nat.{_+_, _/_, _^_, _<_, _≤_};
@@ -6,7 +6,7 @@ ghost use lib.ListN.{length, getD, take, drop};
 ghost use Rattle.index.specs.Index.{seek};
 ghost use Rattle.store.specs.Keys.{lastChunk, keyOf, keyEntry, keyChunk};
 ghost use Rattle.store.specs.Find.{slotAtEntry, slotFor, Findable, Names, Follows, HintLearnt};
-ghost use Rattle.store.specs.Mem.{headLength, fixedCount, slotCount, pageCount};
+ghost use Rattle.store.specs.Mem.{headLength, fixedCount, slotCount, pageCount, poolLength, poolPlace};
 ghost use Rattle.store.specs.Indexed.{Indexed, Ranked, PagesIndexed};
 use page_ids::Address;
 use page_ids::PageId;
@@ -42,6 +42,26 @@ pub fn key_chunk(key: u64) -> u64
     ensures { λ r. ⌜ r ≡ keyChunk key ⌝ }
 {
     (key - 1) % KEY_FACTOR
+}
+
+// ---- the pool
+// How many slots have their bits in one word.
+const POOL_BITS: u64 = bits::WORD_BITS as u64;
+
+// How many 64-bit words the pool of c slots has.
+pub fn pool_length(c: u64) -> u64
+    requires { ⌜ c ≤ 65536 ⌝ }
+    ensures { λ r. ⌜ r ≡ poolLength c ⌝ }
+{
+    (c + POOL_BITS - 1) / POOL_BITS
+}
+
+// Where the pool's words begin.
+pub fn pool_place(words: &[u64]) -> usize
+    requires { ⌜ (slotCount (now words) ≤ 65536) × (headLength + poolLength (slotCount (now words)) ≤ length (now words)) ⌝ }
+    ensures { λ r. ⌜ r ≡ poolPlace (now (words .entry)) ⌝ }
+{
+    words.len() - pool_length(words[head::CHUNKS]) as usize
 }
 
 // ---- lookup
@@ -109,7 +129,7 @@ pub fn entry_of(keys: &[u64], order: &[u32], words: &[u64], page: PageId) -> usi
 // The order ends in hints: where a chunk was found last. Hints are untrusted: every use tests them, so WELL FORMED does not constrain them.
 
 // All ones up to the highest bit of c: at most 2·c - 1.
-fn ones(c: u64) -> u64 {
+fn mask(c: u64) -> u64 {
     let a = c | (c >> 1);
     let b = a | (a >> 2);
     let d = b | (b >> 4);
@@ -243,7 +263,7 @@ pub fn learn(order: &mut [u32], words: &[u64], page: PageId, chunk: u32, s: usiz
     ensures { λ _. ⌜ HintLearnt (now (order .entry)) (now (words .entry)) (now (order .exit)) ⌝ }
 {
     let n = order.len();
-    order[n - 1] = (ones(words[head::CHUNKS]) % 4294967296) as u32;
+    order[n - 1] = (mask(words[head::CHUNKS]) % 4294967296) as u32;
     let h = hint_place(order, page, chunk);
     if h >= n {
         return;

@@ -13,7 +13,7 @@ use borrow.Author.Tests.{eq-eqb, ne-eqb, le-ltb}
 use Rattle.outcome.specs.Outcome as outcome
 use Rattle.page_ids.specs.declared.Layout.{Layout}
 use Rattle.page_ids.specs.Decode.{badLayout}
-use Rattle.store.specs.Mem.{Mem}
+use Rattle.store.specs.Mem.{Mem, poolLength}
 use Rattle.view.specs.Checks.{countsRight, lengthsRight}
 use Rattle.view.specs.Calls.{nothing}
 use Rattle.opening.specs.Opening.{settingFrom}
@@ -63,7 +63,7 @@ module _ (l : Layout) (x y z : ℕ) (m : Mem) where
       let a = whole x 128 (w .0) in
       let b = whole y 64 (w .1) in
       let c = whole z 256 (w .2) in
-      rw (a, b, c, length-take-le (256 * x + 64 * z) (m .bytes) (omega (arith, s .0, w .0, w .2)), length-take-le (x + y + 4) (m .keys) (omega (arith, s .1, w .0, w .1)), length-take-le (3 * x + y + 4) (m .order) (omega (arith, s .2, w .0, w .1)), length-take-le (16 + 6 * z) (m .words) (omega (arith, s .3, w .2)), eq-eqb (256 * x + 64 * z) (256 * x + 64 * z) refl, eq-eqb (x + y + 4) (x + y + 4) refl, eq-eqb (3 * x + y + 4) (3 * x + y + 4) refl, eq-eqb (16 + 6 * z) (16 + 6 * z) refl)
+      rw (a, b, c, length-take-le (256 * x + 64 * z) (m .bytes) (omega (arith, s .0, w .0, w .2)), length-take-le (x + y + 4) (m .keys) (omega (arith, s .1, w .0, w .1)), length-take-le (3 * x + y + 4) (m .order) (omega (arith, s .2, w .0, w .1)), length-take-le (16 + 6 * z + poolLength x) (m .words) (omega (arith, s .3, w .0, w .2)), eq-eqb (256 * x + 64 * z) (256 * x + 64 * z) refl, eq-eqb (x + y + 4) (x + y + 4) refl, eq-eqb (3 * x + y + 4) (3 * x + y + 4) refl, eq-eqb (16 + 6 * z + poolLength x) (16 + 6 * z + poolLength x) refl)
 
   told-by : (t u : Bool) → reported (cond t (outcome.refused 1) (cond (not (u && true)) (outcome.refused 2) (cond (ltb x 0) (outcome.refused 10) (outcome.done nothing)))) ≡ cond t (refused 1) (cond u done (refused 2))
   told-by true u = refl

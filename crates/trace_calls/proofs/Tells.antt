@@ -10,7 +10,7 @@ use lib.Seq.{take-at, drop-at, length-take-le}
 use types.Run.{OneOf}
 use denote.Enum.Declared.{tagOf}
 use Rattle.outcome.specs.Outcome.{Outcome, mapped, answered}
-use Rattle.store.specs.Mem.{Mem, mem}
+use Rattle.store.specs.Mem.{Mem, mem, poolLength}
 use Rattle.page_ids.specs.declared.Layout.{Layout}
 use Rattle.opening.specs.Opening.{settingFrom}
 use Rattle.view.specs.View.{View, Setting}
@@ -50,7 +50,7 @@ open-of {m} {m'} {t} {l} {l'} {x} {y} {z} e p = subst (λ (k : Layout). OpenTell
 
 -- ---- the parts of the space
 pub parts-tell : (c p j : ℕ) (b k o w : List ℕ) (line : Line) (t : Reported) (b' k' o' w' : List ℕ) (nb nk nr nw : ℕ)
-    → nb ≡ bytesIn c j → nk ≡ keysIn c p → nr ≡ orderIn c p → nw ≡ wordsIn j
+    → nb ≡ bytesIn c j → nk ≡ keysIn c p → nr ≡ orderIn c p → nw ≡ wordsIn c j
     → length b' ≡ nb → length k' ≡ nk → length o' ≡ nr → length w' ≡ nw
     → LineTells (mem (take nb b) (take nk k) (take nr o) (take nw w)) line t (mem b' k' o' w')
     → PartsTell c p j (mem b k o w) line t (mem (b' ++ drop nb b) (k' ++ drop nk k) (o' ++ drop nr o) (w' ++ drop nw w))
@@ -132,11 +132,11 @@ module _ (c p j x y z : ℕ) (ex : c ≡ min x 128) (ey : p ≡ min y 64) (ez : 
       fit : (c p n : ℕ) → c ≤ 128 → p ≤ 64 → n ≡ 452 → 3 * c + p + 4 ≤ n
       fit c p n h k e = omega arith
 
-  pub words-fit : (n : ℕ) → n ≡ 1552 → 16 + 6 * j ≤ n
-  words-fit n e = fit j n (least-le j z 256 ez) e
+  pub words-fit : (n : ℕ) → n ≡ 1554 → 16 + 6 * j + poolLength c ≤ n
+  words-fit n e = fit c j n (least-le c x 128 ex) (least-le j z 256 ez) e
     where
-      fit : (j n : ℕ) → j ≤ 256 → n ≡ 1552 → 16 + 6 * j ≤ n
-      fit j n k e = omega arith
+      fit : (c j n : ℕ) → c ≤ 128 → j ≤ 256 → n ≡ 1554 → 16 + 6 * j + poolLength c ≤ n
+      fit c j n h k e = omega arith
 
 -- the same run and the same bytes of a line
 pub trace-at : (r r₀ r' : Run) (m m' : Mem) (t : Reported) (line : List ℕ) (n n₀ : ℕ) → r ≡ r₀ → n ≡ n₀ → TraceTells r m (meaning (take (n - 0) line)) r' t m' → TraceTells r₀ m (meaning (take n₀ line)) r' t m'

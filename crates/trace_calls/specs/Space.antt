@@ -11,4 +11,4 @@ abbrev pub Within : (chunks pages journalWords : ℕ) → Type 0
 Within chunks pages journalWords = (chunks ≤ 128) × (pages ≤ 64) × (journalWords ≤ 256)
 
 abbrev pub Space : (bytes keys order words : List ℕ) → Type 0
-Space bytes keys order words = (length bytes ≡ bytesFor 128 256) × (length keys ≡ keysFor 128 64) × (length order ≡ orderFor 128 64) × (length words ≡ wordsFor 256)
+Space bytes keys order words = (length bytes ≡ bytesFor 128 256) × (length keys ≡ keysFor 128 64) × (length order ≡ orderFor 128 64) × (length words ≡ wordsFor 128 256)

@@ -60,11 +60,11 @@ keysIn c p = keysFor (min c 128) (min p 64)
 abbrev pub orderIn : (chunks pages : ℕ) → ℕ
 orderIn c p = orderFor (min c 128) (min p 64)
 
-abbrev pub wordsIn : (journalWords : ℕ) → ℕ
-wordsIn j = wordsFor (min j 256)
+abbrev pub wordsIn : (chunks journalWords : ℕ) → ℕ
+wordsIn c j = wordsFor (min c 128) (min j 256)
 
 abbrev pub parts : (chunks pages journalWords : ℕ) → Mem → Mem
-parts c p j m = mem (take (bytesIn c j) (m .bytes)) (take (keysIn c p) (m .keys)) (take (orderIn c p) (m .order)) (take (wordsIn j) (m .words))
+parts c p j m = mem (take (bytesIn c j) (m .bytes)) (take (keysIn c p) (m .keys)) (take (orderIn c p) (m .order)) (take (wordsIn c j) (m .words))
 
 pub record PartsTell (c p j : ℕ) (m : Mem) (line : Line) (t : Reported) (m' : Mem) : Type 0 where
   pub tells : LineTells (parts c p j m) line t (parts c p j m')
@@ -72,7 +72,7 @@ pub record PartsTell (c p j : ℕ) (m : Mem) (line : Line) (t : Reported) (m' : 
   pub bytes : drop (bytesIn c j) (m' .bytes) ≡ drop (bytesIn c j) (m .bytes)
   pub keys : drop (keysIn c p) (m' .keys) ≡ drop (keysIn c p) (m .keys)
   pub order : drop (orderIn c p) (m' .order) ≡ drop (orderIn c p) (m .order)
-  pub words : drop (wordsIn j) (m' .words) ≡ drop (wordsIn j) (m .words)
+  pub words : drop (wordsIn c j) (m' .words) ≡ drop (wordsIn c j) (m .words)
 
 -- ---- the trace: r has the counts of the open memory, if one is open
 -- an accepted opening gives new counts, a refused one keeps them

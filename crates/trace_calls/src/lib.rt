@@ -204,7 +204,7 @@ fn lent(
     let b = 256 * c + WORD_BYTES * j;
     let k = c + p + head::FIXED_ENTRIES;
     let o = 3 * c + p + head::FIXED_ENTRIES;
-    let w = head::LENGTH + WORD_NUMBERS * j;
+    let w = head::LENGTH + WORD_NUMBERS * j + store::pool_length(c as u64) as usize;
     called(
         &mut bytes[0..b],
         &mut keys[0..k],

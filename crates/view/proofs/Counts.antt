@@ -19,12 +19,12 @@ use Rattle.index.proofs.Counts.{count-held, used-free}
 use Rattle.store.specs.Mem.{Mem, layoutOf, slotCount, pageCount, holders, entries}
 use Rattle.formed.specs.Pages.{fixed, dynamic}
 use Rattle.formed.specs.Parts.{entryOf, allocated, entriesLeft, slotOfChunk, holds, pool}
-use Rattle.formed.specs.WellFormed.{holder, HeldAt, OnePlace, ListedAt, ListedPage, WellFormed}
+use Rattle.formed.specs.WellFormed.{holder, HeldAt, OnePlace, HeldOnce, PooledOnce, ListedAt, ListedPage, WellFormed}
 use Rattle.formed.proofs.Sizes.{holders-long, entries-long}
 use Rattle.formed.proofs.Pages.{fixed-id, fixed-at}
 use Rattle.formed.proofs.Keys.{in-table, seek-is, key-again}
 use Rattle.formed.proofs.Meaning.{slot-once, page-once}
-use Rattle.formed.proofs.Sense.{held-holds, holds-held, allocated-is, listed-allocated}
+use Rattle.formed.proofs.Sense.{pool-count, held-holds, holds-held, allocated-is, listed-allocated}
 use Rattle.view.specs.Steps.{count, pairs}
 use Rattle.view.proofs.Counting.{Stands, Numbered, used-is}
 
@@ -84,7 +84,7 @@ module _ (m : Mem) (f : WellFormed m) where
   slot-place s p =
       let l = in-table (holders m) s p in
       let n = holders-long m (f .lengths) in
-      ⊎-elim (λ (o : OnePlace m s). o) (λ (z : holder m s ≡ 0). absurd (omega arith)) (f .each-once s (omega arith))
+      ⊎-elim (λ (o : HeldOnce m s). o .place) (λ (o : PooledOnce m s). absurd (let z = o .unheld in omega arith)) (f .each-once s (omega arith))
 
   slot-number : (s : ℕ) (o : OnePlace m s) → pairOf (holder m s) ≡ o .page * 33554432 + o .chunk
   slot-number s o = let p = o .there .page in let c = o .there .chunk in omega arith
@@ -114,6 +114,7 @@ module _ (m : Mem) (f : WellFormed m) where
   pub pool-pairs : pool m + pairs (holds m) ≡ slotCount (m .words)
   unfolding pairs
   pool-pairs =
+      let p = pool-count m f in
       let a = used-is (holders m) pairHeld 144115188075855872 pairKey pairOf slots-numbered in
       let b = used-free (holders m) in
       let c = holders-long m (f .lengths) in

@@ -111,7 +111,7 @@ abbrev pub orderLength : Setting → ℕ
 orderLength s = orderFor (s .chunks) (s .pages)
 
 abbrev pub wordsLength : Setting → ℕ
-wordsLength s = wordsFor (s .journalWords)
+wordsLength s = wordsFor (s .chunks) (s .journalWords)
 
 -- the lent buffers have these lengths
 abbrev pub lengthsRight : Setting → Mem → Bool

@@ -8,7 +8,8 @@ use Rattle.formed.specs.WellFormed.{WellFormed}
 use Rattle.view.specs.View.{View, Setting, settingOf, viewOf}
 
 -- m is a well-formed memory of this setting and view. Nothing else is said of its buffers, and so these stay open: which slot a chunk has and which
--- entry a page, the contents of the order past the places in use, of journal places past a journal's length, of the hints and of the head's unused numbers
+-- entry a page, how many zero words of the pool a search skips, the contents of the order past the places in use, of journal places past a journal's
+-- length, of the hints and of the head's unused number. A new chunk has the lowest pooled slot, as the contract of `pool::take_slot` says
 pub record Shows (s : Setting) (v : View) (m : Mem) : Type 0 where
   pub formed : WellFormed m
   pub setting : settingOf m ≡ s

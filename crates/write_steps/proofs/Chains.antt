@@ -11,9 +11,9 @@ use borrow.Author.Tests.{lt-ltb, le-leb, eq-eqb}
 use Rattle.view.proofs.Missing.{missing-all}
 use Rattle.view.specs.Calls.{firstRefusal}
 use Rattle.page_ids.specs.declared.Layout.{Layout}
-use Rattle.store.specs.Mem.{Mem, layoutOf, journalWords, holders}
+use Rattle.store.specs.Mem.{Mem, layoutOf, journalWords}
 use Rattle.formed.specs.Pages.{journalCount, journalPlace, journalPage}
-use Rattle.formed.proofs.Sense.{unlisted-holds}
+use Rattle.formed.proofs.Sense.{pool-is, unlisted-holds}
 use Rattle.formed.proofs.Same.{tab-same}
 use Rattle.formed.specs.Parts.{Note}
 use Rattle.formed.specs.WellFormed.{WellFormed}
@@ -28,8 +28,6 @@ use Rattle.bodies.proofs.Puts.{shows-then, shows-view}
 use Rattle.word_steps.specs.Asks.{JournalAsks}
 use Rattle.word_steps.proofs.Chains.{Cleared, ready, run-same}
 use Rattle.reserve.specs.Asks.{PrepareAsks}
-use Rattle.index.proofs.Counts.{used-free}
-use Rattle.formed.proofs.Sizes.{holders-long}
 use Rattle.view.specs.Checks.{byteWriteChecks, allocateChecks}
 use Rattle.checks.proofs.Chosen.{touched-top}
 use Rattle.checks.proofs.Passed.{decodable, bytes-passed, allocate-passed}
@@ -53,8 +51,7 @@ module _ (m : Mem) (p a k : ℕ) (page : p ≤ 4294967295) where
 contents-end : (m : Mem) → WellFormed m → (p n : ℕ) → viewOf m .allocated p ≡ false → needs (viewOf m) p 0 n ≤ viewOf m .pool → 0 + n ≤ 4294967327
 contents-end m f p n new room =
     let e = missing-all (viewOf m .held p) (λ k. unlisted-holds m f p k new) (0 / 256) (touchedCount 0 n) in
-    let u = used-free (holders m) in
-    let g = holders-long m (f .lengths) in
+    let u = pool-is m f in
     let c = f .lengths .chunks-hi in
     short n (omega arith)
   where

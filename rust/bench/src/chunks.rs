@@ -143,6 +143,53 @@ pub fn frees(others: u32, low: bool) -> Times {
     times
 }
 
+/// A page takes two chunks and is freed, in turns, beside a page that holds nearly all others: the freed page comes last in the
+/// order. Our pool has every other one of the last 16 slots. `first`: it has the first slot, too, so that the search for the second
+/// chunk goes through the whole pool.
+pub fn turns(chunks: u32, first: bool) -> Times {
+    const TURNS: usize = 1000;
+    const LAST: u32 = 16;
+    let mut both = Both::empty(chunks, 0);
+    // The page of the others is allocated first.
+    both.vm2.write_bytes(heap(0), 0, &[]);
+    both.ours.allocate_at(PageId(heap(0))).expect("it is not allocated");
+    let (page, mut freed) = (heap(1), u32::from(first));
+    both.hold(page, 0..freed);
+    let mut others = chunks - LAST - freed;
+    both.hold(heap(0), 0..others);
+    for _ in 0..LAST / 2 {
+        both.hold(heap(0), others..others + 1);
+        both.hold(page, freed..freed + 1);
+        (others, freed) = (others + 1, freed + 1);
+    }
+    both.vm2.deallocate(page);
+    free(&mut both.ours, page);
+    let times = Times::of(
+        TURNS,
+        || {
+            timed(|| {
+                for _ in 0..TURNS {
+                    both.vm2.write_u256(page, 0, black_box(WORD));
+                    both.vm2.write_u256(page, 256, black_box(WORD));
+                    both.vm2.deallocate(page);
+                }
+            })
+        },
+        || {
+            timed(|| {
+                for _ in 0..TURNS {
+                    write(&mut both.ours, page, 0, black_box(WORD));
+                    write(&mut both.ours, page, 256, black_box(WORD));
+                    free(&mut both.ours, page);
+                }
+            })
+        },
+    );
+    assert_eq!(both.ours.usage().chunks, others);
+    both.compare_page(heap(0), others);
+    times
+}
+
 /// Writes at all these addresses of one page, upwards, to chunks that are not held yet. vm2 has them in its pool: both
 /// sides freed the page before.
 fn taking(

@@ -109,6 +109,11 @@ fn of_chunks() -> Table {
         let name = format!("fresh chunk, vm2 allocates, {label}");
         table.add(name, None, move || chunks::allocated(chunks));
     }
+    for (first, pooled) in [(false, "a few of the last"), (true, "these and the first")] {
+        let name =
+            format!("two chunks taken and freed in turns, 65,536 in all, {pooled} in our pool");
+        table.add(name, None, move || chunks::turns(65_536, first));
+    }
     table
 }
 

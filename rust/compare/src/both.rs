@@ -5,7 +5,7 @@ use std::fmt::Debug;
 
 use zincpapaya::{Buffers, Capacity, Error, Heaps, Layout, Lengths, Lent, Usage};
 
-use crate::ours::{state, Reply};
+use crate::ours::{pool_fault, state, took_the_lowest, Reply};
 
 pub struct Both {
     pub owned: Heaps,
@@ -101,9 +101,22 @@ impl Both {
         self.owned.buffers() == other.owned.buffers() && self.host.buffers() == other.host.buffers()
     }
 
-    /// What is in use, and the dynamic length.
+    /// Whether all slots that were taken since `before` were the lowest of their pools.
+    pub fn took_the_lowest(&self, before: &Self) -> bool {
+        let capacity = self.owned.capacity();
+        took_the_lowest(before.owned.buffers(), self.owned.buffers(), capacity)
+            && took_the_lowest(before.host.buffers(), self.host.buffers(), capacity)
+    }
+
+    /// What is in use, and the dynamic length. Both pools are counted as well.
     pub fn counts(&mut self) -> Result<(Usage, u64), Reply> {
         let usage = same(Ok(self.owned.usage()), self.lend().usage())?;
+        let capacity = self.owned.capacity();
+        let faults = [self.owned.buffers(), self.host.buffers()]
+            .map(|buffers| pool_fault(buffers, capacity));
+        if let Some(fault) = faults.into_iter().flatten().next() {
+            return Err(Reply::Wrong(fault));
+        }
         Ok((usage, on_both!(self => dynamic_len())?))
     }
 

@@ -121,7 +121,7 @@ fn on(op: Op, low: u64, value: Word) -> HeapInstruction {
     HeapInstruction::on_operands(op, operand, value)
 }
 
-fn store(area: Area, low: u64, value: Word, hook: Option<u32>) -> HeapInstruction {
+pub fn store(area: Area, low: u64, value: Word, hook: Option<u32>) -> HeapInstruction {
     on(Op::Store { area, hook }, low, value)
 }
 
@@ -133,7 +133,7 @@ fn load_static(low: u64) -> HeapInstruction {
     on(Op::LoadStatic, low, Word::default())
 }
 
-fn store_static(low: u64, value: Word) -> HeapInstruction {
+pub fn store_static(low: u64, value: Word) -> HeapInstruction {
     on(Op::StoreStatic, low, value)
 }
 

@@ -20,6 +20,8 @@ pub enum Sort {
     Light,
     /// Many pages and chunks.
     Large,
+    /// Writes that empty the pool, and frees.
+    Pool,
     /// Words at the top of pages, for which vm2 keeps a place for each chunk of a page.
     Top,
     /// Groups as far as vm2 is let allocate them; it keeps a place for each group.
@@ -38,6 +40,7 @@ impl Sort {
         match self {
             Self::Light => (7, 8),
             Self::Large => (60, 60),
+            Self::Pool => (5, 20),
             Self::Top | Self::Far => (3, 5),
         }
     }
@@ -92,34 +95,34 @@ const LENGTHS: [u64; 17] = [0, 0, 1, 2, 31, 32, 33, 63, 64, 65, 100, 255, 256, 2
 
 type Draw = fn(&mut Generator, &Seen) -> Call;
 
-/// The calls, and how often each is drawn: in most lists, and in those about the top of pages.
-const DRAWS: [([u64; 2], Draw); 26] = [
-    ([13, 40], Generator::write_u256),
-    ([13, 25], Generator::write_bytes),
-    ([6, 12], Generator::read_u256),
-    ([4, 4], Generator::read_u256_partially),
-    ([5, 8], Generator::read_range),
-    ([3, 3], Generator::read_byte),
-    ([2, 6], Generator::chunk),
-    ([1, 1], |_, _| Call::DynamicLen),
-    ([4, 4], Generator::snapshot),
-    ([4, 2], Generator::allocate_at),
-    ([5, 2], Generator::allocate_with_content_at),
-    ([5, 3], Generator::deallocate),
-    ([5, 10], Generator::compact_to_window),
-    ([3, 1], Generator::truncate_dynamic_to),
-    ([5, 10], Generator::rollback),
-    ([1, 1], |_, _| Call::DeleteHistory),
-    ([4, 4], Generator::compare),
-    ([1, 0], Generator::open),
-    ([4, 4], Generator::apart),
-    ([1, 1], Generator::use_gas),
-    ([2, 2], Generator::grow_heap),
-    ([6, 6], Generator::load),
-    ([8, 4], Generator::store),
-    ([5, 8], Generator::load_pointer),
-    ([2, 2], Generator::load_static),
-    ([3, 8], Generator::store_static),
+/// The calls, and how often each is drawn: in most lists, in those about the top of pages, and in those about the pool.
+const DRAWS: [([u64; 3], Draw); 26] = [
+    ([13, 40, 18], Generator::write_u256),
+    ([13, 25, 18], Generator::write_bytes),
+    ([6, 12, 3], Generator::read_u256),
+    ([4, 4, 1], Generator::read_u256_partially),
+    ([5, 8, 2], Generator::read_range),
+    ([3, 3, 1], Generator::read_byte),
+    ([2, 6, 2], Generator::chunk),
+    ([1, 1, 1], |_, _| Call::DynamicLen),
+    ([4, 4, 2], Generator::snapshot),
+    ([4, 2, 3], Generator::allocate_at),
+    ([5, 2, 10], Generator::allocate_with_content_at),
+    ([5, 3, 12], Generator::deallocate),
+    ([5, 10, 10], Generator::compact_to_window),
+    ([3, 1, 4], Generator::truncate_dynamic_to),
+    ([5, 10, 3], Generator::rollback),
+    ([1, 1, 1], |_, _| Call::DeleteHistory),
+    ([4, 4, 2], Generator::compare),
+    ([1, 0, 2], Generator::open),
+    ([4, 4, 1], Generator::apart),
+    ([1, 1, 0], Generator::use_gas),
+    ([2, 2, 0], Generator::grow_heap),
+    ([6, 6, 2], Generator::load),
+    ([8, 4, 6], Generator::store),
+    ([5, 8, 1], Generator::load_pointer),
+    ([2, 2, 1], Generator::load_static),
+    ([3, 8, 4], Generator::store_static),
 ];
 
 /// Bytes that follow from their number and a seed.
@@ -136,7 +139,12 @@ impl Generator {
         capacities: [Capacity; 2],
         calls: u64,
     ) -> Self {
-        let longest = rng.pick(&[256, 1024, 1024, 8192]);
+        let mut longest = rng.pick(&[256, 1024, 1024, 8192]);
+        if sort == Sort::Pool {
+            // All chunks at once, and one too many.
+            let [first, second] = capacities.map(|capacity| u64::from(capacity.chunks));
+            longest = (first.max(second) + 1) * CHUNK;
+        }
         let twins = !sort.is_dear() && rng.one_in(3);
         let rollbacks = rng.below(20);
         let mut made = Self {
@@ -250,7 +258,11 @@ impl Generator {
     fn draw(&mut self, models: &[Model; 2]) -> Step {
         let memory = usize::from(self.rng.one_in(if self.sort.is_dear() { 8 } else { 3 }));
         let seen = Seen { model: &models[memory], capacity: self.capacities[memory], memory };
-        let sort = usize::from(self.sort == Sort::Top);
+        let sort = match self.sort {
+            Sort::Light | Sort::Large | Sort::Far => 0,
+            Sort::Top => 1,
+            Sort::Pool => 2,
+        };
         let mut number = self.rng.below(DRAWS.iter().map(|(often, _)| often[sort]).sum());
         let drawn = DRAWS.iter().find(|(often, _)| {
             let here = number < often[sort];
@@ -334,7 +346,7 @@ impl Generator {
         let fixed =
             [layout.static_memory, layout.calldata, layout.bootloader_heap, layout.bootloader_aux];
         match self.rng.below(20) {
-            draw if self.sort == Sort::Far && draw < 12 => self.dynamic_page(),
+            draw if matches!(self.sort, Sort::Far | Sort::Pool) && draw < 12 => self.dynamic_page(),
             0..5 => layout.bootloader_heap,
             5..7 => layout.bootloader_aux,
             7..9 => self.rng.pick(&fixed),
@@ -387,6 +399,9 @@ impl Generator {
         match self.rng.below(20) {
             draw if self.sort == Sort::Top && draw < 16 => u32::MAX - self.rng.pick(&top),
             draw if self.sort == Sort::Large && draw < 16 => self.rng.below32(256 * 3_000),
+            draw if self.sort == Sort::Pool && draw < 12 => {
+                256 * self.rng.below32(130) + self.rng.pick(&[0, 0, 1, 224, 225, 255])
+            }
             0..9 => self.rng.pick(&edges),
             9..12 => self.rng.pick(&more),
             12..15 => 256 * self.rng.below32(6) + self.rng.below32(256),
@@ -430,8 +445,11 @@ impl Generator {
         let chunks = u64::from(seen.capacity.chunks).saturating_sub(seen.model.held_chunks());
         let journal = self.rng.pick(&seen.model.journals);
         let words = u64::from(seen.capacity.journal_words).saturating_sub(journal);
+        let often = if self.sort == Sort::Pool { 4 } else { 1 };
         let length = match self.rng.below(12) {
-            0 => (chunks * CHUNK).saturating_sub(start % CHUNK) + self.rng.below(2),
+            draw if draw < often => {
+                (chunks * CHUNK).saturating_sub(start % CHUNK) + self.rng.below(2)
+            }
             1 => (words * 32).saturating_sub(start % 32) + self.rng.below(2),
             2 => self.rng.below(self.longest),
             3..7 if TOP - start < 2_000 => TOP - start + self.rng.below(2),

@@ -14,6 +14,7 @@ mod options;
 mod ours;
 mod outputs;
 mod pair;
+mod pool;
 mod quotes;
 mod rng;
 mod rules;
@@ -94,24 +95,34 @@ impl Shard {
                 .map_err(|mismatch| after_list(name, &memories, mismatch))?;
             edge_runs(bank.as_mut(), &mut self.tally, list)?;
             all_outputs(bank.as_mut(), &mut self.tally, name)?;
+            for chunks in pool::SIZES.into_iter().chain([pool::LARGEST]) {
+                pool_list(bank.as_mut(), &mut self.tally, name, chunks)?;
+            }
         }
         Ok(())
     }
 
     fn random_list(&mut self, number: u64) -> Result<(), Box<Finding>> {
         let mut rng = Rng::new(self.options.seed, number);
-        let turn = (number / SHARDS) as usize % LAYOUTS.len();
-        let layout = self.options.layout.unwrap_or(LAYOUTS[turn]);
         let sort = match rng.below(1_000) {
             0 | 1 => Sort::Top,
             2 => Sort::Far,
             3..13 => Sort::Large,
+            13..43 => Sort::Pool,
             _ => Sort::Light,
         };
+        self.list_of(sort, number, rng)
+    }
+
+    /// A list of this sort. Its number decides the layout.
+    fn list_of(&mut self, sort: Sort, number: u64, mut rng: Rng) -> Result<(), Box<Finding>> {
+        let turn = (number / SHARDS) as usize % LAYOUTS.len();
+        let layout = self.options.layout.unwrap_or(LAYOUTS[turn]);
         let capacities = [0, 1].map(|_| capacity(&mut rng, sort));
         let (calls, looks) = match sort {
             Sort::Light => (10 + rng.below(90), Looks::Every(1 + rng.below(16) as usize)),
             Sort::Large => (300, Looks::Every(60)),
+            Sort::Pool => (40 + rng.below(60), Looks::Every(1 + rng.below(16) as usize)),
             Sort::Top => (80, Looks::AtTheEnd),
             Sort::Far => (40, Looks::AtTheEnd),
         };
@@ -205,6 +216,21 @@ fn all_outputs(
     Ok(())
 }
 
+/// The list that empties the pool of a memory of so many chunks. vm2 is looked at only at the end where these are many.
+fn pool_list(
+    bank: &mut dyn Bank,
+    tally: &mut Tally,
+    layout: &'static str,
+    chunks: u32,
+) -> Result<(), Box<Finding>> {
+    // The second memory is given no call.
+    let capacities = [chunks, 1].map(pool::capacity);
+    let list = List { layout, capacities, steps: Vec::new() };
+    let mut steps = pool::steps(&bank.layout(), chunks).into_iter();
+    let looks = if chunks < pool::LARGEST { Looks::Every(8) } else { Looks::AtTheEnd };
+    compare_list(bank, tally, list, [looks; 2], |_, _| steps.next()).map(|_| ())
+}
+
 /// What differs on the memories that a list has left. The list's calls are not told: quotes and
 /// openings do not depend on them. Where a load has changed a memory, the seed repeats it.
 fn after_list(layout: &'static str, memories: &[Both], mismatch: Mismatch) -> Box<Finding> {
@@ -221,6 +247,8 @@ fn capacity(rng: &mut Rng, sort: Sort) -> Capacity {
         (Sort::Light, 2 | 3) => [(16, 33), (4, 9), (4, 29)],
         (Sort::Light, _) => [(64, 65), (8, 57), (16, 113)],
         (Sort::Large, _) => [(500, 1_500), (30, 200), (100, 900)],
+        // A bootloader page can hold all chunks, so that its journal does not keep the pool from being emptied.
+        (Sort::Pool, _) => [(rng.pick(&pool::SIZES), 1), (3, 6), (1_100, 1)],
         (Sort::Top | Sort::Far, _) => [(32, 1), (12, 1), (32, 1)],
     };
     let [chunks, pages, journal_words] = counts.map(|(least, many)| least + rng.below32(many));

@@ -349,7 +349,11 @@ pub struct State {
 const FIXED_ENTRIES: usize = 4;
 const ENTRY: u64 = 33_554_432;
 const HEAD: usize = 16;
+const HEAD_HELD: usize = 9;
 const HEAD_JOURNALS: usize = 12;
+const HEAD_SKIPPED: usize = 15;
+/// Chunks whose bits one number of the pool has.
+const POOL_BITS: usize = 64;
 
 pub fn state(buffers: Buffers<'_>, capacity: Capacity) -> State {
     let (slots, entries) = buffers.keys.split_at(capacity.chunks as usize);
@@ -364,6 +368,45 @@ pub fn state(buffers: Buffers<'_>, capacity: Capacity) -> State {
         held: held.collect(),
         journals: [0, 1].map(|journal| journal_words(buffers, capacity, journal)),
     }
+}
+
+/// The pool of a memory: the last numbers of `words`, with a bit for each chunk.
+fn pool(words: &[u64], capacity: Capacity) -> &[u64] {
+    &words[words.len() - (capacity.chunks as usize).div_ceil(POOL_BITS)..]
+}
+
+/// Whether the bit of a slot is set.
+fn has(pool: &[u64], slot: usize) -> bool {
+    pool[slot / POOL_BITS] >> (slot % POOL_BITS) & 1 == 1
+}
+
+/// What is wrong with a memory's pool, if anything. Its bits are counted afresh.
+pub fn pool_fault(Buffers { keys, words, .. }: Buffers<'_>, capacity: Capacity) -> Option<String> {
+    let (chunks, pool) = (capacity.chunks as usize, pool(words, capacity));
+    let set: u64 = pool.iter().map(|number| u64::from(number.count_ones())).sum();
+    let held = words[HEAD_HELD];
+    if set + held != chunks as u64 {
+        return Some(format!("{set} bits of the pool are set, and {held} of {chunks} are held"));
+    }
+    if let Some(slot) = (chunks..POOL_BITS * pool.len()).find(|slot| has(pool, *slot)) {
+        return Some(format!("the pool has slot {slot}, and there are {chunks}"));
+    }
+    if let Some(slot) = (0..chunks).find(|slot| has(pool, *slot) != (keys[*slot] == 0)) {
+        return Some(format!("slot {slot} is held and pooled, or neither"));
+    }
+    let skipped = words[HEAD_SKIPPED];
+    match pool.get(..skipped as usize) {
+        Some(numbers) if numbers.iter().all(|number| *number == 0) => None,
+        _ => Some(format!("{skipped} numbers of the pool are skipped, and not all of them are 0")),
+    }
+}
+
+/// Whether the slots that a call took were the lowest of the pool. The call may not be an opening.
+pub fn took_the_lowest(before: Buffers<'_>, after: Buffers<'_>, capacity: Capacity) -> bool {
+    let [before, after] = [before, after].map(|buffers| pool(buffers.words, capacity));
+    let pooled = (0..capacity.chunks as usize).filter(|slot| has(before, *slot));
+    // First those that were taken, and then those that stayed.
+    pooled.map(|slot| has(after, slot)).is_sorted()
 }
 
 fn journal_words(

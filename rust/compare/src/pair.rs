@@ -12,6 +12,7 @@ use crate::{
     list::{Finding, Handed, List, Mismatch, Step},
     model::{Model, CHUNK},
     ours::{self, Reply},
+    pool::Fill,
     rules::{self, Access, Due, Ending},
     tally::Tally,
 };
@@ -30,6 +31,8 @@ pub struct Pair<'a> {
     sides: Sides,
     /// The frame that the latest instruction left; none before the first, and after a panic.
     left: Option<Handed>,
+    /// How full the pools of the library's memories are.
+    fills: [Fill; 2],
 }
 
 /// When all that both sides hold is looked at, besides the end of a list.
@@ -97,7 +100,8 @@ impl<'a> Pair<'a> {
         let ours = capacities.map(open);
         let models = [0, 1].map(|_| Model::new(layout));
         let (before, changed, sides) = (ours.clone(), [true; 2], Sides::default());
-        Self { bank, tally, ours, before, models, changed, sides, left: None }
+        let fills = capacities.map(|capacity| Fill::new(capacity.chunks));
+        Self { bank, tally, ours, before, models, changed, sides, left: None, fills }
     }
 
     fn step(&mut self, step: &Step, look_before_refusal: bool) -> Result<(), Mismatch> {
@@ -137,7 +141,7 @@ impl<'a> Pair<'a> {
             self.changed[at] = true;
             self.counts_of_vm2(at)?;
         }
-        self.after(step, carried_out)
+        self.after(step, carried_out, None)
     }
 
     /// The library's answer. A panic of its crate, which has none for any answer of the header's, is
@@ -197,7 +201,7 @@ impl<'a> Pair<'a> {
             self.tally.registers.count(&step.call, instruction, Ending::Refused(number));
         }
         self.left = step.given().or(self.left);
-        self.after(step, false)
+        self.after(step, false, Some(number))
     }
 
     /// Keeps the frame that an instruction leaves, and checks on each side that growth adds up.
@@ -214,9 +218,15 @@ impl<'a> Pair<'a> {
         Ok(())
     }
 
-    /// What must hold after every call: the library's counts are right, and a memory whose call was
-    /// not carried out is as it was, to the last number of its buffers.
-    fn after(&mut self, step: &Step, carried_out: bool) -> Result<(), Mismatch> {
+    /// What must hold after every call: the library's counts are right, the chunks that it took were the
+    /// lowest of its pool, and a memory whose call was not carried out is as it was, to the last number of
+    /// its buffers.
+    fn after(
+        &mut self,
+        step: &Step,
+        carried_out: bool,
+        no_room: Option<u8>,
+    ) -> Result<(), Mismatch> {
         let (at, call) = (step.memory, &step.call);
         let unchanged = || self.ours[at].has_the_numbers_of(&self.before[at]);
         if !carried_out && call.changes() && !unchanged() {
@@ -235,6 +245,17 @@ impl<'a> Pair<'a> {
         if given.as_ref() != Ok(&due) {
             let (vm2, library) = (format!("{due:?}"), format!("{given:?}"));
             return Err(Mismatch { what: "the counts after the call".into(), vm2, library });
+        }
+        let opened = carried_out && matches!(call, Call::Open { .. });
+        if call.changes() && !opened && !self.ours[at].took_the_lowest(&self.before[at]) {
+            return Err(Mismatch {
+                what: "the chunks that the call took".into(),
+                vm2: "not asked: the library takes its lowest ones".into(),
+                library: "lower ones are left".into(),
+            });
+        }
+        if let Some((chunks, counts)) = self.fills[at].after(model.held_chunks(), opened, no_room) {
+            self.tally.pools.entry(chunks).or_default().add(counts);
         }
         Ok(())
     }

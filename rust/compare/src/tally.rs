@@ -8,6 +8,7 @@ use oracle::{Answer, Call, HeapInstruction};
 use crate::{
     charges::Run,
     model::LAST_ADDRESS,
+    pool,
     rules::{Ending, Panic},
 };
 
@@ -29,6 +30,8 @@ pub struct Tally {
     pub quotes: QuoteCounts,
     pub runs: RunCounts,
     pub registers: RegisterCounts,
+    /// By the chunks of the memory.
+    pub pools: BTreeMap<u32, pool::Counts>,
     /// Looks at all that a memory holds, on both sides.
     pub looks: u64,
     /// Chunks compared byte by byte, and journalled words.
@@ -235,6 +238,9 @@ impl Tally {
         self.quotes.high += other.quotes.high;
         self.runs.add(&other.runs);
         self.registers.add(&other.registers);
+        for (chunks, counts) in &other.pools {
+            self.pools.entry(*chunks).or_default().add(*counts);
+        }
         for (name, (all, carried_out)) in &other.names {
             let sum = self.names.entry(name).or_default();
             *sum = (sum.0 + all, sum.1 + carried_out);
@@ -282,6 +288,13 @@ impl fmt::Display for Tally {
              operand limit"
         )?;
         write!(out, "{}{}", self.runs, self.registers)?;
+        for (chunks, pool::Counts { emptied, refused, taken_again }) in &self.pools {
+            writeln!(
+                out,
+                "  pools of {chunks:>5} chunks: emptied {emptied} times, {refused} refusals 10 then, freed chunks taken \
+                 {taken_again} times"
+            )?;
+        }
         let Self { looks, chunks, words, .. } = self;
         writeln!(
             out,

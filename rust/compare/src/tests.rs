@@ -1,12 +1,12 @@
 //! That the comparison finds what is wrong: vm2's answers are tampered with on their way, or the
-//! library's quotes are, or one of its two memories. And that its lists have runs of several loads and
-//! stores, and every pair of outputs.
+//! library's quotes are, or one of its two memories, or its pool. And that its lists have runs of several
+//! loads and stores, and every pair of outputs, and empty the pools of memories.
 
 use oracle::{
     Answer, Area, Bank, Call, Frame, HeapInstruction, Layout, Left, Op, Operand, Registers,
     RustPanic, View, LAYOUTS,
 };
-use zincpapaya::{quote, Capacity, Error, PageId, Quote, Word};
+use zincpapaya::{quote, Buffers, Capacity, Error, PageId, Quote, Word};
 
 use crate::{
     all_outputs,
@@ -18,6 +18,7 @@ use crate::{
     options::Options,
     ours::{self, Reply},
     pair::{self, Looks},
+    pool, pool_list,
     quotes::{Asked, Quoter, Quotes},
     rng::Rng,
     rules::{Ending, Panic},
@@ -382,6 +383,144 @@ fn what_one_memory_holds_alone_is_found() {
     both.damage();
     assert!(is_wrong(&both.hold_the_same()));
     assert_eq!(both.lend().check(), Err(Error::NotFormed));
+}
+
+/// Ways to make the pool wrong of a memory that holds the first 64 of its 96 chunks.
+const WRONG_POOLS: [fn(&mut [u64]); 9] = [
+    |words| words[9] += 1,
+    // Slot 0 is held, and slot 95 the last one: pooled or not, and then one for the other.
+    |words| words[pool_of_96(words)] |= 1,
+    |words| words[pool_of_96(words) + 1] ^= 1 << 31,
+    |words| words[pool_of_96(words) + 1] ^= 1 << 31 | 1 << 32,
+    |words| {
+        words[pool_of_96(words)] |= 1;
+        words[pool_of_96(words) + 1] ^= 1 << 31;
+    },
+    // A bit past the last slot, and the count of one more.
+    |words| {
+        words[pool_of_96(words) + 1] |= 1 << 63;
+        words[9] -= 1;
+    },
+    // The second number is not 0, and there is no third.
+    |words| words[15] = 2,
+    |words| words[15] = 3,
+    |words| words[15] = u64::MAX,
+];
+
+/// Where the two numbers of the pool begin.
+fn pool_of_96(words: &[u64]) -> usize {
+    words.len() - 2
+}
+
+#[test]
+fn a_wrong_pool_is_found() {
+    let mut both = opened();
+    let bytes = [1; 256 * 64];
+    both.owned.write_bytes(PageId(66), 0, &bytes).expect("there is room");
+    both.lend().write_bytes(PageId(66), 0, &bytes).expect("there is room");
+    both.counts().expect("both pools are right");
+    let buffers = both.owned.buffers();
+    for skipped in [0, 1] {
+        let mut words = buffers.words.to_vec();
+        words[15] = skipped;
+        let fault = ours::pool_fault(Buffers { words: &words, ..buffers }, store::CAPACITY);
+        assert_eq!(fault, None);
+    }
+    for (at, damage) in WRONG_POOLS.into_iter().enumerate() {
+        let mut words = buffers.words.to_vec();
+        damage(&mut words);
+        let fault = ours::pool_fault(Buffers { words: &words, ..buffers }, store::CAPACITY);
+        assert!(fault.is_some(), "damage {at}");
+    }
+}
+
+#[test]
+fn a_chunk_that_is_not_the_lowest_is_found() {
+    let mut both = opened();
+    let before = both.clone();
+    for chunks in [1, 63, 64, 65, 95] {
+        let mut both = both.clone();
+        both.owned.write_bytes(PageId(66), 0, &vec![1; 256 * chunks]).expect("there is room");
+        let [empty, full] = [&before, &both].map(|both| both.owned.buffers());
+        assert!(ours::took_the_lowest(empty, full, store::CAPACITY));
+        // The last one was not taken, but the next one was.
+        let mut words = full.words.to_vec();
+        let pool = pool_of_96(&words);
+        let flip = |words: &mut [u64], slot: usize| words[pool + slot / 64] ^= 1 << (slot % 64);
+        flip(&mut words, chunks - 1);
+        flip(&mut words, chunks);
+        let other = Buffers { words: &words, ..full };
+        assert!(!ours::took_the_lowest(empty, other, store::CAPACITY), "{chunks} chunks");
+    }
+    both.owned.write_u256(PageId(66), 0, Word::from(7)).expect("there is room");
+    assert!(both.took_the_lowest(&before) && before.took_the_lowest(&both));
+}
+
+#[test]
+fn every_layout_has_lists_that_empty_pools_and_take_from_them_again() {
+    for layout in LAYOUTS {
+        let mut bank = oracle::bank(layout).expect("a listed layout");
+        let mut tally = Tally::default();
+        let sizes = pool::SIZES.into_iter().chain([pool::LARGEST]);
+        for chunks in sizes.clone() {
+            let done = pool_list(bank.as_mut(), &mut tally, layout, chunks);
+            assert!(done.is_ok(), "{:?}", done.map_err(|finding| finding.lines()));
+        }
+        for chunks in sizes {
+            let counts = tally.pools[&chunks];
+            let pool::Counts { emptied, refused, taken_again } = counts;
+            let many = emptied >= 7 && refused >= 50 && taken_again >= 4;
+            assert!(many, "{layout}, {chunks} chunks: {counts:?}");
+        }
+    }
+}
+
+/// How often each of these slots was freed and taken again while the memory was not opened afresh.
+fn taken_again(chunks: u32, slots: [usize; 2]) -> [u32; 2] {
+    let layout = Tampered::new().layout();
+    let open = |chunks| Both::open(ours::layout(&layout), pool::capacity(chunks), &[]);
+    let mut memories = [chunks, 1].map(|chunks| open(chunks).expect("a layout and its counts"));
+    let (mut freed, mut again) = ([false; 2], [0; 2]);
+    let mut held = [false; 2];
+    for Step { call, .. } in pool::steps(&layout, chunks) {
+        let reply = ours::answer(&mut memories, 0, &call, false);
+        if matches!((call, reply), (Call::Open { .. }, Reply::Answer(_))) {
+            (held, freed) = ([false; 2], [false; 2]);
+        }
+        let now = slots.map(|slot| memories[0].owned.buffers().keys[slot] != 0);
+        for at in 0..2 {
+            freed[at] |= held[at] && !now[at];
+            again[at] += u32::from(freed[at] && !held[at] && now[at]);
+        }
+        held = now;
+    }
+    again
+}
+
+#[test]
+fn slots_on_both_sides_of_an_edge_are_freed_and_taken_again() {
+    for chunks in [65, 127, 128, 129, pool::LARGEST] {
+        let again = taken_again(chunks, [63, 64]);
+        assert!(again.into_iter().all(|times| times >= 2), "{chunks}: {again:?}");
+    }
+    for (chunks, edge) in [(129, 128), (pool::LARGEST, pool::LARGEST as usize - 64)] {
+        let again = taken_again(chunks, [edge - 1, edge]);
+        assert!(again.into_iter().all(|times| times >= 2), "{chunks}: {again:?}");
+    }
+}
+
+#[test]
+fn random_lists_empty_pools_and_take_from_them_again() {
+    let mut shard = shard(Tampered::new());
+    for number in 0..120 {
+        let done = shard.list_of(Sort::Pool, number, Rng::new(7, number));
+        assert!(done.is_ok(), "{:?}", done.map_err(|finding| finding.lines()));
+    }
+    for chunks in pool::SIZES {
+        let counts = shard.tally.pools[&chunks];
+        let pool::Counts { emptied, refused, taken_again } = counts;
+        assert!(emptied > 5 && refused > 20 && taken_again > 20, "{chunks}: {counts:?}");
+    }
 }
 
 #[test]

@@ -31,7 +31,7 @@ impl Capacity {
             bytes: 256 * chunks + 64 * journal,
             keys: chunks + pages + 4,
             order: 3 * chunks + pages + 4,
-            words: 16 + 6 * journal,
+            words: HEAD + 6 * journal + chunks.div_ceil(POOL_BITS),
         })
     }
 }
@@ -71,7 +71,8 @@ pub struct Buffers<'a> {
     pub keys: &'a [u64],
     /// The two indexes, then the hints of the lookup.
     pub order: &'a [u32],
-    /// The head of 16 numbers, then the notes of both journals.
+    /// The head of 16 numbers, then the notes of both journals, then the pool: a bit for each chunk, the
+    /// lowest bit of a number first, set where the chunk is not held.
     pub words: &'a [u64],
 }
 
@@ -83,6 +84,11 @@ pub(crate) struct BuffersMut<'a> {
     pub(crate) order: &'a mut [u32],
     pub(crate) words: &'a mut [u64],
 }
+
+/// How many numbers the head has.
+const HEAD: usize = 16;
+/// Chunks whose bits one number of the pool has.
+const POOL_BITS: usize = 64;
 
 // Numbers of the head.
 const STATIC_MEMORY: usize = 0;

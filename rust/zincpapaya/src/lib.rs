@@ -38,7 +38,7 @@
 //! |---|---|---|
 //! | the four buffers | are its own: nobody else can write to them | are lent by the host, and others may write to them only while they are not lent |
 //! | a call | makes no test, since the library proves that every call leaves the memory well formed | tests the whole memory first, and may be refused with [`Error::NotFormed`] |
-//! | a word read or write takes | some nanoseconds | 0.25 to 0.4 microseconds in a memory of 128 chunks, 0.10 to 0.29 milliseconds in one of 65,536 |
+//! | a word read or write takes | some nanoseconds | 0.25 to 0.45 microseconds in a memory of 128 chunks, 0.1 to 0.75 milliseconds in one of 65,536 |
 //!
 //! Code elsewhere in the process can damage even a memory that is owned, if it is `unsafe` and wrong.
 //! So the test can be had for [`Heaps`] as well:

@@ -1,6 +1,8 @@
 //! What the public interface does not show: outputs, frames and registers of refused calls as the library
 //! leaves them. And memories that are not well formed, edges of openings and quotes, and the registers that
-//! instructions write.
+//! instructions write. The child `pool` has what is about the pool's bits.
+
+mod pool;
 
 use std::ops::Range;
 
@@ -182,7 +184,7 @@ macro_rules! refusals {
 pub(crate) use refusals;
 
 /// Ways to break a memory.
-pub(crate) const BREAKS: [fn(BuffersMut<'_>); 5] = [
+pub(crate) const BREAKS: [fn(BuffersMut<'_>); 8] = [
     |memory| memory.words[9] += 1,
     // A pooled chunk that is not zero: three are held.
     |memory| {
@@ -191,6 +193,10 @@ pub(crate) const BREAKS: [fn(BuffersMut<'_>); 5] = [
     |memory| memory.keys[0] = memory.keys[1],
     |memory| memory.words[5] = 3,
     |memory| memory.order[0] = u32::MAX,
+    // The pool has chunk 3 alone: a held one, one past the last, and none that could be found.
+    |memory| *memory.words.last_mut().unwrap() |= 1,
+    |memory| *memory.words.last_mut().unwrap() |= 1 << 4,
+    |memory| memory.words[15] = 1,
 ];
 
 #[test]

@@ -1,3 +1,4 @@
+use Rattle.formed.proofs.Meaning.{pooling-of}
 use mathlib.Core.Bool.{Bool, true}
 use mathlib.Core.Logic.{⊎-elim}
 use mathlib.Core.Path.{_≡_, sym, ap, _∙_, subst}
@@ -5,6 +6,7 @@ use Prim.Native.Nat.{ℕ, _+_, _-_, _≤_, _<_}
 use native.Mathlib.Omega.{arith}
 use lib.Dec.{ltb}
 use borrow.Author.Needs.{needs}
+use borrow.Author.Tests.{leb-true, leb-false}
 use Rattle.index.specs.Index.{seek}
 use Rattle.store.specs.Mem.{mem, holders, slotCount}
 use Rattle.store.specs.Keys.{lastChunk, keyOf}
@@ -20,67 +22,73 @@ use Rattle.checks.proofs.short_of_chunks.Statement.{statement}
 use Rattle.checks.proofs.short_of_chunks.Tie as tie
 
 abbrev Inv-loop : tie.InvT-loop
-Inv-loop bytes keys order words e first count pool i₀ c k at₀ missing₀ i at missing =
+Inv-loop bytes keys order words e first count i₀ pool c k at₀ missing₀ i at missing =
     (i ≤ count) × (missing ≤ pool) × (missing ≡ spec.missing (holdsAt keys words e) first i) × Ranked keys order words (keyOf e (first + i)) at
 
 abbrev μ-loop : tie.MeasureT-loop
-μ-loop bytes keys order words e first count pool i₀ c k at₀ missing₀ i at missing = count - i
-
-pool-count-requires : tie.Need-pool-count-requires Inv-loop μ-loop
-pool-count-requires c κs =
-    let start = c .before .before .before .before in
-    slots-asked (mem (start .args .bytes .now) (start .args .keys .now) (start .args .order .now) (start .args .words .now)) (start .pre .0 .0)
+μ-loop bytes keys order words e first count i₀ pool c k at₀ missing₀ i at missing = count - i
 
 sub-i : tie.Need-sub-i Inv-loop μ-loop
 sub-i c =
-    let start = c .before .before .before .before .before .before in
+    let start = c .before .before .before .before .before in
     omega (arith, start .pre .1 .from)
 
-sub-if1 : tie.Need-sub-if1 Inv-loop μ-loop
-sub-if1 c =
-    let start = c .before .before .before .before .before .before in
+sub-has-pooled : tie.Need-sub-has-pooled Inv-loop μ-loop
+sub-has-pooled c =
+    let start = c .before .before .before .before .before in
     omega (arith, start .pre .1 .to)
+
+has-pooled-requires : tie.Need-has-pooled-requires Inv-loop μ-loop
+has-pooled-requires c κs =
+    let start = c .before .before .before .before .before in
+    pooling-of (mem (start .args .bytes .now) (start .args .keys .now) (start .args .order .now) (start .args .words .now)) (start .pre .0 .0) .part
 
 returns : tie.Need-returns Inv-loop μ-loop
 returns c =
     let at-if1 = c in
-    let at-pool-count = at-if1 .before .before in
-    let start = at-pool-count .before .before .before .before .before in
+    let at-has-pooled = at-if1 .before in
+    let start = at-has-pooled .before .before .before .before .before .before in
     let m = (mem (start .args .bytes .now) (start .args .keys .now) (start .args .order .now) (start .args .words .now)) in
-    enough (holdsAt (m .keys) (m .words) (start .args .e)) (start .args .first) (start .args .located .chunk - start .args .first) (start .args .count) (pool m) (omega (arith, start .pre .1 .from, start .pre .1 .to)) (located-none (m .keys) (m .order) (m .words) (start .args .e) (start .args .page .0) (start .args .first) (start .args .count) (start .args .located .chunk) (start .args .located .rank) (start .pre .0 .1) (start .pre .0 .2) (start .pre .1)) (omega (arith, at-if1 .if1 .taken, at-pool-count .pool-count .ensures))
+    enough (holdsAt (m .keys) (m .words) (start .args .e)) (start .args .first) (start .args .located .chunk - start .args .first) (start .args .count) (pool m) (omega (arith, start .pre .1 .from, start .pre .1 .to)) (located-none (m .keys) (m .order) (m .words) (start .args .e) (start .args .page .0) (start .args .first) (start .args .count) (start .args .located .chunk) (start .args .located .rank) (start .pre .0 .1) (start .pre .0 .2) (start .pre .1)) (leb-true _ _ (sym (at-has-pooled .has-pooled .ensures) ∙ at-if1 .if1 .taken))
     ∙ ap (λ (has : ℕ → Bool). ltb (pool m) (spec.missing has (start .args .first) (start .args .count))) (held-at m (start .args .page .0) (start .args .e) (start .pre .0 .1))
+
+pool-count-requires : tie.Need-pool-count-requires Inv-loop μ-loop
+pool-count-requires c κs =
+    let start = c .before .before .before .before .before .before .before in
+    pooling-of (mem (start .args .bytes .now) (start .args .keys .now) (start .args .order .now) (start .args .words .now)) (start .pre .0 .0) .part
 
 key-of-requires : tie.Need-key-of-requires Inv-loop μ-loop
 key-of-requires c κs =
-    let start = c .before .before .before .before .before .before .before .before in
+    let start = c .before .before .before .before .before .before .before .before .before in
     let few = entry-few (mem (start .args .bytes .now) (start .args .keys .now) (start .args .order .now) (start .args .words .now)) (start .pre .0 .0) (start .args .page .0) in
     (omega (arith, few, start .pre .0 .1), omega (arith, start .pre .0 .2))
 
 loop-holds : tie.Need-loop-holds Inv-loop μ-loop
 loop-holds c =
-    let at-if1 = c .before .before in
+    let at-has-pooled = c .before .before .before .before in
+    let at-if1 = c .before .before .before in
     let start = at-if1 .before .before .before .before .before .before .before in
     let m = (mem (start .args .bytes .now) (start .args .keys .now) (start .args .order .now) (start .args .words .now)) in
-    (omega (arith, start .pre .1 .from, start .pre .1 .to), search needs, sym (located-none (m .keys) (m .order) (m .words) (start .args .e) (start .args .page .0) (start .args .first) (start .args .count) (start .args .located .chunk) (start .args .located .rank) (start .pre .0 .1) (start .pre .0 .2) (start .pre .1)), located-rank (m .keys) (m .order) (m .words) (start .args .e) (start .args .page .0) (start .args .first) (start .args .count) (start .args .located .chunk) (start .args .located .rank) (start .pre .0 .1) (start .pre .0 .2) (start .pre .1) (omega (arith, at-if1 .if1 .left, start .pre .1 .from)))
+    (omega (arith, start .pre .1 .from, start .pre .1 .to), search needs, sym (located-none (m .keys) (m .order) (m .words) (start .args .e) (start .args .page .0) (start .args .first) (start .args .count) (start .args .located .chunk) (start .args .located .rank) (start .pre .0 .1) (start .pre .0 .2) (start .pre .1)), located-rank (m .keys) (m .order) (m .words) (start .args .e) (start .args .page .0) (start .args .first) (start .args .count) (start .args .located .chunk) (start .args .located .rank) (start .pre .0 .1) (start .pre .0 .2) (start .pre .1) (let less = leb-false (start .args .count - (start .args .located .chunk - start .args .first)) (pool m) (sym (at-has-pooled .has-pooled .ensures) ∙ at-if1 .if1 .left) in omega (arith, less, start .pre .1 .from)))
 
 add-slot-at-rank : tie.Need-add-slot-at-rank Inv-loop μ-loop
 add-slot-at-rank c =
     let at-loop-test = c in
     let at-key-of = at-loop-test .before .before in
-    let start = at-key-of .before .before .before .before .before .before .before .before .before in
+    let start = at-key-of .before .before .before .before .before .before .before .before .before .before in
     omega (arith, at-key-of .key-of .ensures, at-loop-test .loop-test .taken, start .pre .0 .2, start .pre .0 .1, entry-few (mem (start .args .bytes .now) (start .args .keys .now) (start .args .order .now) (start .args .words .now)) (start .pre .0 .0) (start .args .page .0))
 
 slot-at-rank-requires : tie.Need-slot-at-rank-requires Inv-loop μ-loop
 slot-at-rank-requires c κs =
     let at-loop = c .before in
     let at-key-of = at-loop .before in
-    let start = at-key-of .before .before .before .before .before .before .before .before .before in
+    let start = at-key-of .before .before .before .before .before .before .before .before .before .before in
     (slots-asked (mem (start .args .bytes .now) (start .args .keys .now) (start .args .order .now) (start .args .words .now)) (start .pre .0 .0), subst (λ (x : ℕ). Ranked (start .args .keys .now) (start .args .order .now) (start .args .words .now) x (at-loop .loop .at)) (omega (arith, at-key-of .key-of .ensures)) (at-loop .loop .inv .3), omega (arith, at-key-of .key-of .ensures))
 
 add-at : tie.Need-add-at Inv-loop μ-loop
 add-at c =
     let at-loop = c .before .before .before in
-    let start = at-loop .before .before .before .before .before .before .before .before .before .before in
+    let start = at-loop .before .before .before .before .before .before .before .before .before .before .before in
     let ix = slots-asked (mem (start .args .bytes .now) (start .args .keys .now) (start .args .order .now) (start .args .words .now)) (start .pre .0 .0) in
     omega (arith, held-le _ _ _ ix, ix .few, at-loop .loop .inv .3 .within)
 
@@ -92,8 +100,8 @@ returns-2 c =
     let at-loop-test = at-slot-at-rank .before in
     let at-loop = at-loop-test .before in
     let at-key-of = at-loop .before in
-    let at-pool-count = at-key-of .before .before .before .before in
-    let start = at-pool-count .before .before .before .before .before in
+    let at-pool-count = at-key-of .before .before in
+    let start = at-pool-count .before .before .before .before .before .before .before .before in
     let m = (mem (start .args .bytes .now) (start .args .keys .now) (start .args .order .now) (start .args .words .now)) in
     let key : at-key-of .key-of .result + at-loop .loop .i ≡ keyOf (start .args .e) (start .args .first + at-loop .loop .i) = omega (arith, at-key-of .key-of .ensures) in
     let none = found-none (m .keys) (m .words) (start .args .e) (start .args .first + at-loop .loop .i) (omega (arith, at-loop-test .loop-test .taken, start .pre .0 .2)) (omega (arith, ap (λ (x : ℕ). seek (holders m) x) key, at-slot-at-rank .slot-at-rank .ensures, at-if2 .if2 .left)) in
@@ -107,7 +115,7 @@ loop-again c =
     let at-loop-test = at-slot-at-rank .before in
     let at-loop = at-loop-test .before in
     let at-key-of = at-loop .before in
-    let start = at-key-of .before .before .before .before .before .before .before .before .before in
+    let start = at-key-of .before .before .before .before .before .before .before .before .before .before in
     let m = (mem (start .args .bytes .now) (start .args .keys .now) (start .args .order .now) (start .args .words .now)) in
     let ix = slots-asked m (start .pre .0 .0) in
     let e = start .args .e in
@@ -129,8 +137,8 @@ returns-3 : tie.Need-returns-3 Inv-loop μ-loop
 returns-3 c =
     let at-loop-test = c in
     let at-loop = at-loop-test .before in
-    let at-pool-count = at-loop .before .before .before .before .before in
-    let start = at-pool-count .before .before .before .before .before in
+    let at-pool-count = at-loop .before .before .before in
+    let start = at-pool-count .before .before .before .before .before .before .before .before in
     let m = (mem (start .args .bytes .now) (start .args .keys .now) (start .args .order .now) (start .args .words .now)) in
     within-pool (holdsAt (m .keys) (m .words) (start .args .e)) (start .args .first) (start .args .count) (pool m) _ (at-loop .loop .i) (at-loop .loop .inv .0) (at-loop-test .loop-test .left) (at-loop .loop .inv .2) (omega (arith, at-loop .loop .inv .1, at-pool-count .pool-count .ensures))
     ∙ ap (λ (has : ℕ → Bool). ltb (pool m) (spec.missing has (start .args .first) (start .args .count))) (held-at m (start .args .page .0) (start .args .e) (start .pre .0 .1))
@@ -141,11 +149,12 @@ short-of-chunks-spec =
     (tie.spec
     Inv-loop
     μ-loop
-    pool-count-requires
     sub-i
-    sub-if1
+    sub-has-pooled
     (λ c. search needs)
+    has-pooled-requires
     returns
+    pool-count-requires
     (λ c. search needs)
     key-of-requires
     loop-holds

@@ -1,6 +1,7 @@
 use native.Mathlib.Omega.{arith}
 use borrow.Author.Needs.{needs}
 use Rattle.formed.proofs.Asks.{slots-asked}
+use Rattle.formed.proofs.Meaning.{pooling-of}
 use Rattle.store.specs.Mem.{mem}
 use Rattle.chunks.proofs.Turns.{rank-learnt, after-learnt, one-room, one-held, one-slot}
 use Rattle.chunks.proofs.hold_at.Statement.{statement}
@@ -10,7 +11,7 @@ hold-requires : tie.Need-hold-requires
 hold-requires c κs =
     let start = c .before .before .before .before .before .before .before in
     let q = start .pre .1 .0 in
-    ((slots-asked (mem (start .args .bytes .now) (start .args .keys .now) (start .args .order .now) (start .args .words .now)) (start .pre .0 .formed), start .pre .1 .1), (omega arith, one-room (start .args .bytes .now) (start .args .keys .now) (start .args .order .now) (start .args .words .now) (start .args .page .0) (start .args .chunk) (start .pre .0) (start .args .k) q))
+    ((slots-asked (mem (start .args .bytes .now) (start .args .keys .now) (start .args .order .now) (start .args .words .now)) (start .pre .0 .formed), start .pre .1 .1, pooling-of (mem (start .args .bytes .now) (start .args .keys .now) (start .args .order .now) (start .args .words .now)) (start .pre .0 .formed)), (omega arith, one-room (start .args .bytes .now) (start .args .keys .now) (start .args .order .now) (start .args .words .now) (start .args .page .0) (start .args .chunk) (start .pre .0) (start .args .k) q))
 
 learn-requires : tie.Need-learn-requires
 learn-requires c κs =

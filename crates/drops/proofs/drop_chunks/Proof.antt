@@ -1,4 +1,5 @@
 use Rattle.formed.proofs.Asks.{pages-asked, slots-asked}
+use Rattle.formed.proofs.Meaning.{pooling-of}
 use Rattle.drops.proofs.Drops.{entry-in, dropped-by}
 use native.Mathlib.Omega.{arith}
 use borrow.Author.Needs.{needs}
@@ -23,7 +24,7 @@ give-requires c κs =
     let at-key-of = at-key-of2 .before in
     let start = at-key-of .before .before .before .before .before .before .before .before .before in
     let l = start .pre .page .formed .lengths .in-bytes in
-    (slots-asked _ (start .pre .page .formed), (omega arith, omega (arith, at-key-of .key-of .ensures), omega (arith, start .pre .order, at-key-of .key-of .ensures, at-key-of2 .key-of2 .ensures)))
+    ((slots-asked _ (start .pre .page .formed), pooling-of _ (start .pre .page .formed)), (omega arith, omega (arith, at-key-of .key-of .ensures), omega (arith, start .pre .order, at-key-of .key-of .ensures, at-key-of2 .key-of2 .ensures)))
 
 returns : tie.Need-returns
 returns c =

@@ -1,7 +1,7 @@
 use mathlib.Core.Path.{refl}
 use native.Mathlib.Omega.{arith}
 use borrow.Author.Needs.{needs}
-use Rattle.journal.proofs.Numbers.{number-lt}
+use Rattle.formed.proofs.Numbers.{number-lt}
 use Rattle.formed.specs.Pages.{journalCount}
 use Rattle.store.specs.Mem.{journalWords}
 use Rattle.journal.proofs.number.Statement.{statement}

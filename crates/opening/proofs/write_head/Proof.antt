@@ -31,5 +31,6 @@ write-head-spec =
     (λ c. simp length-set (omega arith))
     (λ c. simp length-set (omega arith))
     (λ c. simp length-set (omega arith))
+    (λ c. simp length-set (omega arith))
     (λ c. simp length-set)
     returns)

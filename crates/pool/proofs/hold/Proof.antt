@@ -2,10 +2,10 @@ use Prim.Native.Nat.{_≤_, _<_}
 use native.Mathlib.Omega.{arith}
 use lib.ListN.{take}
 use borrow.Author.Needs.{needs}
-use Rattle.store.proofs.Slots.{ranked-next}
-use Rattle.pool.proofs.Holds.{held-was, held-new, lacking, next-rank}
 use Rattle.index.specs.Index.{seek}
 use Rattle.store.specs.Mem.{slotCount}
+use Rattle.store.proofs.Slots.{ranked-next}
+use Rattle.pool.proofs.Holds.{held-was, held-new, lacking, next-rank}
 use Rattle.pool.proofs.hold.Statement.{statement}
 use Rattle.pool.proofs.hold.Tie as tie
 
@@ -17,19 +17,21 @@ returns c =
 
 take-slot-requires : tie.Need-take-slot-requires
 take-slot-requires c κs =
-    let at-slot-at-rank = c .before .before .before .before in
+    let at-if1 = c .before .before .before in
+    let at-slot-at-rank = at-if1 .before in
     let start = at-slot-at-rank .before .before .before .before .before .before .before .before in
-    let none : slotCount (start .args .words .now) ≤ seek (take (slotCount (start .args .words .now)) (start .args .keys .now)) (start .args .k) = omega (arith, at-slot-at-rank .slot-at-rank .ensures, c .before .before .before .if1 .left) in
-    ((start .pre .0 .0, start .pre .0 .1), (start .pre .1 .0, none, lacking _ _ _ (start .pre .0 .0) _ (start .pre .1 .0) none (start .pre .1 .1)))
+    let none : slotCount (start .args .words .now) ≤ seek (take (slotCount (start .args .words .now)) (start .args .keys .now)) (start .args .k) = omega (arith, at-slot-at-rank .slot-at-rank .ensures, at-if1 .if1 .left) in
+    (start .pre .0, (start .pre .1 .0, none, lacking _ _ _ (start .pre .0 .0) _ (start .pre .1 .0) none (start .pre .1 .1)))
 
 returns-2 : tie.Need-returns-2
 returns-2 c =
     let at-take-slot = c .before .before .before .before .before .before in
-    let at-slot-at-rank = at-take-slot .before .before .before .before .before in
+    let at-if1 = at-take-slot .before .before .before .before in
+    let at-slot-at-rank = at-if1 .before in
     let start = at-slot-at-rank .before .before .before .before .before .before .before .before in
-    let none : slotCount (start .args .words .now) ≤ seek (take (slotCount (start .args .words .now)) (start .args .keys .now)) (start .args .k) = omega (arith, at-slot-at-rank .slot-at-rank .ensures, at-take-slot .before .before .before .before .if1 .left) in
+    let none : slotCount (start .args .words .now) ≤ seek (take (slotCount (start .args .words .now)) (start .args .keys .now)) (start .args .k) = omega (arith, at-slot-at-rank .slot-at-rank .ensures, at-if1 .if1 .left) in
     let t = at-take-slot .take-slot .ensures in
-    (held-new _ _ _ (start .pre .0 .0) _ (start .pre .1 .0) none _ _ _ _ (t .0), next-rank _ _ _ (start .pre .0 .0) _ (start .pre .1 .0) _ _ _ _ (t .0) _ (t .1))
+    (held-new _ _ _ (start .pre .0 .0) _ (start .pre .1 .0) (start .pre .0 .2 .part) _ _ _ _ (t .0) none, next-rank _ _ _ (start .pre .0 .0) _ (start .pre .1 .0) (start .pre .0 .2 .part) _ _ _ _ (t .0) _ (t .1))
 
 pub hold-spec : {M : Type 1} → statement M
 hold-spec =

@@ -48,13 +48,16 @@ returns-8 c =
 
 returns-9 : tie.Need-returns-9
 returns-9 c =
-    let start = c .before .before .before .before .before .before .before .before .before in
-    refute _ (λ s. c .if9 .taken (fit-are (start .args .bytes) (start .args .keys) (start .args .order) (start .args .words) (start .args .c) (start .args .p) (start .args .j) s .in-words))
+    let at-if9 = c in
+    let at-pool-length = at-if9 .before in
+    let start = at-pool-length .before .before .before .before .before .before .before .before .before in
+    refute _ (λ s. at-if9 .if9 .taken (let h = fit-are (start .args .bytes) (start .args .keys) (start .args .order) (start .args .words) (start .args .c) (start .args .p) (start .args .j) s .in-words in omega (arith, h, at-pool-length .pool-length .ensures)))
 
 returns-10 : tie.Need-returns-10
 returns-10 c =
     let at-if9 = c in
-    let at-if8 = at-if9 .before in
+    let at-pool-length = at-if9 .before in
+    let at-if8 = at-pool-length .before in
     let at-if7 = at-if8 .before in
     let at-if6 = at-if7 .before in
     let at-if5 = at-if6 .before in
@@ -63,7 +66,12 @@ returns-10 c =
     let at-if2 = at-if3 .before in
     let at-if1 = at-if2 .before in
     let start = at-if1 .before in
-    sym (fit-test (start .args .bytes) (start .args .keys) (start .args .order) (start .args .words) (start .args .c) (start .args .p) (start .args .j) (record { chunks-lo = at-if1 .if1 .left; chunks-hi = at-if2 .if2 .left; pages-lo = at-if3 .if3 .left; pages-hi = at-if4 .if4 .left; journal-hi = at-if5 .if5 .left; in-bytes = at-if6 .if6 .left; in-keys = at-if7 .if7 .left; in-order = at-if8 .if8 .left; in-words = at-if9 .if9 .left }))
+    sym (fit-test (start .args .bytes) (start .args .keys) (start .args .order) (start .args .words) (start .args .c) (start .args .p) (start .args .j) (record { chunks-lo = at-if1 .if1 .left; chunks-hi = at-if2 .if2 .left; pages-lo = at-if3 .if3 .left; pages-hi = at-if4 .if4 .left; journal-hi = at-if5 .if5 .left; in-bytes = at-if6 .if6 .left; in-keys = at-if7 .if7 .left; in-order = at-if8 .if8 .left; in-words = omega (arith, at-if9 .if9 .left, at-pool-length .pool-length .ensures) }))
+
+pool-length-requires : tie.Need-pool-length-requires
+pool-length-requires c κs =
+    let at-if2 = c .before .before .before .before .before .before in
+    at-if2 .if2 .left
 
 pub lengths-ok-spec : {M : Type 1} → statement M
 lengths-ok-spec =
@@ -80,6 +88,6 @@ lengths-ok-spec =
     returns-7
     (λ c. search needs) (λ c. search needs) (λ c. search needs)
     returns-8
-    (λ c. search needs) (λ c. search needs)
+    (λ c. search needs) (λ c. search needs) pool-length-requires (λ c. search needs)
     returns-9
     returns-10)

@@ -5,8 +5,8 @@ use borrow.Author.Needs.{needs}
 use Prim.Native.Nat.{_+_, _-_, _<_}
 use native.Mathlib.Omega.{arith}
 use lib.ListN.{length}
-use Rattle.pool.proofs.free_place.Statement.{statement}
-use Rattle.pool.proofs.free_place.Tie as tie
+use Rattle.pages.proofs.free_place.Statement.{statement}
+use Rattle.pages.proofs.free_place.Tie as tie
 
 abbrev Inv-loop : tie.InvT-loop
 Inv-loop keys guess i₀ i = usedCount (drop i keys) + i < length keys

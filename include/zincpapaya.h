@@ -101,7 +101,9 @@ uint32_t zp_open(ZP_MEMORY, uint32_t static_memory, uint32_t calldata_page, uint
  */
 /* out: 4 limbs. No further refusal */
 uint32_t zp_read_u256(ZP_CONST_MEMORY, uint32_t page, uint32_t address, uint64_t *out, size_t out_len);
-/* out: 4 limbs; the bytes of the range lead the word, and zeros follow. ZP_RANGE above 32 bytes */
+/* out: 5 numbers: the 4 limbs of the word, and how many bytes the range has, 0 to 32. The bytes of the range lead the word, and
+ * zeros follow. Bytes that were never written count too, and so do those of a page that is undecodable or not allocated.
+ * ZP_RANGE above 32 bytes */
 uint32_t zp_read_u256_partially(ZP_CONST_MEMORY, uint32_t page, uint32_t start, uint32_t end,
                                 uint64_t *out, size_t out_len);
 /* output: the bytes of the range. ZP_RANGE where it has another length than the range */
@@ -184,8 +186,12 @@ uint32_t zp_compare(ZP_CONST_MEMORY, const uint8_t *other_bytes, size_t other_by
  *                gas may be 0
  * a refusal      as it was                  as it was                           as it was
  *
- * Only zp_load and zp_store pay for growth. `out` of zp_store has one number: ZP_SUSPENDED writes the hook's value to it, and
- * nothing else writes it. All other registers and flags stay as they were. A panic leaves the memory as it was.
+ * Only zp_load and zp_store pay for growth. All other registers and flags stay as they were. A panic leaves the memory as it
+ * was.
+ *
+ * Two instructions have an `out`, of one number. zp_store writes the hook's value to it where it returns ZP_SUSPENDED.
+ * zp_load_pointer writes how many bytes of the pointer's range lead the word, where it returns 0. Otherwise `out` stays as it
+ * was.
  *
  * WHAT IS TESTED, in this order: ZP_UNFIT, ZP_NOT_FORMED, ZP_OPERAND, the panic, the refusals named here. ZP_OPERAND is
  * returned for a register above 15, for a form from ZP_OTHER_FORM on, and for an immediate as value, dst0 or dst1, or as the
@@ -202,10 +208,14 @@ uint32_t zp_store(ZP_MEMORY, uint32_t *frame, size_t frame_len, uint64_t *regist
                   uint32_t dst1, bool increment, bool kernel, bool hook, uint32_t hook_address,
                   uint64_t *out, size_t out_len);
 /* The operand is a pointer, and its flag must be set, else it panics. With increment dst1 gets the flag too.
+ * out: 1 number, 0 to 32. The word begins with so many bytes of the pointer's range, from its offset on; zeros follow. Bytes
+ * that were never written count too, and so do those of a page that is undecodable or not allocated. The number is 0 where the
+ * offset is not below the length. A host that shows the word splits its 32 bytes, the highest first,
+ * after so many.
  * ZP_OPERAND; ZP_PANICKED; ZP_POINTER */
 uint32_t zp_load_pointer(ZP_CONST_MEMORY, uint32_t *frame, size_t frame_len, uint64_t *registers,
                          size_t registers_len, uint32_t source, uint32_t dst0, uint32_t dst1,
-                         bool increment);
+                         bool increment, uint64_t *out, size_t out_len);
 /* With increment dst1 gets the flag of the operand. ZP_OPERAND; ZP_PANICKED; no further refusal */
 uint32_t zp_load_static(ZP_CONST_MEMORY, uint32_t *frame, size_t frame_len, uint64_t *registers,
                         size_t registers_len, uint32_t source, uint32_t dst0, uint32_t dst1,

@@ -22,14 +22,15 @@ use Rattle.formed.specs.Formed.{wellFormed}
 use Rattle.view.specs.View.{settingOf, viewOf}
 use Rattle.view.specs.Checks.{Check, wordWriteChecks}
 use Rattle.view.specs.Instructions.{Hook, InstructionResult, Executed, Stop, running, onHook, heapOf, hooked, placeChecks, panickedInto, loadedInto, storedInto, accessChecks, loaded, storeChecks, stored, pointerChecks, pointed, staticChecks, staticLoaded, staticStoreChecks, staticStored}
-use Rattle.view.specs.Calls.{Call, Value, Load, Store, LoadPointer, LoadStatic, StoreStatic, executed, answerOf, CallDoes}
+use Rattle.view.specs.Calls.{Call, Value, Load, Store, LoadPointer, LoadStatic, StoreStatic, executed, pointerLoaded, answerOf, CallDoes}
 use Rattle.view.proofs.Refused.{ill-does}
 use Rattle.execution.specs.declared.ExecutionStatus.{ExecutionStatus}
 use Rattle.execution.specs.declared.ExecutionStatus.the-variants.{Running, SuspendedOnHook, Panicked, Refused}
 use Rattle.write_back.specs.declared.Executed as code
-use Rattle.write_back.specs.Runs.{endedWith, executedOutcome, Runs}
+use Rattle.write_back.specs.declared.PointerExecuted.{PointerExecuted}
+use Rattle.write_back.specs.Runs.{endedWith, outcomeWith, RunsWith, Runs, PointerRuns}
 use Rattle.frames.specs.Frames.{bit, flag, frameFrom, frameNumbers, grownNumbers}
-use Rattle.abi.specs.Executing.{fit, outcomeFrom, executedStatus, frameAfter, stopValue, ReportsExecuted, Executes}
+use Rattle.abi.specs.Executing.{fit, outcomeFrom, pointerValue, executedStatus, frameAfter, stopValue, readValue, ReportsExecuted, ExecutesWith, Executes, PointerExecutes}
 use Rattle.abi.specs.Interface.{Gives}
 use Rattle.abi.specs.Numbers.{asTheyAre, Grows}
 
@@ -38,6 +39,7 @@ data Reportable (P : Stop → Type 0) : Outcome Value → Type 0 where
   refuses : {n : ℕ} → (ltb 0 n && ltb n 100) ≡ true → Reportable P (refused n)
   panics : {e : Executed} → Reportable P (panicked (executed e))
   gives : {e : Executed} → P (e .stop) → Reportable P (done (executed e))
+  loads-pointer : {e : Executed} {n : ℕ} → P (e .stop) → Reportable P (done (pointerLoaded e n))
 
 data All (P : Stop → Type 0) : List (Check Value) → Type 0 where
   end : All P []
@@ -74,7 +76,7 @@ module _ (m : Mem) (f : Frame) (g : Registers) where
     pointer-reportable =
         formed
         (first (placeChecks (pointerTakes p) ++ pointerChecks gone f (sourceOf g (p .source))) (next (refuses refl) (next panics (next panics (next (refuses refl) end))))
-        (gives {e = loadedInto g p (pointed (viewOf m) f (sourceOf g (p .source)))} refl))
+        (loads-pointer {e = loadedInto g p (pointed (viewOf m) f (sourceOf g (p .source)))} refl))
 
     static-reportable : Reportable Never (answerOf m (LoadStatic f g p))
     static-reportable =
@@ -135,6 +137,7 @@ refusal-is (refuses {n = k} h) n q =
     subst (λ (j : ℕ). (0 < j) × (j < 100)) e (ltb-true 0 k (and-left (ltb 0 k) (ltb k 100) h), ltb-true k 100 (and-right (ltb 0 k) (ltb k 100) h))
 refusal-is panics n q = absurd (let z : _≡_ {A = ℕ} 0 1 = cc in omega arith)
 refusal-is (gives p) n q = absurd (let z : _≡_ {A = ℕ} 0 1 = cc in omega arith)
+refusal-is (loads-pointer p) n q = absurd (let z : _≡_ {A = ℕ} 0 1 = cc in omega arith)
 
 stop-is : {P : Stop → Type 0} {o : Outcome Value} → Reportable P o → (e : Executed) → o ≡ done (executed e) → P (e .stop)
 stop-is (refuses h) e q = absurd (let z : _≡_ {A = ℕ} 0 1 = cc in omega arith)
@@ -142,6 +145,19 @@ stop-is panics e q = absurd (let z : _≡_ {A = ℕ} 0 1 = cc in omega arith)
 stop-is {P} (gives {e = d} p) e q =
     let same : d ≡ e = cc in
     subst (λ (x : Executed). P (x .stop)) same p
+stop-is (loads-pointer p) e q = absurd (let z : _≡_ {A = ℕ} 0 1 = cc in omega arith)
+
+stop-read-is : {P : Stop → Type 0} {o : Outcome Value} → Reportable P o → (e : Executed) (n : ℕ) → o ≡ done (pointerLoaded e n) → P (e .stop)
+stop-read-is (refuses h) e n q = absurd (let z : _≡_ {A = ℕ} 0 1 = cc in omega arith)
+stop-read-is panics e n q = absurd (let z : _≡_ {A = ℕ} 0 1 = cc in omega arith)
+stop-read-is (gives p) e n q = absurd (let z : _≡_ {A = ℕ} 0 1 = cc in omega arith)
+stop-read-is {P} (loads-pointer {e = d} p) e n q =
+    let same : d ≡ e = cc in
+    subst (λ (x : Executed). P (x .stop)) same p
+
+-- values that tell the stop
+abbrev TellsStop : (Executed → Value) → Type 1
+TellsStop value = (P : Stop → Type 0) (e : Executed) → Reportable P (done (value e)) → P (e .stop)
 
 -- ---- numbers and back
 flag-bit : (b : Bool) → flag (bit b) ≡ b
@@ -160,23 +176,23 @@ none : {r : ℕ} → (r ≡ 0 → ⊥) → (r ≡ 100 → ⊥) → (r ≡ 101 �
 none a b c = ⊎-elim a (⊎-elim b c)
 
 -- ---- what is left by an instruction that ended so, with registers of the numbers l; h is the hook's value
-record Left (s : ExecutionStatus) (x : code.Executed) (frame l : List ℕ) (r h : ℕ) (frame' : List ℕ) : Type 0 where
-  same : outcomeFrom r h frame' l ≡ endedWith s (x .frame) (registersFrom l)
+record Left (value : Executed → Value) (s : ExecutionStatus) (x : code.Executed) (frame l : List ℕ) (r h : ℕ) (frame' : List ℕ) : Type 0 where
+  same : outcomeFrom value r h frame' l ≡ endedWith value s (x .frame) (registersFrom l)
   kept : (r ≡ 0 → ⊥) → (r ≡ 100 → ⊥) → (r ≡ 101 → ⊥) → (frame' ≡ frame) × (s ≡ Refused r)
   frame-numbers : (r ≡ 0) ⊎ ((r ≡ 100) ⊎ (r ≡ 101)) → frame' ≡ frameNumbers (frameFrom frame')
 
-module _ (P : Stop → Type 0) (x : code.Executed) (frame l : List ℕ) (h : ℕ) where
-  left : (s : ExecutionStatus) → Reportable P (endedWith s (x .frame) (registersFrom l)) → ((k : ℕ) → s ≡ SuspendedOnHook k → P (onHook k) → h ≡ k)
-      → Left s x frame l (executedStatus s) h (frameAfter s x frame)
+module _ (value : Executed → Value) (tells : TellsStop value) (P : Stop → Type 0) (x : code.Executed) (frame l : List ℕ) (h : ℕ) where
+  left : (s : ExecutionStatus) → Reportable P (endedWith value s (x .frame) (registersFrom l)) → ((k : ℕ) → s ≡ SuspendedOnHook k → P (onHook k) → h ≡ k)
+      → Left value s x frame l (executedStatus s) h (frameAfter s x frame)
   left Running p q = record {
-    same = ap (λ (f : Frame). done (executed (record { frame = f; registers = registersFrom l; stop = running }))) (frame-back (x .frame));
+    same = ap (λ (f : Frame). done (value (record { frame = f; registers = registersFrom l; stop = running }))) (frame-back (x .frame));
     kept = λ a b c. absurd (a refl);
     frame-numbers = λ _. numbers-back (x .frame);
   }
   left (SuspendedOnHook k) p q =
-      let e = q k refl (stop-is p _ refl) in
+      let e = q k refl (tells P _ p) in
       record {
-        same = λ i. done (executed (record { frame = frame-back (x .frame) i; registers = registersFrom l; stop = onHook (e i) }));
+        same = λ i. done (value (record { frame = frame-back (x .frame) i; registers = registersFrom l; stop = onHook (e i) }));
         kept = λ a b c. absurd (c refl);
         frame-numbers = λ _. numbers-back (x .frame);
       }
@@ -194,12 +210,15 @@ module _ (P : Stop → Type 0) (x : code.Executed) (frame l : List ℕ) (h : ℕ
       }
 
 -- ---- the contract
+pub and-false-left : (a b : Bool) → a ≡ false → (a && b) ≡ false
+and-false-left a b e = rw e
+
 -- the lengths that a fit frame and other numbers have
 pub lengths : (frame others : List ℕ) {n : ℕ} → fit frame others n ≡ true → (length frame ≡ 6) × (length others ≡ n)
 lengths frame others {n} e = (eqb-true (length frame) 6 (and-left _ _ e), eqb-true (length others) n (and-right (eqb (length frame) 6) _ e))
 
-module _ {m : Mem} {c : Call} {frame l : List ℕ} {fits : Bool} {h : ℕ} where
-  pub unfit : fits ≡ false → Executes m c frame l fits 102 h m frame l
+module _ {value : Executed → Value} {m : Mem} {c : Call} {frame l : List ℕ} {fits : Bool} {h : ℕ} where
+  pub unfit : fits ≡ false → ExecutesWith value m c frame l fits 102 h m frame l
   unfit e = record {
     unfit = λ _. (refl, (refl, (refl, refl)));
     does = λ q. absurd (false≢true (sym e ∙ q));
@@ -208,7 +227,7 @@ module _ {m : Mem} {c : Call} {frame l : List ℕ} {fits : Bool} {h : ℕ} where
   }
 
   -- on a memory that is not well formed
-  pub ill : fits ≡ true → wellFormed m ≡ false → Executes m c frame l fits 3 h m frame l
+  pub ill : fits ≡ true → wellFormed m ≡ false → ExecutesWith value m c frame l fits 3 h m frame l
   ill e w = record {
     unfit = λ q. absurd (false≢true (sym q ∙ e));
     does = λ _. ill-does m c w;
@@ -217,20 +236,25 @@ module _ {m : Mem} {c : Call} {frame l : List ℕ} {fits : Bool} {h : ℕ} where
   }
 
   -- d is the call as it was made, with the frame f
-  pub executes : fits ≡ true → (i : Instruction c) → {d : Call} → d ≡ c → {f : Frame} {m' : Mem} {l' : List ℕ} (x : code.Executed) → Runs m d f l x m' l'
-      → {r : ℕ} {frame' : List ℕ} → ReportsExecuted x frame r frame' → ((k : ℕ) → x .status ≡ SuspendedOnHook k → Stops i (onHook k) → h ≡ k) → Executes m c frame l fits r h m' frame' l'
-  executes fit i q {f} {m'} {l'} x runs {r} {frame'} t stop =
-      let done : CallDoes m c (executedOutcome x l') m' = subst (λ (y : Call). CallDoes m y (executedOutcome x l') m') q (runs .does) in
-      let left-is : Left (x .status) x frame l' r h frame' =
-      subst (λ (z : ℕ). Left (x .status) x frame l' z h frame') (sym (t .status))
-      (subst (λ (z : List ℕ). Left (x .status) x frame l' (executedStatus (x .status)) h z) (sym (t .frame-is))
-      (left (Stops i) x frame l' h (x .status) (subst (Reportable (Stops i)) (sym (done .answer)) (reportable m i)) stop)) in
+  executes-with : TellsStop value → fits ≡ true → (i : Instruction c) → {d : Call} → d ≡ c → {f : Frame} {m' : Mem} {l' : List ℕ} (x : code.Executed) → RunsWith value m d f l x m' l'
+      → {r : ℕ} {frame' : List ℕ} → ReportsExecuted x frame r frame' → ((k : ℕ) → x .status ≡ SuspendedOnHook k → Stops i (onHook k) → h ≡ k) → ExecutesWith value m c frame l fits r h m' frame' l'
+  executes-with tells fit i q {f} {m'} {l'} x runs {r} {frame'} t stop =
+      let done : CallDoes m c (outcomeWith value x l') m' = subst (λ (y : Call). CallDoes m y (outcomeWith value x l') m') q (runs .does) in
+      let left-is : Left value (x .status) x frame l' r h frame' =
+      subst (λ (z : ℕ). Left value (x .status) x frame l' z h frame') (sym (t .status))
+      (subst (λ (z : List ℕ). Left value (x .status) x frame l' (executedStatus (x .status)) h z) (sym (t .frame-is))
+      (left value tells (Stops i) x frame l' h (x .status) (subst (Reportable (Stops i)) (sym (done .answer)) (reportable m i)) stop)) in
       record {
         unfit = λ e. absurd (false≢true (sym e ∙ fit));
         does = λ _. record { answer = left-is .same ∙ done .answer; kept = done .kept; changed = done .changed };
         kept = λ a b e. let k = left-is .kept a b e in (k .0, runs .refusal r (k .1) .1);
         frame-numbers = left-is .frame-numbers;
       }
+
+module _ {m : Mem} {c : Call} {frame l : List ℕ} {fits : Bool} {h : ℕ} where
+  pub executes : fits ≡ true → (i : Instruction c) → {d : Call} → d ≡ c → {f : Frame} {m' : Mem} {l' : List ℕ} (x : code.Executed) → Runs m d f l x m' l'
+      → {r : ℕ} {frame' : List ℕ} → ReportsExecuted x frame r frame' → ((k : ℕ) → x .status ≡ SuspendedOnHook k → Stops i (onHook k) → h ≡ k) → Executes m c frame l fits r h m' frame' l'
+  executes = executes-with (λ P e p. stop-is p e refl)
 
 -- no instruction but a store stops
 pub no-stop : {h k : ℕ} → onHook k ≡ running → h ≡ k
@@ -245,6 +269,48 @@ stop-kept Running out e q n = e
 stop-kept (SuspendedOnHook k) out e q n = absurd (n q)
 stop-kept Panicked out e q n = e
 stop-kept (Refused k) out e q n = e
+
+-- ---- a pointer load
+-- where it is carried out, its output is how many bytes it read
+told-read : (s : ExecutionStatus) (n : ℕ) (out : List ℕ) {out' : List ℕ} → out' ≡ readValue s n out → ((k : ℕ) → s ≡ SuspendedOnHook k → ⊥)
+    → (f : Frame) (g : Registers) → endedWith (pointerValue out') s f g ≡ endedWith (λ x. pointerLoaded x n) s f g
+told-read Running n out e never f g = ap (λ (l : List ℕ). done (pointerLoaded (record { frame = f; registers = g; stop = running }) (getD l 0 0))) e
+told-read (SuspendedOnHook k) n out e never f g = absurd (never k refl)
+told-read Panicked n out e never f g = refl
+told-read (Refused k) n out e never f g = refl
+
+-- it never stops
+no-read-stop : (m : Mem) (f : Frame) (g : Registers) (p : LoadPlaces) (x : code.Executed) (n : ℕ) (l : List ℕ) → outcomeWith (λ y. pointerLoaded y n) x l ≡ answerOf m (LoadPointer f g p)
+    → (k : ℕ) → x .status ≡ SuspendedOnHook k → ⊥
+no-read-stop m f g p x n l e k s =
+    let is = sym (ap (λ (y : ExecutionStatus). endedWith (λ z. pointerLoaded z n) y (x .frame) (registersFrom l)) s) ∙ e in
+    let stop = stop-read-is (pointer-reportable m f g p) (record { frame = x .frame; registers = registersFrom l; stop = onHook k }) n (sym is) in
+    let z : _≡_ {A = ℕ} (suc k) k = no-stop stop in
+    omega arith
+
+module _ {m : Mem} {f : Frame} {g : Registers} {p : LoadPlaces} {frame l : List ℕ} {fits : Bool} where
+  pub pointer-executes : fits ≡ true → {d : Call} → d ≡ LoadPointer f g p → {before : Frame} {m' : Mem} {l' : List ℕ} (x : PointerExecuted) → PointerRuns m d before l x m' l'
+      → {r : ℕ} {frame' : List ℕ} → ReportsExecuted (x .executed) frame r frame' → (out : List ℕ) {out' : List ℕ} → out' ≡ readValue (x .executed .status) (x .«bytes_read») out
+      → PointerExecutes m (LoadPointer f g p) frame l fits r out' m' frame' l'
+  pointer-executes fit {d} q {before} {m'} {l'} x runs t out {out'} e =
+      let does = runs .runs .does in
+      let never = no-read-stop m f g p (x .executed) (x .«bytes_read») l' (does .answer ∙ ap (answerOf m) q) in
+      let told : RunsWith (pointerValue out') m d before l (x .executed) m' l' =
+      record {
+        does = record {
+          answer = told-read (x .executed .status) (x .«bytes_read») out e never (x .executed .frame) (registersFrom l') ∙ does .answer;
+          kept = does .kept;
+          changed = does .changed;
+        };
+        refusal = runs .runs .refusal;
+      } in
+      executes-with (λ P y r. stop-read-is r y (getD out' 0 0) refl) fit load-pointer q (x .executed) told t (λ k s _. absurd (never k s))
+
+pub read-kept : (s : ExecutionStatus) (n : ℕ) (out : List ℕ) {out' : List ℕ} {r : ℕ} → out' ≡ readValue s n out → r ≡ executedStatus s → (r ≡ 0 → ⊥) → out' ≡ out
+read-kept Running n out e q z = absurd (z q)
+read-kept (SuspendedOnHook k) n out e q z = e
+read-kept Panicked n out e q z = e
+read-kept (Refused k) n out e q z = e
 
 -- ---- a growth
 module _ {frame out : List ℕ} {step : FrameStep} where

@@ -8,6 +8,7 @@ use Rattle.word.specs.Value.{value}
 use Rattle.fat_pointer.specs.declared.FatPointer.{FatPointer}
 use Rattle.frames.specs.Frames.{limbsPut}
 use Rattle.frames.proofs.Lists.{overwritten}
+use Rattle.abi.specs.Interface.{partialAt}
 use Rattle.abi.specs.Numbers.{pointerAt}
 
 pub pair-is : {a a' b b' : ℕ} → a ≡ a' → b ≡ b' → a ∷ b ∷ [] ≡ a' ∷ b' ∷ []
@@ -22,3 +23,11 @@ pointer-put l h p {a} {b} {c} {d} e f g k =
 pub value-put : (limbs l : List ℕ) → length l ≡ 4 → value (limbsPut l 0 limbs) ≡ value limbs
 unfolding value
 value-put limbs l h = ap value (overwritten (getD limbs 0 0 ∷ getD limbs 1 0 ∷ getD limbs 2 0 ∷ getD limbs 3 0 ∷ []) l h)
+
+-- a word, and a number after it
+pub partial-put : (limbs l : List ℕ) → length l ≡ 5 → {o : List ℕ} → o ≡ limbsPut l 0 limbs → {k n : ℕ} → k ≡ n → partialAt (set o 4 k) ≡ (value limbs, n)
+unfolding value
+partial-put limbs l h e {k} q =
+    ap (λ (t : List ℕ). partialAt (set t 4 k)) e
+    ∙ ap partialAt (overwritten (getD limbs 0 0 ∷ getD limbs 1 0 ∷ getD limbs 2 0 ∷ getD limbs 3 0 ∷ k ∷ []) l h)
+    ∙ ap (λ (x : ℕ). (value limbs, x)) q

@@ -23,9 +23,10 @@ use Rattle.formed.proofs.Same.{tab-long}
 use Rattle.view.specs.View.{View, Setting, settingOf, viewOf}
 use Rattle.view.specs.Steps.{run, alike}
 use Rattle.view.specs.Checks.{Check, lengthsRight, openingChecks, allocateChecks, partialChecks, rangeChecks, lookupChecks, wordWriteChecks, byteWriteChecks, freeChecks, truncateChecks, compareChecks, rollbackChecks, onMemory}
+use Rattle.fat_pointer.specs.Pointer.{pointerOf}
 use Rattle.registers.specs.Registers.{registerNumber, sourceOf, valueOf, loadTakes, pointerTakes, storeTakes}
-use Rattle.view.specs.Instructions.{placeChecks, panickedInto, loadedInto, storedInto, accessChecks, loaded, storeChecks, stored, pointerChecks, pointed, staticChecks, staticLoaded, staticStoreChecks, staticStored}
-use Rattle.view.specs.Calls.{Call, Value, Open, Allocate, ReadWord, ReadPartial, ReadRange, ReadByte, DynamicLength, WriteWord, WriteBytes, Lookup, LookupCheck, Free, Window, Truncate, CompareLeft, CompareRight, CompareBoth, Snapshot, Rollback, DeleteHistory, Load, Store, LoadPointer, LoadStatic, StoreStatic, nothing, executed, bytes, verdict, sameLengths, outcomeOf, answerOf, comparisonOf, CallDoes, OpenDoes}
+use Rattle.view.specs.Instructions.{placeChecks, panickedInto, loadedInto, storedInto, accessChecks, loaded, storeChecks, stored, pointerChecks, readCount, pointed, staticChecks, staticLoaded, staticStoreChecks, staticStored}
+use Rattle.view.specs.Calls.{Call, Value, Open, Allocate, ReadWord, ReadPartial, ReadRange, ReadByte, DynamicLength, WriteWord, WriteBytes, Lookup, LookupCheck, Free, Window, Truncate, CompareLeft, CompareRight, CompareBoth, Snapshot, Rollback, DeleteHistory, Load, Store, LoadPointer, LoadStatic, StoreStatic, nothing, executed, pointerLoaded, bytes, verdict, sameLengths, outcomeOf, answerOf, comparisonOf, CallDoes, OpenDoes}
 use Rattle.view.specs.Does.{Does}
 use Rattle.reads.specs.Calls.{RangeDoes}
 use Rattle.reads.proofs.Answers.{well, lookup-good, block-long, block-zero}
@@ -86,7 +87,7 @@ module _ (s : Setting) (v : View) where
       first-sound (placeChecks (storeTakes p) ++ storeChecks (λ r. executed (panickedInto g (p .dst1) r)) s v area f (x .word) n h) (done (executed (storedInto g p (stored area f x n h)))) refl refl
   outcome-sound (LoadPointer f g p) =
       let x = sourceOf g (p .source) in
-      first-sound (placeChecks (pointerTakes p) ++ pointerChecks (λ r. executed (panickedInto g (p .dst1) r)) f x) (done (executed (loadedInto g p (pointed v f x)))) refl refl
+      first-sound (placeChecks (pointerTakes p) ++ pointerChecks (λ r. executed (panickedInto g (p .dst1) r)) f x) (done (pointerLoaded (loadedInto g p (pointed v f x)) (readCount (pointerOf (x .word))))) refl refl
   outcome-sound (LoadStatic f g p) =
       let x = sourceOf g (p .source) in
       first-sound (placeChecks (loadTakes p) ++ staticChecks (λ r. executed (panickedInto g (p .dst1) r)) f (x .word)) (done (executed (loadedInto g p (staticLoaded s v f x)))) refl refl

@@ -14,6 +14,7 @@ use Rattle.store.specs.Mem.{Mem}
 use Rattle.view.specs.View.{viewOf}
 use Rattle.view.specs.Steps.{run}
 use Rattle.view.specs.Checks.{onMemory, lookupChecks}
+use Rattle.reads.specs.Calls.{partialValue}
 use Rattle.view.specs.Calls.{Value, nothing, number, lengths, bytes, verdict}
 
 -- a call with this outcome returns r. Its output must have n places; it was `out` and is `out'` after the call, and `means` reads the value off it.
@@ -27,6 +28,14 @@ pub record Gives {A : Type 0} (n : ℕ) (outcome : Outcome A) (means : List ℕ 
 -- four limbs, the lowest first
 abbrev pub wordIn : List ℕ → Value
 wordIn o = number (value o)
+
+-- four limbs, and how many bytes of the range lead the word
+abbrev pub partialAt : List ℕ → ℕ × ℕ
+partialAt o = (value o, getD o 4 0)
+
+-- the same, among the values of all calls
+abbrev pub partialIn : List ℕ → Value
+partialIn o = partialValue (partialAt o)
 
 abbrev pub numberIn : List ℕ → Value
 numberIn o = number (getD o 0 0)

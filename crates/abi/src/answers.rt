@@ -16,7 +16,7 @@ ghost use Rattle.compare.specs.Verdict.{comparisonOutcome};
 ghost use Rattle.page_ids.specs.Arithmetic.{pageOutcome, baseOutcome};
 ghost use Rattle.page_ids.specs.Decode.{decodingOutcome};
 ghost use Rattle.state.specs.Quote.{quoteOutcome};
-ghost use Rattle.abi.specs.Interface.{Gives, verdictIn};
+ghost use Rattle.abi.specs.Interface.{Gives, partialAt, verdictIn};
 ghost use Rattle.abi.specs.Numbers.{one, asTheyAre, pointerAt, pageNumbers, endNumbers};
 
 // ---- a word, or one number or more, where there is no refusal; returns the refusal
@@ -31,6 +31,21 @@ pub fn give_word(out: &mut [u64], refusal: u32, word: Word) -> u32
         return refusal;
     }
     frames::put_word(out, 0, word);
+    0
+}
+
+// The four limbs, and then how many bytes of the range lead the word.
+pub fn give_partial(out: &mut [u64], refusal: u32, word: Word, bytes_read: u32) -> u32
+    ensures { λ r. ⌜ Gives 5 (answered refusal (value (word .limbs), «bytes_read»)) partialAt r (now (out .entry)) (now (out .exit)) ⌝ }
+{
+    if out.len() != 5 {
+        return UNFIT;
+    }
+    if refusal != 0 {
+        return refusal;
+    }
+    frames::put_word(out, 0, word);
+    out[4] = frames::wide(bytes_read);
     0
 }
 

@@ -2,13 +2,14 @@
 ghost use mathlib.Core.Path.{_≡_};
 ghost use lib.ListN.{length};
 ghost use Rattle.execution.specs.Executions as executions;
-ghost use Rattle.abi.specs.Executing.{hookFrom, fit, ReportsExecuted, stopValue};
+ghost use Rattle.abi.specs.Executing.{hookFrom, fit, ReportsExecuted, stopValue, readValue};
 use crate::status::PANICKED;
 use crate::status::STOPPED;
 use execution::ExecutionStatus;
 use execution::Hook;
 use page_ids::Address;
 use write_back::Executed;
+use write_back::PointerExecuted;
 
 // ---- arguments
 
@@ -68,5 +69,23 @@ pub fn report_stop(run: Executed, frame: &mut [u32], out: &mut [u64]) -> u32
         ExecutionStatus::Refused(_) => report(run, frame),
         ExecutionStatus::Panicked => report(run, frame),
         ExecutionStatus::Running => report(run, frame),
+    }
+}
+
+// The same of a pointer load: where it is carried out, `out` gets how many bytes of the pointer's range lead the word.
+pub fn report_read(run: PointerExecuted, frame: &mut [u32], out: &mut [u64]) -> u32
+    requires { ⌜ (length (now frame) ≡ 6) × (length (now out) ≡ 1) ⌝ }
+    ensures { λ r. ⌜ ReportsExecuted (run .executed) (now (frame .entry)) r (now (frame .exit)) × (now (out .exit) ≡ readValue (run .executed .status) (run .«bytes_read») (now (out .entry))) ⌝ }
+{
+    let executed = run.executed;
+    let status = executed.status;
+    match status {
+        ExecutionStatus::Running => {
+            out[0] = frames::wide(run.bytes_read);
+            report(executed, frame)
+        }
+        ExecutionStatus::SuspendedOnHook(_) => report(executed, frame),
+        ExecutionStatus::Refused(_) => report(executed, frame),
+        ExecutionStatus::Panicked => report(executed, frame),
     }
 }

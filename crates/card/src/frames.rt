@@ -14,6 +14,7 @@ use state::Area;
 use state::Frame;
 use word::Word;
 use write_back::Executed;
+use write_back::PointerExecuted;
 
 // The registers of an instruction: its operand, the value that a store writes, and its two results. A load's first result is the word.
 const OPERAND: u32 = 1;
@@ -75,20 +76,28 @@ fn left(right: bool, touch: u64, e: Executed, gas: u64, bound: u64) -> Touched {
     }
 }
 
-// The word that a pointer showed at an offset, which its load left in a register.
+// The word that a pointer showed at an offset, which its load left in a register, and how many bytes lead it.
 fn seen(
     right: bool,
     registers: &[u64; registers::LENGTH],
     offset: u32,
     expected: Word,
-    e: Executed,
+    expected_bytes: u64,
+    e: PointerExecuted,
 ) -> bool {
-    let status = e.status;
+    let executed = e.executed;
+    let status = executed.status;
     let ended = number(status);
     let came = registers::value(registers, FIRST, false);
     let ran = report::same(right, b"refusal of the pointer", 0, ended as u64);
-    report::same_word(
+    let counted = report::same(
         ran,
+        b"bytes of the pointer",
+        expected_bytes,
+        e.bytes_read as u64,
+    );
+    report::same_word(
+        counted,
         b"word of the pointer at ",
         offset as u64,
         expected,
@@ -172,6 +181,7 @@ pub fn show(
     words: &[u64; WORDS],
     pointer: FatPointer,
     expected: Word,
+    expected_bytes: u64,
 ) -> bool {
     let offset = pointer.offset;
     let mut registers = [0u64; registers::LENGTH];
@@ -183,5 +193,5 @@ pub fn show(
     );
     let places = registers::load_places(OPERAND, FIRST, SECOND, true);
     let e = instructions::load_pointer(bytes, keys, order, words, &mut registers, frame(), places);
-    seen(right, &registers, offset, expected, e)
+    seen(right, &registers, offset, expected, expected_bytes, e)
 }

@@ -116,8 +116,8 @@ fn shown(
 ) -> bool {
     let whole = samples::counting();
     let end = samples::last_byte();
-    let right = frames::show(right, bytes, keys, order, words, pointer(225), whole);
-    let right = frames::show(right, bytes, keys, order, words, pointer(256), end);
+    let right = frames::show(right, bytes, keys, order, words, pointer(225), whole, 32);
+    let right = frames::show(right, bytes, keys, order, words, pointer(256), end, 1);
     calls::read(right, bytes, keys, order, words, HEAP, 800, samples::zero())
 }
 

@@ -27,11 +27,12 @@ use Rattle.view.specs.Steps.{run, padded, wordWritten}
 use Rattle.view.specs.Checks.{Check, wordWriteChecks}
 use Rattle.view.specs.Does.{Shows}
 use Rattle.registers.specs.Registers.{Operand}
-use Rattle.view.specs.Instructions.{Hook, InstructionResult, running, onHook, heapOf, staticOf, frameAlone, panic, incremented, hooked, staticChecks, staticLoaded, staticStored, readFrom, readCount, pointed}
+use Rattle.view.specs.Instructions.{Hook, InstructionResult, running, onHook, heapOf, staticOf, frameAlone, panic, incremented, hooked, pointerChecks, staticChecks, staticLoaded, staticStored, readFrom, readCount, pointed}
 use Rattle.view.specs.Calls.{Call, Value, WriteWord, nothing, CallDoes, outcomeOf, answerOf, firstRefusal}
 use Rattle.write_steps.proofs.Searched.{number-refused, number-done}
-use Rattle.execution.specs.Executions.{stopOf, resultOf, statusOutcome, executionOutcome, Ends, LoadStep, StoreStep, PointerStep, StaticLoadStep, StaticStoreStep, carried, unpaid, staticStep, loadOutcome, Loads, storeOutcome, Stores}
+use Rattle.execution.specs.Executions.{stopOf, resultOf, statusOutcome, executionOutcome, bytesRead, Ends, LoadStep, StoreStep, PointerStep, StaticLoadStep, StaticStoreStep, carried, unpaid, staticStep, loadOutcome, Loads, storeOutcome, Stores}
 use Rattle.execution.specs.declared.Execution.{Execution}
+use Rattle.execution.specs.declared.PointerExecution.{PointerExecution}
 use Rattle.execution.specs.declared.ExecutionStatus.{ExecutionStatus}
 use Rattle.execution.specs.declared.ExecutionStatus.the-variants.{Running, SuspendedOnHook, Panicked, Refused}
 use Rattle.execution.proofs.Lists.{by-number, by-none, never-last, never-none, more-number, more-none, fifteen, write-refusals, store-refusals}
@@ -237,35 +238,52 @@ module _ (m : Mem) (f : Frame) (x : Operand) where
   abbrev pointer : FatPointer
   pointer = pointerOf (x .word)
 
-  module _ (r : Execution) where
-    pub untagged-panics : x .tag ≡ false → r .status ≡ Panicked → resultOf r ≡ panic f → PointerStep m f x r
-    untagged-panics t s g b d = panicked-ends b d m f r (panic f) s g (rw t)
+  -- the step's execution without its number
+  abbrev PointerEnds : Execution → Type 0
+  PointerEnds r = (onPanic onDone : InstructionResult → Value)
+      → Ends onPanic onDone m (firstOf (pointerChecks onPanic f x) (done (onDone (pointed (viewOf m) f x)))) (viewOf m) f r m
 
-    module _ (t : x .tag ≡ true) (q : FatPointer) (is : q ≡ pointerOf (x .word)) where
-      pub offset-panics : lastAddress < q .offset → r .status ≡ Panicked → resultOf r ≡ panic f → PointerStep m f x r
-      offset-panics l s g b d =
-          let k : ltb lastAddress (pointer .offset) ≡ true = sym (ap (λ (p : FatPointer). ltb lastAddress (p .offset)) is) ∙ lt-ltb lastAddress (q .offset) l in
-          panicked-ends b d m f r (panic f) s g (rw (t, k))
+  module _ (r : Execution) (u : PointerExecution) (same : u .execution ≡ r) where
+    -- one that read no bytes
+    unread-step : PointerEnds r → u .«bytes_read» ≡ 0 → bytesRead (r .status) pointer ≡ 0 → PointerStep m f x u
+    unread-step e n z = record {
+      ends = λ b d. subst (λ (y : Execution). Ends b d m (firstOf (pointerChecks b f x) (done (d (pointed (viewOf m) f x)))) (viewOf m) f y m) (sym same) (e b d);
+      bytes-read = n ∙ sym z ∙ ap (λ (y : Execution). bytesRead (y .status) pointer) (sym same);
+    }
 
-      module _ (near : q .offset ≤ lastAddress) where
-        near-is : ltb lastAddress (pointer .offset) ≡ false
-        near-is = sym (ap (λ (p : FatPointer). ltb lastAddress (p .offset)) is) ∙ le-ltb lastAddress (q .offset) near
+    module _ (zero-read : u .«bytes_read» ≡ 0) where
+      pub untagged-panics : x .tag ≡ false → r .status ≡ Panicked → resultOf r ≡ panic f → PointerStep m f x u
+      untagged-panics t s g = unread-step (λ b d. panicked-ends b d m f r (panic f) s g (rw t)) zero-read (ap (λ (y : ExecutionStatus). bytesRead y pointer) s)
 
-        pub pointer-refused : 4294967295 < q .start + q .length → r .status ≡ Refused 14 → resultOf r ≡ frameAlone f → PointerStep m f x r
-        pointer-refused l s g b d =
+      module _ (t : x .tag ≡ true) (q : FatPointer) (is : q ≡ pointerOf (x .word)) where
+        pub offset-panics : lastAddress < q .offset → r .status ≡ Panicked → resultOf r ≡ panic f → PointerStep m f x u
+        offset-panics l s g =
+            let k : ltb lastAddress (pointer .offset) ≡ true = sym (ap (λ (p : FatPointer). ltb lastAddress (p .offset)) is) ∙ lt-ltb lastAddress (q .offset) l in
+            unread-step (λ b d. panicked-ends b d m f r (panic f) s g (rw (t, k))) zero-read (ap (λ (y : ExecutionStatus). bytesRead y pointer) s)
+
+        pub pointer-refused : q .offset ≤ lastAddress → 4294967295 < q .start + q .length → r .status ≡ Refused 14 → resultOf r ≡ frameAlone f → PointerStep m f x u
+        pointer-refused near l s g =
+            let h : ltb lastAddress (pointer .offset) ≡ false = sym (ap (λ (p : FatPointer). ltb lastAddress (p .offset)) is) ∙ le-ltb lastAddress (q .offset) near in
             let k : ltb 4294967295 (pointer .start + pointer .length) ≡ true = sym (ap (λ (p : FatPointer). ltb 4294967295 (p .start + p .length)) is) ∙ lt-ltb 4294967295 (q .start + q .length) l in
-            refused-ends b d m f r 14 s g (rw (t, near-is, k))
+            unread-step (λ b d. refused-ends b d m f r 14 s g (rw (t, h, k))) zero-read (ap (λ (y : ExecutionStatus). bytesRead y pointer) s)
 
-        pub pointer-done : q .start + q .length ≤ 4294967295 → (w start n : ℕ) (bs : List ℕ) → start ≡ readFrom q → n ≡ readCount q
-            → bs ≡ padded (run (viewOf m) (q .«memory_page» .0) start n) → w ≡ bigEndian bs
-            → r .status ≡ Running → resultOf r ≡ carried Running w (incremented (x .word)) true f → WellFormed m → PointerStep m f x r
-        pointer-done l w start n bs from count d e s g formed onPanic onDone =
-            let k : ltb 4294967295 (pointer .start + pointer .length) ≡ false = sym (ap (λ (p : FatPointer). ltb 4294967295 (p .start + p .length)) is) ∙ le-ltb 4294967295 (q .start + q .length) l in
-            let b : bs ≡ padded (run (viewOf m) (pointer .«memory_page» .0) (readFrom pointer) (readCount pointer)) =
-            d ∙ ap (λ (y : ℕ). padded (run (viewOf m) (q .«memory_page» .0) y n)) from
-            ∙ ap (λ (y : ℕ). padded (run (viewOf m) (q .«memory_page» .0) (readFrom q) y)) count
-            ∙ ap (λ (p : FatPointer). padded (run (viewOf m) (p .«memory_page» .0) (readFrom p) (readCount p))) is in
-            done-ends onPanic onDone m f r (pointed (viewOf m) f x)
-            (told-running onPanic onDone r (pointed (viewOf m) f x) s (g ∙ carried-is (e ∙ ap bigEndian b)))
-            (rw (t, near-is, k))
-            (shows-itself m formed)
+  module _ (r : Execution) (t : x .tag ≡ true) (q : FatPointer) (is : q ≡ pointerOf (x .word)) (near : q .offset ≤ lastAddress) where
+    -- n bytes are read from `start` on, and k is the number that is told
+    pub pointer-done : q .start + q .length ≤ 4294967295 → (w start n : ℕ) (bs : List ℕ) → start ≡ readFrom q → n ≡ readCount q → {k : ℕ} → k ≡ readCount q
+        → bs ≡ padded (run (viewOf m) (q .«memory_page» .0) start n) → w ≡ bigEndian bs
+        → r .status ≡ Running → resultOf r ≡ carried Running w (incremented (x .word)) true f → WellFormed m → PointerStep m f x (record { execution = r; «bytes_read» = k })
+    pointer-done l w start n bs from count told d e s g formed =
+        let h : ltb lastAddress (pointer .offset) ≡ false = sym (ap (λ (p : FatPointer). ltb lastAddress (p .offset)) is) ∙ le-ltb lastAddress (q .offset) near in
+        let k : ltb 4294967295 (pointer .start + pointer .length) ≡ false = sym (ap (λ (p : FatPointer). ltb 4294967295 (p .start + p .length)) is) ∙ le-ltb 4294967295 (q .start + q .length) l in
+        let b : bs ≡ padded (run (viewOf m) (pointer .«memory_page» .0) (readFrom pointer) (readCount pointer)) =
+        d ∙ ap (λ (y : ℕ). padded (run (viewOf m) (q .«memory_page» .0) y n)) from
+        ∙ ap (λ (y : ℕ). padded (run (viewOf m) (q .«memory_page» .0) (readFrom q) y)) count
+        ∙ ap (λ (p : FatPointer). padded (run (viewOf m) (p .«memory_page» .0) (readFrom p) (readCount p))) is in
+        record {
+          ends = λ onPanic onDone.
+              done-ends onPanic onDone m f r (pointed (viewOf m) f x)
+              (told-running onPanic onDone r (pointed (viewOf m) f x) s (g ∙ carried-is (e ∙ ap bigEndian b)))
+              (rw (t, h, k))
+              (shows-itself m formed);
+          bytes-read = told ∙ ap readCount is ∙ sym (ap (λ (y : ExecutionStatus). bytesRead y pointer) s);
+        }

@@ -8,6 +8,8 @@ use lib.Dec.{ltb}
 use Rattle.outcome.specs.Outcome.{Outcome, refused, panicked, done, firstOf}
 use Rattle.word.specs.Value.{value, wordBytes, lastAddress}
 use Rattle.registers.specs.Registers.{Operand, operandOf}
+use Rattle.fat_pointer.specs.declared.FatPointer.{FatPointer}
+use Rattle.fat_pointer.specs.Pointer.{pointerOf}
 use Rattle.state.specs.declared.Frame.{Frame}
 use Rattle.state.specs.declared.Area.{Area}
 use Rattle.state.specs.declared.FrameStep.{FrameStep}
@@ -17,10 +19,11 @@ use Rattle.view.specs.Steps.{wordWritten}
 use Rattle.view.specs.Checks.{Check, wordWriteChecks}
 use Rattle.view.specs.Does.{Does}
 use Rattle.view.specs.Instructions as view
-use Rattle.view.specs.Instructions.{InstructionResult, Stop, running, onHook, heapOf, staticOf, frameAlone, panic, loadedFrom, hookChecks, storedWith, accessChecks, loaded, storeChecks, stored, pointerChecks, pointed, staticChecks, staticLoaded, staticStoreChecks, staticStored}
+use Rattle.view.specs.Instructions.{InstructionResult, Stop, running, onHook, heapOf, staticOf, frameAlone, panic, loadedFrom, hookChecks, storedWith, accessChecks, loaded, storeChecks, stored, pointerChecks, readCount, pointed, staticChecks, staticLoaded, staticStoreChecks, staticStored}
 use Rattle.view.specs.Calls.{Value}
 use Rattle.execution.specs.declared.Hook.{Hook}
 use Rattle.execution.specs.declared.Execution.{Execution}
+use Rattle.execution.specs.declared.PointerExecution.{PointerExecution}
 use Rattle.execution.specs.declared.ExecutionStatus.{ExecutionStatus}
 use Rattle.execution.specs.declared.ExecutionStatus.the-variants.{Running, SuspendedOnHook, Panicked, Refused}
 
@@ -55,6 +58,13 @@ pub record Ends (onPanic onDone : InstructionResult → Value) (m : Mem) (o : Ou
   -- a refused one gives no word and no operand, and the frame as it was
   pub refusal : (n : ℕ) → executionOutcome onPanic onDone r ≡ refused n → resultOf r ≡ frameAlone f
 
+-- how many bytes a pointer load reads that ended so: a panic or a refusal reads none
+abbrev pub bytesRead : ExecutionStatus → FatPointer → ℕ
+bytesRead Running p = readCount p
+bytesRead (SuspendedOnHook n) p = readCount p
+bytesRead Panicked p = 0
+bytesRead (Refused n) p = 0
+
 -- ---- THE CONTRACTS of the five steps on a well-formed memory m, which answer r: the checks after 16, whatever registers are written
 abbrev pub LoadStep : Mem → Area → Frame → Operand → Execution → Type 0
 LoadStep m area f x r = (onPanic onDone : InstructionResult → Value)
@@ -65,9 +75,11 @@ StoreStep m area f x n h r m' = (onPanic onDone : InstructionResult → Value)
     → Ends onPanic onDone m (firstOf (storeChecks onPanic (settingOf m) (viewOf m) area f (x .word) n h) (done (onDone (stored area f x n h))))
     (wordWritten (layoutOf (m .words)) (heapOf f area) (x .word) (wordBytes n) (viewOf m)) f r m'
 
-abbrev pub PointerStep : Mem → Frame → Operand → Execution → Type 0
-PointerStep m f x r = (onPanic onDone : InstructionResult → Value)
-    → Ends onPanic onDone m (firstOf (pointerChecks onPanic f x) (done (onDone (pointed (viewOf m) f x)))) (viewOf m) f r m
+pub record PointerStep (m : Mem) (f : Frame) (x : Operand) (r : PointerExecution) : Type 0 where
+  pub ends : (onPanic onDone : InstructionResult → Value)
+      → Ends onPanic onDone m (firstOf (pointerChecks onPanic f x) (done (onDone (pointed (viewOf m) f x)))) (viewOf m) f (r .execution) m
+  -- how many bytes lead the word, where the step is carried out
+  pub bytes-read : r .«bytes_read» ≡ bytesRead (r .execution .status) (pointerOf (x .word))
 
 abbrev pub StaticLoadStep : Mem → Frame → Operand → Execution → Type 0
 StaticLoadStep m f x r = (onPanic onDone : InstructionResult → Value)

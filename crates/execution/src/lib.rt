@@ -47,6 +47,12 @@ pub struct Execution {
     pub frame: Frame,
 }
 
+// What the step of a pointer load returns beside it: how many bytes of the pointer's range lead the word. A panic or a refusal has none.
+pub struct PointerExecution {
+    pub execution: Execution,
+    pub bytes_read: u32,
+}
+
 // ---- pages and growth
 
 pub fn page_of(frame: Frame, area: Area) -> PageId
@@ -182,6 +188,16 @@ pub fn panicked(frame: Frame) -> Execution
     alone(ExecutionStatus::Panicked, after)
 }
 
+// A pointer load that panicked or was refused.
+pub fn unread(execution: Execution) -> PointerExecution
+    ensures { λ r. ⌜ (r .execution ≡ execution) × (r .«bytes_read» ≡ 0) ⌝ }
+{
+    PointerExecution {
+        execution: execution,
+        bytes_read: 0,
+    }
+}
+
 // The operand is incremented, and gets this tag.
 pub fn carried_out(
     status: ExecutionStatus,
@@ -281,13 +297,13 @@ pub fn lesser(a: u32, b: u32) -> u32
 }
 
 // How many bytes are read from `first` on: at most 32, and none past `end`.
-pub fn count(first: u32, end: u32) -> usize
+pub fn count(first: u32, end: u32) -> u32
     requires { ⌜ first ≤ end ⌝ }
     ensures { λ r. ⌜ r ≡ min 32 (end - first) ⌝ }
 {
     let left = end - first;
     if left < 32 {
-        return left as usize;
+        return left;
     }
     32
 }

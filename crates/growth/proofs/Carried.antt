@@ -20,7 +20,7 @@ use Rattle.formed.specs.Formed.{wellFormed}
 use Rattle.view.specs.View.{settingOf, viewOf}
 use Rattle.view.specs.Checks.{Check}
 use Rattle.view.specs.Instructions.{Hook, Executed, accessChecks, storeChecks, loaded, stored, placeChecks, loadedInto, storedInto, panickedInto}
-use Rattle.view.specs.Calls.{Value, Load, Store, nothing, executed, number, lengths, bytes, verdict, answerOf}
+use Rattle.view.specs.Calls.{Value, Load, Store, nothing, executed, pointerLoaded, partialWord, number, lengths, bytes, verdict, answerOf}
 use Rattle.plain.proofs.Tests.{Clear, clear}
 use Rattle.growth.specs.Charges.{sameArea}
 
@@ -43,8 +43,10 @@ is-done ((b, done x) ∷ rest) a n e = absurd n
 -- the frame of a value, and of an outcome; f where there is none
 abbrev frameGiven : Frame → Value → Frame
 frameGiven f (executed r) = r .frame
+frameGiven f (pointerLoaded r n) = r .frame
 frameGiven f nothing = f
 frameGiven f (number n) = f
+frameGiven f (partialWord w n) = f
 frameGiven f (lengths heap aux) = f
 frameGiven f (bytes bs) = f
 frameGiven f (verdict b) = f

@@ -8,6 +8,7 @@ ghost use Rattle.execution.specs.Executions.{hookOf, LoadStep, StoreStep, Point
 use execution::Execution;
 use execution::ExecutionStatus;
 use execution::Hook;
+use execution::PointerExecution;
 use page_ids::Address;
 use registers::Operand;
 use state::Area;
@@ -68,28 +69,31 @@ pub fn load_pointer(
     words: &[u64],
     frame: Frame,
     operand: Operand,
-) -> Execution
+) -> PointerExecution
     requires { ⌜ WellFormed (mem (now bytes) (now keys) (now order) (now words)) ⌝ }
     ensures { λ r. ⌜ PointerStep (mem (now (bytes .entry)) (now (keys .entry)) (now (order .entry)) (now (words .entry))) frame (operandOf operand) r ⌝ }
 {
     if !operand.tagged {
-        return execution::panicked(frame);
+        return execution::unread(execution::panicked(frame));
     }
     let pointer = fat_pointer::from_u256(operand.word);
     if pointer.offset > word::LAST_ADDRESS {
-        return execution::panicked(frame);
+        return execution::unread(execution::panicked(frame));
     }
     if pointer.length > 4294967295 - pointer.start {
-        return execution::refused(14, frame);
+        return execution::unread(execution::refused(14, frame));
     }
     let end = pointer.start + pointer.length;
     let first = pointer.start + execution::lesser(pointer.offset, pointer.length);
     let n = execution::count(first, end);
     let page = pointer.memory_page;
     let start = Address(first);
-    let read = read_steps::read_padded(bytes, keys, order, words, page, start, n);
+    let read = read_steps::read_padded(bytes, keys, order, words, page, start, n as usize);
     let word = word::from_big_endian(read);
-    execution::carried_out(ExecutionStatus::Running, word, operand, true, frame)
+    PointerExecution {
+        execution: execution::carried_out(ExecutionStatus::Running, word, operand, true, frame),
+        bytes_read: n,
+    }
 }
 
 pub fn load_static(

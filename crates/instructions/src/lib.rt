@@ -4,13 +4,14 @@ ghost use Rattle.registers.specs.Registers.{registersFrom};
 ghost use Rattle.store.specs.Mem.{mem};
 ghost use Rattle.view.specs.Calls.{Call};
 ghost use Rattle.execution.specs.Executions.{hookOf};
-ghost use Rattle.write_back.specs.Runs.{Runs};
+ghost use Rattle.write_back.specs.Runs.{Runs, PointerRuns};
 use execution::Hook;
 use registers::LoadPlaces;
 use registers::StorePlaces;
 use state::Area;
 use state::Frame;
 use write_back::Executed;
+use write_back::PointerExecuted;
 
 pub mod on_formed;
 
@@ -74,11 +75,11 @@ pub fn load_pointer(
     registers: &mut [u64; registers::LENGTH],
     frame: Frame,
     places: LoadPlaces,
-) -> Executed
-    ensures { λ r. ⌜ Runs (mem (now (bytes .entry)) (now (keys .entry)) (now (order .entry)) (now (words .entry))) (Call.LoadPointer frame (registersFrom (now (registers .entry))) places) frame (now (registers .entry)) r (mem (now (bytes .entry)) (now (keys .entry)) (now (order .entry)) (now (words .entry))) (now (registers .exit)) ⌝ }
+) -> PointerExecuted
+    ensures { λ r. ⌜ PointerRuns (mem (now (bytes .entry)) (now (keys .entry)) (now (order .entry)) (now (words .entry))) (Call.LoadPointer frame (registersFrom (now (registers .entry))) places) frame (now (registers .entry)) r (mem (now (bytes .entry)) (now (keys .entry)) (now (order .entry)) (now (words .entry))) (now (registers .exit)) ⌝ }
 {
     if !formed::well_formed(bytes, keys, order, words) {
-        return write_back::refused(3, frame);
+        return write_back::pointer_refused(3, frame);
     }
     on_formed::load_pointer(bytes, keys, order, words, registers, frame, places)
 }

@@ -7,13 +7,14 @@ ghost use Rattle.store.specs.Mem.{mem};
 ghost use Rattle.formed.specs.WellFormed.{WellFormed};
 ghost use Rattle.view.specs.Calls.{Call};
 ghost use Rattle.execution.specs.Executions.{hookOf};
-ghost use Rattle.write_back.specs.Runs.{Runs};
+ghost use Rattle.write_back.specs.Runs.{Runs, PointerRuns};
 use execution::Hook;
 use registers::LoadPlaces;
 use registers::StorePlaces;
 use state::Area;
 use state::Frame;
 use write_back::Executed;
+use write_back::PointerExecuted;
 
 pub fn load(
     bytes: &[u8],
@@ -74,18 +75,21 @@ pub fn load_pointer(
     registers: &mut [u64],
     frame: Frame,
     places: LoadPlaces,
-) -> Executed
+) -> PointerExecuted
     requires { ⌜ WellFormed (mem (now bytes) (now keys) (now order) (now words)) ⌝ }
     requires { ⌜ length (now registers) ≡ 65 ⌝ }
-    ensures { λ r. ⌜ Runs (mem (now (bytes .entry)) (now (keys .entry)) (now (order .entry)) (now (words .entry))) (Call.LoadPointer frame (registersFrom (now (registers .entry))) places) frame (now (registers .entry)) r (mem (now (bytes .entry)) (now (keys .entry)) (now (order .entry)) (now (words .entry))) (now (registers .exit)) ⌝ }
+    ensures { λ r. ⌜ PointerRuns (mem (now (bytes .entry)) (now (keys .entry)) (now (order .entry)) (now (words .entry))) (Call.LoadPointer frame (registersFrom (now (registers .entry))) places) frame (now (registers .entry)) r (mem (now (bytes .entry)) (now (keys .entry)) (now (order .entry)) (now (words .entry))) (now (registers .exit)) ⌝ }
 {
     if !registers::takes_pointer(places) {
-        return write_back::refused(16, frame);
+        return write_back::pointer_refused(16, frame);
     }
     let source = places.source;
     let operand = registers::source(registers, source);
     let run = instruction_steps::load_pointer(bytes, keys, order, words, frame, operand);
-    write_back::loaded(registers, places, run)
+    PointerExecuted {
+        executed: write_back::loaded(registers, places, run.execution),
+        bytes_read: run.bytes_read,
+    }
 }
 
 pub fn load_static(

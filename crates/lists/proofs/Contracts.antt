@@ -44,7 +44,7 @@ public-does (did-rollback w) = by-call _ (λ s d e. never (cc)) (λ _. w .ensure
 public-does (did-delete-history w) = by-call _ (λ s d e. never (cc)) (λ _. w .ensures)
 public-does (did-load w) = by-call _ (λ s d e. never (cc)) (λ _. w .ensures .does)
 public-does (did-store w) = by-call _ (λ s d e. never (cc)) (λ _. w .ensures .does)
-public-does (did-load-pointer w) = by-call _ (λ s d e. never (cc)) (λ _. w .ensures .does)
+public-does (did-load-pointer w) = by-call _ (λ s d e. never (cc)) (λ _. w .ensures .runs .does)
 public-does (did-load-static w) = by-call _ (λ s d e. never (cc)) (λ _. w .ensures .does)
 public-does (did-store-static w) = by-call _ (λ s d e. never (cc)) (λ _. w .ensures .does)
 

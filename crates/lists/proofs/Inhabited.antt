@@ -24,10 +24,11 @@ use Rattle.view.specs.Steps.{run, padded, touchedCount, alignedCount}
 use Rattle.view.specs.Checks.{onMemory, rollbackChecks, partialChecks, rangeChecks, lookupChecks, countsRight, lengthsRight, Check, wordWriteChecks, byteWriteChecks, allocateChecks}
 use Rattle.view.specs.Calls.{Call, Value, ReadWord, ReadPartial, ReadRange, ReadByte, DynamicLength, Lookup, LookupCheck, Snapshot, bytes, shown, answerOf, Open, Rollback, DeleteHistory, nothing, CallDoes, OpenDoes, Allocate, WriteWord, WriteBytes, nextOf, firstRefusal}
 use Rattle.reads.specs.declared.WordRead.{WordRead}
+use Rattle.reads.specs.declared.PartialRead.{PartialRead}
 use Rattle.reads.specs.declared.ByteRead.{ByteRead}
 use Rattle.reads.specs.declared.LengthRead.{LengthRead}
 use Rattle.reads.specs.declared.Marks.{Marks}
-use Rattle.reads.specs.Calls.{byteOutcome, lengthOutcome, snapshotOutcome, ReadDoes, RangeDoes}
+use Rattle.reads.specs.Calls.{wordAndCount, partialOutcome, byteOutcome, lengthOutcome, snapshotOutcome, ReadDoes, RangeDoes}
 use Rattle.reads.specs.Calls as reads
 use Rattle.reads.proofs.Calls.{word-call, partial-call, range-call, byte-call, length-call, check-call, marks-call}
 use Rattle.view.specs.Does.{Shows, Does}
@@ -101,6 +102,9 @@ read-does z (done a) l = record { answer = refl; zero = λ e. absurd (true≢fal
 word-does : (o : Outcome ℕ) → Right o → ReadDoes o (answered (refusalNumber o) (value (limbs (valueOf 0 o)))) (value (limbs (valueOf 0 o))) 0
 word-does o r = subst (λ (x : ℕ). ReadDoes o (answered (refusalNumber o) x) x 0) (sym (value-is (valueOf 0 o))) (read-does 0 o r)
 
+part-does : (o : Outcome (ℕ × ℕ)) → Right o → ReadDoes o (answered (refusalNumber o) (value (limbs (valueOf (0, 0) o .0)), valueOf (0, 0) o .1)) (value (limbs (valueOf (0, 0) o .0)), valueOf (0, 0) o .1) (0, 0)
+part-does o r = subst (λ (x : ℕ). ReadDoes o (answered (refusalNumber o) (x, valueOf (0, 0) o .1)) (x, valueOf (0, 0) o .1) (0, 0)) (sym (value-is (valueOf (0, 0) o .0))) (read-does (0, 0) o r)
+
 abbrev answerTo : {A : Type 0} → Outcome A → Answer
 answerTo (refused n) = Refused n
 answerTo (panicked a) = Done
@@ -114,6 +118,9 @@ told-to (done tt) r = refl
 -- ---- the reads
 abbrev word : Outcome ℕ → WordRead
 word o = record { refusal = refusalNumber o; word = record { limbs = limbs (valueOf 0 o) } }
+
+abbrev part : Outcome (ℕ × ℕ) → PartialRead
+part o = record { refusal = refusalNumber o; word = record { limbs = limbs (valueOf (0, 0) o .0) }; «bytes_read» = valueOf (0, 0) o .1 }
 
 abbrev byte : Outcome ℕ → ByteRead
 byte o = record { refusal = refusalNumber o; byte = valueOf 0 o }
@@ -146,23 +153,23 @@ can-read-word p a m =
 
 pub can-read-partial : (p x y : ℕ) → Answers (ReadPartial p x y)
 can-read-partial p x y m =
-    subst (λ (o : Outcome Value). PublicStep m (ReadPartial p x y) o m) (partial-call m p x y (reads.wordOutcome (word out)) (d .answer) .answer)
+    subst (λ (o : Outcome Value). PublicStep m (ReadPartial p x y) o m) (partial-call m p x y (partialOutcome (part out)) (d .answer) .answer)
     (did-read-partial
     (record {
       lifetimes = ([], ([], ([], ([], tt))));
       args = (ref (m .bytes), (ref (m .keys), (ref (m .order), (ref (m .words), (record { 0 = p }, (record { 0 = x }, (record { 0 = y }, tt)))))));
-      result = word out;
+      result = part out;
       last = (tt, (tt, (tt, (tt, (tt, (tt, (tt, tt)))))));
       asked = tt;
       kept = (tt, (tt, (tt, (tt, (tt, (tt, (tt, tt)))))));
       ensures = d;
     }))
   where
-    out : Outcome ℕ
-    out = onMemory m (partialChecks x y) (bigEndian (padded (run (viewOf m) p x (y - x))))
+    out : Outcome (ℕ × ℕ)
+    out = onMemory m (partialChecks x y) (bigEndian (padded (run (viewOf m) p x (y - x))), y - x)
 
-    d : ReadDoes out (reads.wordOutcome (word out)) (value (word out .word .limbs)) 0
-    d = word-does out (right-check m (bigEndian (padded (run (viewOf m) p x (y - x)))) (ltb 32 (y - x)))
+    d : ReadDoes out (partialOutcome (part out)) (wordAndCount (part out)) (0, 0)
+    d = part-does out (right-check m (bigEndian (padded (run (viewOf m) p x (y - x))), y - x) (ltb 32 (y - x)))
 
 -- an output that takes the bytes
 abbrev taken : Outcome (Unit {0}) → List ℕ → List ℕ → List ℕ

@@ -25,9 +25,10 @@ use Rattle.formed.specs.Formed.{wellFormed}
 use Rattle.formed.proofs.Meaning.{well-formed-means}
 use Rattle.view.specs.View.{View, Setting, settingOf, viewOf}
 use Rattle.view.specs.Checks.{Check, wordWriteChecks}
+use Rattle.fat_pointer.specs.Pointer.{pointerOf}
 use Rattle.view.specs.Instructions as view
-use Rattle.view.specs.Instructions.{InstructionResult, Executed, Stop, running, onHook, heapOf, staticOf, panic, hooked, panickedInto, loadedInto, storedInto, placeChecks, accessChecks, loaded, pointerChecks, pointed, staticChecks, staticLoaded, storeChecks, stored, staticStoreChecks, staticStored}
-use Rattle.view.specs.Calls.{Call, Value, Load, Store, LoadPointer, LoadStatic, StoreStatic, executed, outcomeOf, nextOf, answerOf, CallDoes, firstRefusal}
+use Rattle.view.specs.Instructions.{InstructionResult, Executed, Stop, running, onHook, heapOf, staticOf, panic, hooked, panickedInto, loadedInto, storedInto, placeChecks, accessChecks, loaded, pointerChecks, readCount, pointed, staticChecks, staticLoaded, storeChecks, stored, staticStoreChecks, staticStored}
+use Rattle.view.specs.Calls.{Call, Value, Load, Store, LoadPointer, LoadStatic, StoreStatic, executed, pointerLoaded, outcomeOf, nextOf, answerOf, CallDoes, firstRefusal}
 use Rattle.reads.proofs.Calls.{only-reads}
 use Rattle.plain.proofs.Tests.{Clear, clear}
 use Rattle.execution.specs.declared.Hook.{Hook}
@@ -35,7 +36,8 @@ use Rattle.execution.specs.declared.ExecutionStatus.{ExecutionStatus}
 use Rattle.execution.specs.declared.ExecutionStatus.the-variants.{Running, SuspendedOnHook, Panicked, Refused}
 use Rattle.execution.specs.Executions.{hookOf}
 use Rattle.write_back.specs.declared.Executed as code
-use Rattle.write_back.specs.Runs.{endedWith, executedOutcome, Runs}
+use Rattle.write_back.specs.declared.PointerExecuted.{PointerExecuted}
+use Rattle.write_back.specs.Runs.{endedWith, outcomeWith, executedOutcome, pointerOutcome, RunsWith, Runs, PointerRuns}
 use Rattle.write_back.proofs.Laws.{load-parts, pointer-parts, store-parts}
 use Rattle.write_back.proofs.Pieces.{number-few}
 use Rattle.lists.specs.Steps.{PublicStep, did-load, did-store, did-load-pointer, did-load-static, did-store-static}
@@ -77,74 +79,104 @@ module _ {g : Registers} (k : Numbered g) (r : InstructionResult) where
   numbered-store : (p : StorePlaces) → (isRegister (p .dst0) ≡ true) × (isRegister (p .dst1) ≡ true) → Numbered (storedInto g p r .registers)
   numbered-store p d = numbered-set (numbered-by (p .increment) (numbered-set k (p .dst0) (d .0) (r .operand .word) (r .operand .tag)) k) (p .dst1) (d .1) 0 false
 
--- ---- an answer for each outcome that an instruction can have; a panic stops nothing
-data Ran : Outcome Value → Type 0 where
-  is-refused : (n : ℕ) → Ran (refused n)
-  is-panicked : (e : Executed) → running ≡ e .stop → Numbered (e .registers) → Ran (panicked (executed e))
-  is-done : (e : Executed) → Numbered (e .registers) → Ran (done (executed e))
+-- ---- an answer for each outcome that an instruction can have; `value` is the value of one that is carried out, and a panic stops nothing
+data Ran (value : Executed → Value) : Outcome Value → Type 0 where
+  is-refused : (n : ℕ) → Ran value (refused n)
+  is-panicked : (e : Executed) → running ≡ e .stop → Numbered (e .registers) → Ran value (panicked (executed e))
+  is-done : (e : Executed) → Numbered (e .registers) → Ran value (done (value e))
 
-abbrev AllRan : List (Check Value) → Type 0
-AllRan [] = Unit {0}
-AllRan ((b, o) ∷ rest) = Ran o × AllRan rest
+abbrev AllRan : (Executed → Value) → List (Check Value) → Type 0
+AllRan value [] = Unit {0}
+AllRan value ((b, o) ∷ rest) = Ran value o × AllRan value rest
 
-first-ran : (checks : List (Check Value)) → AllRan checks → (o : Outcome Value) → Ran o → Ran (firstOf checks o)
+first-ran : {value : Executed → Value} (checks : List (Check Value)) → AllRan value checks → (o : Outcome Value) → Ran value o → Ran value (firstOf checks o)
 first-ran [] a o r = r
 first-ran ((true, x) ∷ rest) a o r = a .0
 first-ran ((false, x) ∷ rest) a o r = first-ran rest (a .1) o r
 
 -- 3 comes first, and then 16
-answer-ran : (m : Mem) (c : Call) → Ran (outcomeOf (settingOf m) c (viewOf m)) → Ran (answerOf m c)
+answer-ran : {value : Executed → Value} (m : Mem) (c : Call) → Ran value (outcomeOf (settingOf m) c (viewOf m)) → Ran value (answerOf m c)
 answer-ran m c r = first-ran ((not (wellFormed m), refused 3) ∷ []) (is-refused 3, tt) (outcomeOf (settingOf m) c (viewOf m)) r
 
-taken-ran : (takes : Bool) (o : Outcome Value) → (takes ≡ true → Ran o) → Ran (cond (not takes) (refused 16) o)
+taken-ran : {value : Executed → Value} (takes : Bool) (o : Outcome Value) → (takes ≡ true → Ran value o) → Ran value (cond (not takes) (refused 16) o)
 taken-ran true o r = r refl
 taken-ran false o r = is-refused 16
 
-write-ran : (s : Setting) (v : View) (p a : ℕ) (rest : List (Check Value)) → AllRan rest → AllRan (wordWriteChecks s v p a ++ rest)
+write-ran : {value : Executed → Value} (s : Setting) (v : View) (p a : ℕ) (rest : List (Check Value)) → AllRan value rest → AllRan value (wordWriteChecks s v p a ++ rest)
 write-ran s v p a rest r = (is-refused 4, (is-refused 9, (is-refused 10, (is-refused 11, r))))
 
 abbrev statusFor : Stop → ExecutionStatus
 statusFor running = Running
 statusFor (onHook n) = SuspendedOnHook n
 
-told-again : (s : Stop) (f : Frame) (g : Registers) → endedWith (statusFor s) f g ≡ done (executed (record { frame = f; registers = g; stop = s }))
-told-again running f g = refl
-told-again (onHook n) f g = refl
+told-again : (value : Executed → Value) (s : Stop) (f : Frame) (g : Registers) → endedWith value (statusFor s) f g ≡ done (value (record { frame = f; registers = g; stop = s }))
+told-again value running f g = refl
+told-again value (onHook n) f g = refl
 
 not-refused : (s : Stop) (n : ℕ) → statusFor s ≡ Refused n → ⊥
 not-refused running n e = let z : _≡_ {A = ℕ} 0 1 = cc in omega arith
 not-refused (onHook k) n e = let z : _≡_ {A = ℕ} 0 1 = cc in omega arith
 
-module _ (f : Frame) (l : List ℕ) (count : length l ≡ 65) where
-  abbrev execute : {o : Outcome Value} → Ran o → code.Executed
+module _ (f : Frame) (l : List ℕ) (count : length l ≡ 65) {value : Executed → Value} where
+  abbrev execute : {o : Outcome Value} → Ran value o → code.Executed
   execute (is-refused n) = record { status = Refused n; frame = f }
   execute (is-panicked e q k) = record { status = Panicked; frame = e .frame }
   execute (is-done e k) = record { status = statusFor (e .stop); frame = e .frame }
 
   -- the numbers of the registers after it
-  abbrev after : {o : Outcome Value} → Ran o → List ℕ
+  abbrev after : {o : Outcome Value} → Ran value o → List ℕ
   after (is-refused n) = l
   after (is-panicked e q k) = k .numbers
   after (is-done e k) = k .numbers
 
-  after-long : {o : Outcome Value} (r : Ran o) → length (after r) ≡ length l
+  after-long : {o : Outcome Value} (r : Ran value o) → length (after r) ≡ length l
   after-long (is-refused n) = refl
   after-long (is-panicked e q k) = k .count ∙ sym count
   after-long (is-done e k) = k .count ∙ sym count
 
-  told-execute : {o : Outcome Value} (r : Ran o) → executedOutcome (execute r) (after r) ≡ o
+  told-execute : {o : Outcome Value} (r : Ran value o) → outcomeWith value (execute r) (after r) ≡ o
   told-execute (is-refused n) = refl
   told-execute (is-panicked e q k) = λ i. panicked (executed (record { frame = e .frame; registers = k .are i; stop = q i }))
   told-execute (is-done e k) =
-      told-again (e .stop) (e .frame) (registersFrom (k .numbers)) ∙ (λ i. done (executed (record { frame = e .frame; registers = k .are i; stop = e .stop })))
+      told-again value (e .stop) (e .frame) (registersFrom (k .numbers)) ∙ (λ i. done (value (record { frame = e .frame; registers = k .are i; stop = e .stop })))
 
-  alone : {o : Outcome Value} (r : Ran o) (n : ℕ) → execute r .status ≡ Refused n → (execute r .frame ≡ f) × (after r ≡ l)
+  alone : {o : Outcome Value} (r : Ran value o) (n : ℕ) → execute r .status ≡ Refused n → (execute r .frame ≡ f) × (after r ≡ l)
   alone (is-refused k) n e = (refl, refl)
   alone (is-panicked d q k) n e = absurd (let z : _≡_ {A = ℕ} 0 1 = cc in omega arith)
   alone (is-done d k) n e = absurd (not-refused (d .stop) n e)
 
-  runs : (m : Mem) (c : Call) {o : Outcome Value} (r : Ran o) (m' : Mem) → CallDoes m c o m' → Runs m c f l (execute r) m' (after r)
+  runs : (m : Mem) (c : Call) {o : Outcome Value} (r : Ran value o) (m' : Mem) → CallDoes m c o m' → RunsWith value m c f l (execute r) m' (after r)
   runs m c r m' d = record { does = subst (λ (o : Outcome Value). CallDoes m c o m') (sym (told-execute r)) d; refusal = alone r }
+
+-- a pointer load that reads n bytes where it is carried out
+module _ (f : Frame) (l : List ℕ) (count : length l ≡ 65) (n : ℕ) where
+  abbrev bytesOf : {o : Outcome Value} → Ran (λ e. pointerLoaded e n) o → ℕ
+  bytesOf (is-refused k) = 0
+  bytesOf (is-panicked e q k) = 0
+  bytesOf (is-done e k) = n
+
+  abbrev pointerExecute : {o : Outcome Value} → Ran (λ e. pointerLoaded e n) o → PointerExecuted
+  pointerExecute r = record { executed = execute f l count r; «bytes_read» = bytesOf r }
+
+  same-value : {o : Outcome Value} (r : Ran (λ e. pointerLoaded e n) o)
+      → pointerOutcome (pointerExecute r) (after f l count r) ≡ outcomeWith (λ e. pointerLoaded e n) (execute f l count r) (after f l count r)
+  same-value (is-refused k) = refl
+  same-value (is-panicked e q k) = refl
+  same-value (is-done e k) = refl
+
+  told-pointer : {o : Outcome Value} (r : Ran (λ e. pointerLoaded e n) o) → pointerOutcome (pointerExecute r) (after f l count r) ≡ o
+  told-pointer r = same-value r ∙ told-execute f l count r
+
+  none-read : {o : Outcome Value} (r : Ran (λ e. pointerLoaded e n) o) → carriedOut o ≡ false → bytesOf r ≡ 0
+  none-read (is-refused k) e = refl
+  none-read (is-panicked d q k) e = refl
+  none-read (is-done d k) e = absurd (false≢true (sym e))
+
+  pointer-runs : (m : Mem) (c : Call) {o : Outcome Value} (r : Ran (λ e. pointerLoaded e n) o) (m' : Mem) → CallDoes m c o m' → PointerRuns m c f l (pointerExecute r) m' (after f l count r)
+  pointer-runs m c r m' d = record {
+    runs = record { does = subst (λ (o : Outcome Value). CallDoes m c o m') (sym (told-pointer r)) d; refusal = alone f l count r };
+    none = λ e. none-read r (ap carriedOut (sym (told-pointer r)) ∙ e);
+  }
 
 -- ---- loads
 module _ (f : Frame) (k : Registers) (numbered : Numbered k) (p : LoadPlaces) (m : Mem) where
@@ -154,27 +186,27 @@ module _ (f : Frame) (k : Registers) (numbered : Numbered k) (p : LoadPlaces) (m
   abbrev gone : InstructionResult → Value
   gone r = executed (panickedInto k (p .dst1) r)
 
-  panicked-ran : (r : InstructionResult) → running ≡ r .stop → isRegister (p .dst1) ≡ true → Ran (panicked (gone r))
+  panicked-ran : {value : Executed → Value} (r : InstructionResult) → running ≡ r .stop → isRegister (p .dst1) ≡ true → Ran value (panicked (gone r))
   panicked-ran r e d = is-panicked (panickedInto k (p .dst1) r) e (numbered-set numbered (p .dst1) d 0 false)
 
-  done-ran : (r : InstructionResult) → (isRegister (p .dst0) ≡ true) × (isRegister (p .dst1) ≡ true) → Ran (done (executed (loadedInto k p r)))
+  done-ran : {value : Executed → Value} (r : InstructionResult) → (isRegister (p .dst0) ≡ true) × (isRegister (p .dst1) ≡ true) → Ran value (done (value (loadedInto k p r)))
   done-ran r d = is-done (loadedInto k p r) (numbered-load numbered r p d)
 
-  load-ran : (area : Area) → Ran (answerOf m (Load area f k p))
+  load-ran : (area : Area) → Ran executed (answerOf m (Load area f k p))
   load-ran area =
       answer-ran m (Load area f k p)
       (taken-ran (loadTakes p) _ (λ t.
       let d = load-parts p t .1 in
       first-ran (accessChecks gone area f (x .word)) (panicked-ran (panic (frameAccessed f area (x .word) .frame)) refl (d .1), tt) (done (executed (loadedInto k p (loaded (viewOf m) area f x)))) (done-ran (loaded (viewOf m) area f x) d)))
 
-  pointer-ran : Ran (answerOf m (LoadPointer f k p))
+  pointer-ran : Ran (λ e. pointerLoaded e (readCount (pointerOf (x .word)))) (answerOf m (LoadPointer f k p))
   pointer-ran =
       answer-ran m (LoadPointer f k p)
       (taken-ran (pointerTakes p) _ (λ t.
       let d = pointer-parts p t .1 in
-      first-ran (pointerChecks gone f x) (panicked-ran (panic f) refl (d .1), (panicked-ran (panic f) refl (d .1), (is-refused 14, tt))) (done (executed (loadedInto k p (pointed (viewOf m) f x)))) (done-ran (pointed (viewOf m) f x) d)))
+      first-ran (pointerChecks gone f x) (panicked-ran (panic f) refl (d .1), (panicked-ran (panic f) refl (d .1), (is-refused 14, tt))) (done (pointerLoaded (loadedInto k p (pointed (viewOf m) f x)) (readCount (pointerOf (x .word))))) (done-ran (pointed (viewOf m) f x) d)))
 
-  static-ran : Ran (answerOf m (LoadStatic f k p))
+  static-ran : Ran executed (answerOf m (LoadStatic f k p))
   static-ran =
       answer-ran m (LoadStatic f k p)
       (taken-ran (loadTakes p) _ (λ t.
@@ -206,16 +238,17 @@ module _ (f : Frame) (l : List ℕ) (count : length l ≡ 65) (p : LoadPlaces) (
   pointer-step : PublicStep m (LoadPointer f g p) (answerOf m (LoadPointer f g p)) m
   pointer-step =
       let ran = pointer-ran f g own p m in
-      subst (λ (o : Outcome Value). PublicStep m (LoadPointer f g p) o m) (told-execute f l count ran)
+      let n = readCount (pointerOf (sourceOf g (p .source) .word)) in
+      subst (λ (o : Outcome Value). PublicStep m (LoadPointer f g p) o m) (told-pointer f l count n ran)
       (did-load-pointer
       (record {
         lifetimes = ([], ([], ([], ([], ([], tt)))));
         args = (ref (m .bytes), (ref (m .keys), (ref (m .order), (ref (m .words), (ref l, (f, (p, tt)))))));
-        result = execute f l count ran;
+        result = pointerExecute f l count n ran;
         last = (tt, (tt, (tt, (tt, (after f l count ran, (tt, (tt, tt)))))));
         asked = tt;
         kept = (tt, (tt, (tt, (tt, (tt, (tt, (tt, tt)))))));
-        ensures = runs f l count m (LoadPointer f g p) ran m (only-reads m (LoadPointer f g p) (answerOf m (LoadPointer f g p)) refl refl);
+        ensures = pointer-runs f l count n m (LoadPointer f g p) ran m (only-reads m (LoadPointer f g p) (answerOf m (LoadPointer f g p)) refl refl);
       }))
 
   static-step : PublicStep m (LoadStatic f g p) (answerOf m (LoadStatic f g p)) m
@@ -257,7 +290,7 @@ carried-formed m o e = go (wellFormed m) refl e
     go true q e = (q, e)
     go false q e = absurd (false≢true e)
 
-module _ (m : Mem) (f : Frame) (l : List ℕ) (count : length l ≡ 65) (c : Call) (ran : Ran (answerOf m c))
+module _ (m : Mem) (f : Frame) (l : List ℕ) (count : length l ≡ 65) (c : Call) (ran : Ran executed (answerOf m c))
     (step : (m' : Mem) → Same m m' → Runs m c f l (execute f l count ran) m' (after f l count ran) → PublicStep m c (executedOutcome (execute f l count ran) (after f l count ran)) m')
     (there : wellFormed m ≡ true → carriedOut (outcomeOf (settingOf m) c (viewOf m)) ≡ true → Reached (settingOf m) (nextOf (settingOf m) c (viewOf m))) where
   stores : Goes m c (answerOf m c)
@@ -302,13 +335,13 @@ module _ (f : Frame) (g : Registers) (p : StorePlaces) (kernel : Bool) where
         (k, write-clear (settingOf m) (viewOf m) (staticOf (settingOf m .layout)) (y .word) [] (c .1 .1))
 
   module _ (numbered : Numbered g) (m : Mem) where
-    broken-ran : (r : InstructionResult) → running ≡ r .stop → isRegister (p .dst1) ≡ true → Ran (panicked (broken r))
+    broken-ran : (r : InstructionResult) → running ≡ r .stop → isRegister (p .dst1) ≡ true → Ran executed (panicked (broken r))
     broken-ran r e d = is-panicked (panickedInto g (p .dst1) r) e (numbered-set numbered (p .dst1) d 0 false)
 
-    stored-ran : (r : InstructionResult) → (isRegister (p .dst0) ≡ true) × (isRegister (p .dst1) ≡ true) → Ran (done (executed (storedInto g p r)))
+    stored-ran : (r : InstructionResult) → (isRegister (p .dst0) ≡ true) × (isRegister (p .dst1) ≡ true) → Ran executed (done (executed (storedInto g p r)))
     stored-ran r d = is-done (storedInto g p r) (numbered-store numbered r p d)
 
-    store-ran : (area : Area) (h : view.Hook) → Ran (answerOf m (Store area f g p kernel h))
+    store-ran : (area : Area) (h : view.Hook) → Ran executed (answerOf m (Store area f g p kernel h))
     store-ran area h =
         answer-ran m (Store area f g p kernel h)
         (taken-ran (storeTakes p) _ (λ t.
@@ -317,7 +350,7 @@ module _ (f : Frame) (g : Registers) (p : StorePlaces) (kernel : Bool) where
         (broken-ran (panic (frameAccessed f area (y .word) .frame)) refl (d .1), write-ran (settingOf m) (viewOf m) (heapOf f area) (y .word) ((hooked h (y .word) && ltb 4294967295 n, refused 15) ∷ []) (is-refused 15, tt))
         (done (executed (storedInto g p (stored area f y n h)))) (stored-ran (stored area f y n h) d)))
 
-    static-store-ran : Ran (answerOf m (StoreStatic f g p kernel))
+    static-store-ran : Ran executed (answerOf m (StoreStatic f g p kernel))
     static-store-ran =
         answer-ran m (StoreStatic f g p kernel)
         (taken-ran (storeTakes p) _ (λ t.

@@ -19,6 +19,7 @@ pub mod Frees
 pub mod Comparing
 pub mod Instructions
 pub mod Next
+pub mod Padding
 pub mod Rules
 pub mod Theorem
 pub mod Leaving

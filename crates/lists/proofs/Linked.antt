@@ -38,6 +38,6 @@ linked-does (did-zp-rollback w) = by-call _ (λ s d e. never (cc)) (λ _. w .ens
 linked-does (did-zp-delete-history w) = by-call _ (λ s d e. never (cc)) (λ _. w .ensures)
 linked-does (did-zp-load w l) = by-call _ (λ s d e. never (cc)) (λ _. w .ensures .does l)
 linked-does (did-zp-store w l) = by-call _ (λ s d e. never (cc)) (λ _. w .ensures .0 .does l)
-linked-does (did-zp-load-pointer w l) = by-call _ (λ s d e. never (cc)) (λ _. w .ensures .does l)
+linked-does (did-zp-load-pointer w l) = by-call _ (λ s d e. never (cc)) (λ _. w .ensures .0 .does l)
 linked-does (did-zp-load-static w l) = by-call _ (λ s d e. never (cc)) (λ _. w .ensures .does l)
 linked-does (did-zp-store-static w l) = by-call _ (λ s d e. never (cc)) (λ _. w .ensures .does l)

@@ -5,10 +5,8 @@ use lib.ListN.{length}
 use denote.Ref.{now}
 use Rattle.outcome.specs.Outcome.{Outcome}
 use Rattle.store.specs.Mem.{Mem}
-use Rattle.word.specs.Value.{value}
-use Rattle.view.specs.Calls.{Call, Value, ReadPartial, ReadRange, number}
+use Rattle.view.specs.Calls.{Call, Value, ReadRange}
 use Rattle.reads.proofs.Calls.{only-reads, partial-call}
-use Rattle.owned.proofs.Answers.{valued}
 use Rattle.plain.proofs.Good.{never}
 use Rattle.lists.specs.Went.{lent, rest, exits}
 use Rattle.lists.proofs.Compares.{left-call, right-call, both-call}
@@ -20,7 +18,7 @@ use Rattle.lists.specs.Owned.{OwnedStep, Ready, did-own-open, did-own-re
 pub owned-does : {m m' : Mem} {c : Call} {o : Outcome Value} → OwnedStep m c o m' → Meets m c o m'
 owned-does (did-own-open w) = by-open _ _ (w .ensures)
 owned-does (did-own-read-word w) = by-call _ (λ s d e. never (cc)) (λ _. w .ensures)
-owned-does (did-own-read-partial w) = by-call _ (λ s d e. never (cc)) (λ _. valued number (lent (w .args)) (ReadPartial (rest (w .args) .0) (rest (w .args) .1 .0) (rest (w .args) .1 .1 .0)) (w .result .refusal) (value (w .result .word .limbs)) (partial-call (lent (w .args)) (rest (w .args) .0) (rest (w .args) .1 .0) (rest (w .args) .1 .1 .0) _ (w .ensures .answer)))
+owned-does (did-own-read-partial w) = by-call _ (λ s d e. never (cc)) (λ _. partial-call (lent (w .args)) (rest (w .args) .0) (rest (w .args) .1 .0) (rest (w .args) .1 .1 .0) _ (w .ensures .answer))
 owned-does (did-own-read-range w) = by-call _ (λ s d e. never (cc)) (λ _. only-reads (lent (w .args)) (ReadRange (rest (w .args) .0) (rest (w .args) .1 .0) (rest (w .args) .1 .1 .0) (length (now (rest (w .args) .1 .1 .1 .0)))) _ refl (w .ensures .answer refl))
 owned-does (did-own-read-byte w) = by-call _ (λ s d e. never (cc)) (λ _. w .ensures)
 owned-does (did-own-dynamic-length w) = by-call _ (λ s d e. never (cc)) (λ _. w .ensures)
@@ -41,7 +39,7 @@ owned-does (did-own-rollback w) = by-call _ (λ s d e. never (cc)) (λ _. w .ens
 owned-does (did-own-delete-history w) = by-call _ (λ s d e. never (cc)) (λ _. w .ensures)
 owned-does (did-own-load w) = by-call _ (λ s d e. never (cc)) (λ _. w .ensures .does)
 owned-does (did-own-store w) = by-call _ (λ s d e. never (cc)) (λ _. w .ensures .does)
-owned-does (did-own-load-pointer w) = by-call _ (λ s d e. never (cc)) (λ _. w .ensures .does)
+owned-does (did-own-load-pointer w) = by-call _ (λ s d e. never (cc)) (λ _. w .ensures .runs .does)
 owned-does (did-own-load-static w) = by-call _ (λ s d e. never (cc)) (λ _. w .ensures .does)
 owned-does (did-own-store-static w) = by-call _ (λ s d e. never (cc)) (λ _. w .ensures .does)
 

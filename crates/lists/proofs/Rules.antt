@@ -17,6 +17,7 @@ use Rattle.view.specs.Checks.{undecodable}
 use Rattle.view.proofs.Lookup.{lookup-rule}
 use Rattle.view.proofs.Operands as operands
 use Rattle.lists.specs.Rules.{Rules}
+use Rattle.lists.proofs.Padding.{leads, read-limit}
 
 absent : (m : Mem) → WellFormed m → (p : ℕ) → undecodable (settingOf m) p ≡ true → allocated m p ≡ false
 unfolding undecodable
@@ -34,6 +35,8 @@ rules = record {
   lookup = lookup-rule;
   no-wrap = state-laws.no-wrap;
   no-carry = operands.no-carry;
+  read-limit = read-limit;
+  padding = leads;
   calls-are-steps = λ {n} {ps} {r} {P} {Q} {Γ} {ar} {u} c asked. record {
     went = record {
       lifetimes = c .lifetimes;

@@ -11,12 +11,12 @@ use Rattle.outcome.specs.Outcome.{Outcome, done, answered}
 use Rattle.word.specs.Value.{limbsValue}
 use Rattle.page_ids.specs.Decode.{layoutFrom}
 use Rattle.store.specs.Mem.{Mem}
-use Rattle.view.specs.Calls.{Call, Value, Open, Allocate, WriteWord, WriteBytes, ReadWord, ReadPartial, ReadRange, ReadByte, DynamicLength, Lookup, LookupCheck, Free, Window, Truncate, CompareLeft, CompareRight, CompareBoth, Snapshot, Rollback, DeleteHistory, nothing, bytes, Load, Store, LoadPointer, LoadStatic, StoreStatic}
+use Rattle.view.specs.Calls.{Call, Value, Open, Allocate, WriteWord, WriteBytes, ReadWord, ReadPartial, ReadRange, ReadByte, DynamicLength, Lookup, LookupCheck, Free, Window, Truncate, CompareLeft, CompareRight, CompareBoth, Snapshot, Rollback, DeleteHistory, nothing, executed, bytes, Load, Store, LoadPointer, LoadStatic, StoreStatic}
 use Rattle.opening.specs.Opening.{settingFrom}
-use Rattle.abi.specs.Interface.{wordIn, numberIn, marksIn, verdictIn}
+use Rattle.abi.specs.Interface.{wordIn, partialIn, numberIn, marksIn, verdictIn}
 use Rattle.frames.specs.Frames.{areaOf, frameFrom}
 use Rattle.registers.specs.Registers.{registersFrom, loadPlacesFrom, storePlacesFrom}
-use Rattle.abi.specs.Executing.{fit, hookFrom, outcomeFrom}
+use Rattle.abi.specs.Executing.{fit, hookFrom, outcomeFrom, pointerValue}
 use Rattle.zincpapaya.proofs.memory.zp_open.Kinds as zp-open-kinds
 use Rattle.zincpapaya.proofs.memory.zp_open.Reads as zp-open-reads
 use Rattle.zincpapaya.proofs.memory.zp_read_u256.Kinds as zp-read-u256-kinds
@@ -88,11 +88,11 @@ pub data LinkedStep : Mem → Call → Outcome Value → Mem → Type 0 where
       (lent (exits w))
   did-zp-read-partial :
       (w : Went zp-read-u256-partially-kinds.ps zp-read-u256-partially-kinds.r zp-read-u256-partially-reads.Asked zp-read-u256-partially-reads.Learnt) →
-      length (now (rest (w .args) .1 .1 .1 .0)) ≡ 4 →
+      length (now (rest (w .args) .1 .1 .1 .0)) ≡ 5 →
       LinkedStep
       (lent (w .args))
       (ReadPartial (rest (w .args) .0) (rest (w .args) .1 .0) (rest (w .args) .1 .1 .0))
-      (answered (w .result) (wordIn (now (rest (exits w) .1 .1 .1 .0))))
+      (answered (w .result) (partialIn (now (rest (exits w) .1 .1 .1 .0))))
       (lent (exits w))
   did-zp-read-range :
       (w : Went zp-read-range-big-endian-kinds.ps zp-read-range-big-endian-kinds.r zp-read-range-big-endian-reads.Asked zp-read-range-big-endian-reads.Learnt) →
@@ -238,24 +238,24 @@ pub data LinkedStep : Mem → Call → Outcome Value → Mem → Type 0 where
       LinkedStep
       (lent (w .args))
       (Load (areaOf (rest (w .args) .1 .1 .0)) (frameFrom (now (rest (w .args) .0))) (registersFrom (now (rest (w .args) .1 .0))) (loadPlacesFrom (rest (w .args) .1 .1 .1 .0) (rest (w .args) .1 .1 .1 .1 .0) (rest (w .args) .1 .1 .1 .1 .1 .0) (rest (w .args) .1 .1 .1 .1 .1 .1 .0)))
-      (outcomeFrom (w .result) 0 (now (rest (exits w) .0)) (now (rest (exits w) .1 .0)))
+      (outcomeFrom executed (w .result) 0 (now (rest (exits w) .0)) (now (rest (exits w) .1 .0)))
       (lent (exits w))
-  -- and the output of a store has one number
+  -- and the output of a store, or of a pointer load, has one number
   did-zp-store :
       (w : Went zp-store-kinds.ps zp-store-kinds.r zp-store-reads.Asked zp-store-reads.Learnt) →
       (fit (now (rest (w .args) .0)) (now (rest (w .args) .1 .0)) 65 && eqb (length (now (rest (w .args) .1 .1 .1 .1 .1 .1 .1 .1 .1 .1 .1 .0))) 1) ≡ true →
       LinkedStep
       (lent (w .args))
       (Store (areaOf (rest (w .args) .1 .1 .0)) (frameFrom (now (rest (w .args) .0))) (registersFrom (now (rest (w .args) .1 .0))) (storePlacesFrom (rest (w .args) .1 .1 .1 .0) (rest (w .args) .1 .1 .1 .1 .0) (rest (w .args) .1 .1 .1 .1 .1 .0) (rest (w .args) .1 .1 .1 .1 .1 .1 .0) (rest (w .args) .1 .1 .1 .1 .1 .1 .1 .0)) (rest (w .args) .1 .1 .1 .1 .1 .1 .1 .1 .0) (hookFrom (rest (w .args) .1 .1 .1 .1 .1 .1 .1 .1 .1 .0) (rest (w .args) .1 .1 .1 .1 .1 .1 .1 .1 .1 .1 .0)))
-      (outcomeFrom (w .result) (getD (now (rest (exits w) .1 .1 .1 .1 .1 .1 .1 .1 .1 .1 .1 .0)) 0 0) (now (rest (exits w) .0)) (now (rest (exits w) .1 .0)))
+      (outcomeFrom executed (w .result) (getD (now (rest (exits w) .1 .1 .1 .1 .1 .1 .1 .1 .1 .1 .1 .0)) 0 0) (now (rest (exits w) .0)) (now (rest (exits w) .1 .0)))
       (lent (exits w))
   did-zp-load-pointer :
       (w : Went zp-load-pointer-kinds.ps zp-load-pointer-kinds.r zp-load-pointer-reads.Asked zp-load-pointer-reads.Learnt) →
-      fit (now (rest (w .args) .0)) (now (rest (w .args) .1 .0)) 65 ≡ true →
+      (fit (now (rest (w .args) .0)) (now (rest (w .args) .1 .0)) 65 && eqb (length (now (rest (w .args) .1 .1 .1 .1 .1 .1 .0))) 1) ≡ true →
       LinkedStep
       (lent (w .args))
       (LoadPointer (frameFrom (now (rest (w .args) .0))) (registersFrom (now (rest (w .args) .1 .0))) (loadPlacesFrom (rest (w .args) .1 .1 .0) (rest (w .args) .1 .1 .1 .0) (rest (w .args) .1 .1 .1 .1 .0) (rest (w .args) .1 .1 .1 .1 .1 .0)))
-      (outcomeFrom (w .result) 0 (now (rest (exits w) .0)) (now (rest (exits w) .1 .0)))
+      (outcomeFrom (pointerValue (now (rest (exits w) .1 .1 .1 .1 .1 .1 .0))) (w .result) 0 (now (rest (exits w) .0)) (now (rest (exits w) .1 .0)))
       (lent (exits w))
   did-zp-load-static :
       (w : Went zp-load-static-kinds.ps zp-load-static-kinds.r zp-load-static-reads.Asked zp-load-static-reads.Learnt) →
@@ -263,7 +263,7 @@ pub data LinkedStep : Mem → Call → Outcome Value → Mem → Type 0 where
       LinkedStep
       (lent (w .args))
       (LoadStatic (frameFrom (now (rest (w .args) .0))) (registersFrom (now (rest (w .args) .1 .0))) (loadPlacesFrom (rest (w .args) .1 .1 .0) (rest (w .args) .1 .1 .1 .0) (rest (w .args) .1 .1 .1 .1 .0) (rest (w .args) .1 .1 .1 .1 .1 .0)))
-      (outcomeFrom (w .result) 0 (now (rest (exits w) .0)) (now (rest (exits w) .1 .0)))
+      (outcomeFrom executed (w .result) 0 (now (rest (exits w) .0)) (now (rest (exits w) .1 .0)))
       (lent (exits w))
   did-zp-store-static :
       (w : Went zp-store-static-kinds.ps zp-store-static-kinds.r zp-store-static-reads.Asked zp-store-static-reads.Learnt) →
@@ -271,5 +271,5 @@ pub data LinkedStep : Mem → Call → Outcome Value → Mem → Type 0 where
       LinkedStep
       (lent (w .args))
       (StoreStatic (frameFrom (now (rest (w .args) .0))) (registersFrom (now (rest (w .args) .1 .0))) (storePlacesFrom (rest (w .args) .1 .1 .0) (rest (w .args) .1 .1 .1 .0) (rest (w .args) .1 .1 .1 .1 .0) (rest (w .args) .1 .1 .1 .1 .1 .0) (rest (w .args) .1 .1 .1 .1 .1 .1 .0)) (rest (w .args) .1 .1 .1 .1 .1 .1 .1 .0))
-      (outcomeFrom (w .result) 0 (now (rest (exits w) .0)) (now (rest (exits w) .1 .0)))
+      (outcomeFrom executed (w .result) 0 (now (rest (exits w) .0)) (now (rest (exits w) .1 .0)))
       (lent (exits w))

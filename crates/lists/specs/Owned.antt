@@ -6,7 +6,7 @@ use lib.ListN.{length}
 use borrow.Fn.Kinds.{Dens}
 use contract.Lifetimes.{Lfts}
 use denote.Ref.{now}
-use Rattle.outcome.specs.Outcome.{Outcome, done, answered}
+use Rattle.outcome.specs.Outcome.{Outcome, done, answered, mapped}
 use Rattle.word.specs.Value.{value, limbsValue}
 use Rattle.store.specs.Mem.{Mem}
 use Rattle.formed.specs.WellFormed.{WellFormed}
@@ -14,10 +14,11 @@ use Rattle.view.specs.Calls.{Call, Value, Open, Allocate, WriteWord, WriteBytes
 use Rattle.page_ids.specs.Decode.{layoutFrom}
 use Rattle.opening.specs.Opening.{settingFrom}
 use Rattle.registers.specs.Registers.{registersFrom, loadPlacesFrom, storePlacesFrom}
-use Rattle.write_back.specs.Runs.{executedOutcome}
+use Rattle.reads.specs.Calls.{partialOutcome, partialValue}
+use Rattle.write_back.specs.Runs.{executedOutcome, pointerOutcome}
 use Rattle.frames.specs.Frames.{areaOf}
 use Rattle.abi.specs.Executing.{hookFrom}
-use Rattle.owned.specs.Answers.{comparedOutcome, frameOf, executedOf}
+use Rattle.owned.specs.Answers.{comparedOutcome, frameOf, executedOf, pointerExecutedOf}
 use Rattle.lists.specs.Linked.{copiedPart}
 use Rattle.owned.proofs.memory.own_open.Kinds as own-open-kinds
 use Rattle.owned.proofs.memory.own_open.Reads as own-open-reads
@@ -88,7 +89,7 @@ pub data OwnedStep : Mem → Call → Outcome Value → Mem → Type 0 where
       OwnedStep
       (lent (w .args))
       (ReadPartial (rest (w .args) .0) (rest (w .args) .1 .0) (rest (w .args) .1 .1 .0))
-      (answered (w .result .refusal) (number (value (w .result .word .limbs))))
+      (mapped partialValue (partialOutcome (w .result)))
       (lent (exits w))
   did-own-read-range :
       (w : Went own-read-range-big-endian-kinds.ps own-read-range-big-endian-kinds.r own-read-range-big-endian-reads.Asked own-read-range-big-endian-reads.Learnt) →
@@ -240,7 +241,7 @@ pub data OwnedStep : Mem → Call → Outcome Value → Mem → Type 0 where
       OwnedStep
       (lent (w .args))
       (LoadPointer (frameOf (rest (w .args) .1 .0) (rest (w .args) .1 .1 .0) (rest (w .args) .1 .1 .1 .0) (rest (w .args) .1 .1 .1 .1 .0) (rest (w .args) .1 .1 .1 .1 .1 .0) (rest (w .args) .1 .1 .1 .1 .1 .1 .0)) (registersFrom (now (rest (w .args) .0))) (loadPlacesFrom (rest (w .args) .1 .1 .1 .1 .1 .1 .1 .0) (rest (w .args) .1 .1 .1 .1 .1 .1 .1 .1 .0) (rest (w .args) .1 .1 .1 .1 .1 .1 .1 .1 .1 .0) (rest (w .args) .1 .1 .1 .1 .1 .1 .1 .1 .1 .1 .0)))
-      (executedOutcome (executedOf (w .result)) (now (rest (exits w) .0)))
+      (pointerOutcome (pointerExecutedOf (w .result)) (now (rest (exits w) .0)))
       (lent (exits w))
   did-own-load-static :
       (w : Went own-load-static-kinds.ps own-load-static-kinds.r own-load-static-reads.Asked own-load-static-reads.Learnt) →

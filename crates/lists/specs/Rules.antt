@@ -3,25 +3,28 @@
 use mathlib.Core.Path.{_≡_}
 use mathlib.Core.Bool.{true, false}
 use mathlib.Core.Logic.{_⊎_}
-use mathlib.Core.List.{List}
-use Prim.Native.Nat.{ℕ, _+_, _%_, _^_, _≤_, _<_}
+use mathlib.Core.List.{List, _++_}
+use Prim.Native.Nat.{ℕ, _+_, _-_, _%_, _^_, _≤_, _<_}
+use lib.ListN.{replicate}
 use borrow.Fn.Kind.{PK, RK}
 use borrow.Fn.Kinds.{In, Out}
 use borrow.Fn.Args.{ArgsT, argsV}
 use borrow.Table.Row.{Cx}
 use borrow.Table.Typed.{Mo}
 use borrow.Author.Called.{Called}
-use Rattle.word.specs.Value.{lastAddress}
+use Rattle.word.specs.Value.{lastAddress, bigEndian, wordBytes}
+use Rattle.fat_pointer.specs.declared.FatPointer.{FatPointer}
 use Rattle.state.specs.Access.{newBound}
 use Rattle.store.specs.Mem.{Mem}
 use Rattle.formed.specs.Buffers.{bytesFor, keysFor, orderFor, wordsFor}
 use Rattle.formed.specs.Parts.{allocated, byteAt}
 use Rattle.formed.specs.Formed.{wellFormed}
 use Rattle.formed.specs.WellFormed.{WellFormed}
-use Rattle.view.specs.View.{settingOf}
+use Rattle.view.specs.View.{View, settingOf}
 use Rattle.view.specs.Checks.{undecodable}
 use Rattle.view.specs.Calls.{LookupRule}
-use Rattle.view.specs.Instructions.{incremented}
+use Rattle.view.specs.Steps.{run, padded}
+use Rattle.view.specs.Instructions.{incremented, readFrom, readCount}
 use Rattle.lists.specs.Went.{WentBy}
 
 pub record Rules : Type 3 where
@@ -42,6 +45,10 @@ pub record Rules : Type 3 where
   pub no-wrap : (x : ℕ) → x ≤ lastAddress → newBound x ≡ x + 32
   -- and the incremented operand is the whole word plus 32; the low 32 bits are the address, a pointer's its offset
   pub no-carry : (x : ℕ) → x < 2 ^ 256 → x % 2 ^ 32 ≤ lastAddress → incremented x ≡ x + 32
+  -- a pointer load reads at most 32 bytes, and none past the pointer's end
+  pub read-limit : (p : FatPointer) → (readCount p ≤ 32) × (readFrom p + readCount p ≤ p .start + p .length)
+  -- where a page's bytes are below 256, as bytes are, up to 32 bytes of a range lead the word that is read, and its other bytes are 0: they are the padding
+  pub padding : (v : View) (p a n : ℕ) → n ≤ 32 → ((i : ℕ) → v .bytes p i < 256) → wordBytes (bigEndian (padded (run v p a n))) ≡ run v p a n ++ replicate (32 - n) 0
   -- each call of the code is a step: a caller that showed what is asked, and has what the logic hands it, has the `Went` of a step
   pub calls-are-steps : {n : ℕ} {ps : List (PK n)} {r : RK n} {P : In n ps} {Q : Out n ps r} {Γ : Cx} {ar : ArgsT ps (Γ .locals)} {u : Mo Γ}
       (c : Called ps r Q Γ ar u) → P (c .lifetimes) (argsV (c .lifetimes) ps (Γ .locals) ar u) → WentBy P c

@@ -9,7 +9,7 @@ use Rattle.store.specs.Mem.{Mem}
 use Rattle.word.specs.Value.{value}
 use Rattle.view.specs.Calls.{Call, Value, Open, Allocate, WriteWord, WriteBytes, ReadWord, ReadPartial, ReadRange, ReadByte, DynamicLength, Lookup, LookupCheck, Free, Window, Truncate, CompareLeft, CompareRight, CompareBoth, Snapshot, Rollback, DeleteHistory, nothing, number, bytes, Load, Store, LoadPointer, LoadStatic, StoreStatic}
 use Rattle.opening.specs.Opening.{settingFrom}
-use Rattle.reads.specs.Calls.{byteOutcome, lengthOutcome, snapshotOutcome, lengthsValue}
+use Rattle.reads.specs.Calls.{partialOutcome, partialValue, byteOutcome, lengthOutcome, snapshotOutcome, lengthsValue}
 use Rattle.reads.specs.Calls as reads
 use Rattle.compare.specs.Verdict as compares
 use Rattle.opening.proofs.open.Kinds as open-kinds
@@ -52,7 +52,7 @@ use Rattle.history.proofs.delete_history.Kinds as delete-kinds
 use Rattle.history.proofs.delete_history.Reads as delete-reads
 use Rattle.registers.specs.Registers.{registersFrom}
 use Rattle.execution.specs.Executions.{hookOf}
-use Rattle.write_back.specs.Runs.{executedOutcome}
+use Rattle.write_back.specs.Runs.{executedOutcome, pointerOutcome}
 use Rattle.instructions.proofs.load.Kinds as load-kinds
 use Rattle.instructions.proofs.load.Reads as load-reads
 use Rattle.instructions.proofs.store.Kinds as store-kinds
@@ -88,7 +88,7 @@ pub data PublicStep : Mem → Call → Outcome Value → Mem → Type 0 where
       PublicStep
       (lent (w .args))
       (ReadPartial (rest (w .args) .0 .0) (rest (w .args) .1 .0 .0) (rest (w .args) .1 .1 .0 .0))
-      (mapped number (reads.wordOutcome (w .result)))
+      (mapped partialValue (partialOutcome (w .result)))
       (lent (exits w))
   -- the value is what the output holds after the call
   did-read-range :
@@ -240,7 +240,7 @@ pub data PublicStep : Mem → Call → Outcome Value → Mem → Type 0 where
       PublicStep
       (lent (w .args))
       (LoadPointer (rest (w .args) .1 .0) (registersFrom (now (rest (w .args) .0))) (rest (w .args) .1 .1 .0))
-      (executedOutcome (w .result) (now (rest (exits w) .0)))
+      (pointerOutcome (w .result) (now (rest (exits w) .0)))
       (lent (exits w))
   did-load-static :
       (w : Went load-static-kinds.ps load-static-kinds.r load-static-reads.Asked load-static-reads.Learnt) →

@@ -8,8 +8,10 @@ use Rattle.view.specs.Calls.{Value, verdict}
 use Rattle.execution.specs.declared.ExecutionStatus.{ExecutionStatus}
 use Rattle.execution.specs.declared.ExecutionStatus.the-variants.{Running, SuspendedOnHook, Panicked, Refused}
 use Rattle.write_back.specs.declared.Executed.{Executed}
+use Rattle.write_back.specs.declared.PointerExecuted.{PointerExecuted}
 use Rattle.owned.specs.declared.memory.Compared.{Compared}
 use Rattle.owned.specs.declared.execute.Ran.{Ran}
+use Rattle.owned.specs.declared.execute.PointerRan.{PointerRan}
 
 -- a comparison
 abbrev pub comparedOutcome : Compared → Outcome Value
@@ -43,3 +45,6 @@ executedOf r = record {
   status = statusFrom (r .kind) (r .number);
   frame = frameOf (r .gas) (r .heap) (r .aux) (r .«heap_bound») (r .«aux_bound») (r .panicked);
 }
+
+abbrev pub pointerExecutedOf : PointerRan → PointerExecuted
+pointerExecutedOf r = record { executed = executedOf (r .ran); «bytes_read» = r .«bytes_read» }

@@ -22,11 +22,11 @@ ghost use Rattle.store.specs.Mem.{mem};
 ghost use Rattle.formed.specs.WellFormed.{WellFormed};
 ghost use Rattle.view.specs.Calls.{Call};
 ghost use Rattle.execution.specs.Executions.{hookOf};
-ghost use Rattle.write_back.specs.Runs.{Runs};
+ghost use Rattle.write_back.specs.Runs.{Runs, PointerRuns};
 ghost use Rattle.state.specs.Access.{boundOf};
 ghost use Rattle.frames.specs.Frames.{areaOf};
 ghost use Rattle.abi.specs.Executing.{hookFrom};
-ghost use Rattle.owned.specs.Answers.{frameOf, withStatus, statusFrom, executedOf};
+ghost use Rattle.owned.specs.Answers.{frameOf, withStatus, statusFrom, executedOf, pointerExecutedOf};
 ghost use Rattle.owned.specs.Known.{paidBelow, LoadKnown, WriteKnown, StoreKnown};
 
 // How an instruction ended: the values of `kind`.
@@ -50,6 +50,13 @@ pub struct Ran {
     pub heap_bound: u32,
     pub aux_bound: u32,
     pub panicked: bool,
+}
+
+// What a pointer load returns: beside that, how many bytes of the pointer's range lead the word. A panic or a refusal has none.
+#[repr(C)]
+pub struct PointerRan {
+    pub ran: Ran,
+    pub bytes_read: u32,
 }
 
 fn frame_of(gas: u32, heap: u32, aux: u32, heap_bound: u32, aux_bound: u32, panicked: bool) -> Frame
@@ -387,13 +394,17 @@ pub extern "C" fn own_load_pointer(
     dst0: u32,
     dst1: u32,
     increment: bool,
-) -> Ran
+) -> PointerRan
     requires { ⌜ WellFormed (mem (now bytes) (now keys) (now order) (now words)) ⌝ }
-    ensures { λ r. ⌜ Runs (mem (now (bytes .entry)) (now (keys .entry)) (now (order .entry)) (now (words .entry))) (Call.LoadPointer (frameOf gas heap aux «heap_bound» «aux_bound» panicked) (registersFrom (now (registers .entry))) (loadPlacesFrom source dst0 dst1 increment)) (frameOf gas heap aux «heap_bound» «aux_bound» panicked) (now (registers .entry)) (executedOf r) (mem (now (bytes .entry)) (now (keys .entry)) (now (order .entry)) (now (words .entry))) (now (registers .exit)) ⌝ }
+    ensures { λ r. ⌜ PointerRuns (mem (now (bytes .entry)) (now (keys .entry)) (now (order .entry)) (now (words .entry))) (Call.LoadPointer (frameOf gas heap aux «heap_bound» «aux_bound» panicked) (registersFrom (now (registers .entry))) (loadPlacesFrom source dst0 dst1 increment)) (frameOf gas heap aux «heap_bound» «aux_bound» panicked) (now (registers .entry)) (pointerExecutedOf r) (mem (now (bytes .entry)) (now (keys .entry)) (now (order .entry)) (now (words .entry))) (now (registers .exit)) ⌝ }
 {
     let frame = frame_of(gas, heap, aux, heap_bound, aux_bound, panicked);
     let places = registers::load_places(source, dst0, dst1, increment);
-    report(on_formed::load_pointer(bytes, keys, order, words, registers, frame, places))
+    let run = on_formed::load_pointer(bytes, keys, order, words, registers, frame, places);
+    PointerRan {
+        ran: report(run.executed),
+        bytes_read: run.bytes_read,
+    }
 }
 
 // Reads the word at the operand in the static page.

@@ -5,7 +5,7 @@ use compare::Comparison;
 use page_ids::Address;
 use page_ids::PageId;
 use reads::Marks;
-use reads::WordRead;
+use reads::PartialRead;
 use store::head;
 use word::Word;
 ghost use mathlib.Core.List.{[]};
@@ -22,7 +22,7 @@ ghost use Rattle.formed.specs.WellFormed.{WellFormed};
 ghost use Rattle.view.specs.View.{viewOf};
 ghost use Rattle.view.specs.Steps.{run, padded};
 ghost use Rattle.view.specs.Checks.{onMemory, partialChecks};
-ghost use Rattle.reads.specs.Calls.{wordOutcome, ReadDoes};
+ghost use Rattle.reads.specs.Calls.{wordAndCount, partialOutcome, ReadDoes};
 ghost use Rattle.view.specs.Calls.{Call, Value, nothing, answerOf, comparisonOf, CallDoes, OpenDoes};
 ghost use Rattle.page_ids.specs.Decode.{layoutFrom};
 ghost use Rattle.opening.specs.Opening.{settingFrom};
@@ -124,9 +124,9 @@ pub extern "C" fn own_read_u256_partially(
     page: u32,
     start: u32,
     end: u32,
-) -> WordRead
+) -> PartialRead
     requires { ⌜ WellFormed (mem (now bytes) (now keys) (now order) (now words)) ⌝ }
-    ensures { λ r. let m = mem (now (bytes .entry)) (now (keys .entry)) (now (order .entry)) (now (words .entry)) in ⌜ ReadDoes (onMemory m (partialChecks start end) (bigEndian (padded (run (viewOf m) page start (end - start))))) (wordOutcome r) (value (r .word .limbs)) 0 ⌝ }
+    ensures { λ r. let m = mem (now (bytes .entry)) (now (keys .entry)) (now (order .entry)) (now (words .entry)) in ⌜ ReadDoes (onMemory m (partialChecks start end) (bigEndian (padded (run (viewOf m) page start (end - start))), end - start)) (partialOutcome r) (wordAndCount r) (0, 0) ⌝ }
 {
     reads::on_formed::read_u256_partially(
         bytes,

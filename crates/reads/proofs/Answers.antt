@@ -75,6 +75,10 @@ module _ {A : Type 0} (o t : Outcome A) where
   pub range-done : (a : A) (bs l d : List ℕ) → t ≡ done a → o ≡ done a → d ≡ bs → RangeDoes o t bs l d
   range-done a bs l d e f q = record { answer = e ∙ sym f; kept = λ r. absurd (not-refused a f r); read = λ _. q }
 
+-- the word w and the number k are told
+pub pair-told : {w b k n : ℕ} → w ≡ b → k ≡ n → _≡_ {A = Outcome (ℕ × ℕ)} (done (b, n)) (done (w, k))
+pair-told e q = λ i. done (sym e i, sym q i)
+
 -- a lookup
 pub shown-bad : (v : View) (p k : ℕ) (z : List ℕ) → (eqb (length z) 256 && zeros z) ≡ false → shown v p k z ≡ []
 shown-bad v p k z f = rw f

@@ -15,7 +15,7 @@ use Rattle.view.specs.View.{settingOf, viewOf}
 use Rattle.view.specs.Steps.{run, padded}
 use Rattle.view.specs.Checks.{onMemory, partialChecks, rangeChecks, lookupChecks}
 use Rattle.view.specs.Calls.{Call, Value, ReadWord, ReadPartial, ReadRange, ReadByte, DynamicLength, Lookup, LookupCheck, Snapshot, nothing, number, bytes, shown, outcomeOf, nextOf, answerOf, CallDoes}
-use Rattle.reads.specs.Calls.{lengthsValue, RangeDoes}
+use Rattle.reads.specs.Calls.{partialValue, lengthsValue, RangeDoes}
 
 module _ {A : Type 0} (f : A → Value) (m : Mem) (a : A) where
   valued-plain : mapped f (onMemory m [] a) ≡ firstOf ((not (wellFormed m), refused 3) ∷ []) (done (f a))
@@ -54,10 +54,10 @@ module _ (m : Mem) where
     byte-call a t e = only-reads m (ReadByte p a) (mapped number t) refl (ap (mapped number) e ∙ valued-plain number m (viewOf m .bytes p a))
 
     module _ (x y : ℕ) where
-      pub partial-call : (t : Outcome ℕ) → t ≡ onMemory m (partialChecks x y) (bigEndian (padded (run (viewOf m) p x (y - x)))) → CallDoes m (ReadPartial p x y) (mapped number t) m
+      pub partial-call : (t : Outcome (ℕ × ℕ)) → t ≡ onMemory m (partialChecks x y) (bigEndian (padded (run (viewOf m) p x (y - x))), y - x) → CallDoes m (ReadPartial p x y) (mapped partialValue t) m
       partial-call t e =
-          only-reads m (ReadPartial p x y) (mapped number t) refl
-          (ap (mapped number) e ∙ valued-check number m (bigEndian (padded (run (viewOf m) p x (y - x)))) (ltb 32 (y - x)) 8)
+          only-reads m (ReadPartial p x y) (mapped partialValue t) refl
+          (ap (mapped partialValue) e ∙ valued-check partialValue m (bigEndian (padded (run (viewOf m) p x (y - x))), y - x) (ltb 32 (y - x)) 8)
 
       -- the output d is the value
       pub range-call : (l d : List ℕ) (t : Outcome (Unit {0})) → RangeDoes (onMemory m (rangeChecks x y (length l)) tt) t (run (viewOf m) p x (y - x)) l d

@@ -6,8 +6,9 @@ use mathlib.Core.List.{List}
 use Prim.Native.Nat.{ℕ}
 use Rattle.outcome.specs.Outcome.{Outcome, carriedOut, answered}
 use Rattle.word.specs.Value.{value}
-use Rattle.view.specs.Calls.{Value, lengths}
+use Rattle.view.specs.Calls.{Value, lengths, partialWord}
 use Rattle.reads.specs.declared.WordRead.{WordRead}
+use Rattle.reads.specs.declared.PartialRead.{PartialRead}
 use Rattle.reads.specs.declared.ByteRead.{ByteRead}
 use Rattle.reads.specs.declared.LengthRead.{LengthRead}
 use Rattle.reads.specs.declared.Marks.{Marks}
@@ -16,6 +17,13 @@ use Rattle.reads.specs.declared.Marks.{Marks}
 -- the number of the word
 abbrev pub wordOutcome : WordRead → Outcome ℕ
 wordOutcome r = answered (r .refusal) (value (r .word .limbs))
+
+-- .. and how many bytes of the range lead it
+abbrev pub wordAndCount : PartialRead → ℕ × ℕ
+wordAndCount r = (value (r .word .limbs), r .«bytes_read»)
+
+abbrev pub partialOutcome : PartialRead → Outcome (ℕ × ℕ)
+partialOutcome r = answered (r .refusal) (wordAndCount r)
 
 abbrev pub byteOutcome : ByteRead → Outcome ℕ
 byteOutcome r = answered (r .refusal) (r .byte)
@@ -39,5 +47,8 @@ pub record RangeDoes {A : Type 0} (outcome reported : Outcome A) (bytes o d : Li
   pub read : carriedOut outcome ≡ true → d ≡ bytes
 
 -- the same, among the values of all calls
+abbrev pub partialValue : ℕ × ℕ → Value
+partialValue x = partialWord (x .0) (x .1)
+
 abbrev pub lengthsValue : ℕ × ℕ → Value
 lengthsValue x = lengths (x .0) (x .1)

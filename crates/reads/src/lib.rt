@@ -15,15 +15,22 @@ ghost use Rattle.view.specs.View.{viewOf};
 ghost use Rattle.view.specs.Steps.{run, padded};
 ghost use Rattle.view.specs.Checks.{onMemory, partialChecks, rangeChecks, lookupChecks};
 ghost use Rattle.view.specs.Calls.{shownOf};
-ghost use Rattle.reads.specs.Calls.{wordOutcome, byteOutcome, lengthOutcome, snapshotOutcome, ReadDoes, RangeDoes};
+ghost use Rattle.reads.specs.Calls.{wordOutcome, wordAndCount, partialOutcome, byteOutcome, lengthOutcome, snapshotOutcome, ReadDoes, RangeDoes};
 
 pub mod on_formed;
 
 // A word, or a refusal and the word 0.
-#[repr(C)]
 pub struct WordRead {
     pub refusal: u32,
     pub word: Word,
+}
+
+// A word of the bytes of a range, and how many they are: these lead it, and zeros follow. Or a refusal, the word 0 and no bytes.
+#[repr(C)]
+pub struct PartialRead {
+    pub refusal: u32,
+    pub word: Word,
+    pub bytes_read: u32,
 }
 
 pub struct ByteRead {
@@ -55,6 +62,18 @@ fn no_word(refusal: u32) -> WordRead
     }
 }
 
+// A refused partial read.
+fn no_partial(refusal: u32) -> PartialRead
+    ensures { λ r. ⌜ (partialOutcome r ≡ answered refusal (0, 0)) × (wordAndCount r ≡ (0, 0)) ⌝ }
+{
+    let limbs = [0u64; 4];
+    PartialRead {
+        refusal: refusal,
+        word: Word { limbs: limbs },
+        bytes_read: 0,
+    }
+}
+
 // ---- the calls
 
 pub fn read_u256(
@@ -73,7 +92,8 @@ pub fn read_u256(
     on_formed::read_u256(bytes, keys, order, words, page, address)
 }
 
-// A word of the bytes from `start` to `end`, which lead it; zeros follow. More than 32 bytes are refused with 8; a reversed range has none.
+// A word of the bytes from `start` to `end`, which lead it, and how many they are; zeros follow.
+// Every byte of the range counts, held or not. A reversed range has none, and more than 32 are refused with 8.
 pub fn read_u256_partially(
     bytes: &[u8],
     keys: &[u64],
@@ -82,11 +102,11 @@ pub fn read_u256_partially(
     page: PageId,
     start: Address,
     end: Address,
-) -> WordRead
-    ensures { λ r. let m = mem (now (bytes .entry)) (now (keys .entry)) (now (order .entry)) (now (words .entry)) in ⌜ ReadDoes (onMemory m (partialChecks (start .0) (end .0)) (bigEndian (padded (run (viewOf m) (page .0) (start .0) (end .0 - start .0))))) (wordOutcome r) (value (r .word .limbs)) 0 ⌝ }
+) -> PartialRead
+    ensures { λ r. let m = mem (now (bytes .entry)) (now (keys .entry)) (now (order .entry)) (now (words .entry)) in ⌜ ReadDoes (onMemory m (partialChecks (start .0) (end .0)) (bigEndian (padded (run (viewOf m) (page .0) (start .0) (end .0 - start .0))), end .0 - start .0)) (partialOutcome r) (wordAndCount r) (0, 0) ⌝ }
 {
     if !formed::well_formed(bytes, keys, order, words) {
-        return no_word(3);
+        return no_partial(3);
     }
     on_formed::read_u256_partially(bytes, keys, order, words, page, start, end)
 }

@@ -2,8 +2,9 @@
 use crate::ByteRead;
 use crate::LengthRead;
 use crate::Marks;
+use crate::PartialRead;
 use crate::WordRead;
-use crate::no_word;
+use crate::no_partial;
 use outcome::Answer;
 use page_ids::Address;
 use page_ids::PageId;
@@ -23,7 +24,7 @@ ghost use Rattle.view.specs.View.{viewOf};
 ghost use Rattle.view.specs.Steps.{run, padded};
 ghost use Rattle.view.specs.Checks.{onMemory, partialChecks, rangeChecks, lookupChecks};
 ghost use Rattle.view.specs.Calls.{shownOf};
-ghost use Rattle.reads.specs.Calls.{wordOutcome, byteOutcome, lengthOutcome, snapshotOutcome, ReadDoes, RangeDoes};
+ghost use Rattle.reads.specs.Calls.{wordOutcome, wordAndCount, partialOutcome, byteOutcome, lengthOutcome, snapshotOutcome, ReadDoes, RangeDoes};
 
 // How far `end` lies past `start`: 0 where it does not.
 fn span(start: Address, end: Address) -> u32
@@ -72,18 +73,19 @@ pub fn read_u256_partially(
     page: PageId,
     start: Address,
     end: Address,
-) -> WordRead
+) -> PartialRead
     requires { ⌜ WellFormed (mem (now bytes) (now keys) (now order) (now words)) ⌝ }
-    ensures { λ r. let m = mem (now (bytes .entry)) (now (keys .entry)) (now (order .entry)) (now (words .entry)) in ⌜ ReadDoes (onMemory m (partialChecks (start .0) (end .0)) (bigEndian (padded (run (viewOf m) (page .0) (start .0) (end .0 - start .0))))) (wordOutcome r) (value (r .word .limbs)) 0 ⌝ }
+    ensures { λ r. let m = mem (now (bytes .entry)) (now (keys .entry)) (now (order .entry)) (now (words .entry)) in ⌜ ReadDoes (onMemory m (partialChecks (start .0) (end .0)) (bigEndian (padded (run (viewOf m) (page .0) (start .0) (end .0 - start .0))), end .0 - start .0)) (partialOutcome r) (wordAndCount r) (0, 0) ⌝ }
 {
     let n = span(start, end);
     if n > 32 {
-        return no_word(8);
+        return no_partial(8);
     }
     let read = read_steps::read_padded(bytes, keys, order, words, page, start, n as usize);
-    WordRead {
+    PartialRead {
         refusal: 0,
         word: word::from_big_endian(read),
+        bytes_read: n,
     }
 }
 

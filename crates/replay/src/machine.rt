@@ -141,7 +141,17 @@ fn load(
             places,
         ),
         LOAD_POINTER => {
-            instructions::load_pointer(bytes, keys, order, words, registers, frame, places)
+            let read = instructions::load_pointer(
+                bytes,
+                keys,
+                order,
+                words,
+                registers,
+                frame,
+                places,
+            );
+            // vm2 does not tell how many bytes were read, and so no answer has the number.
+            read.executed
         }
         _ => instructions::load_static(bytes, keys, order, words, registers, frame, places),
     }

@@ -14,6 +14,7 @@ use compare::Comparison;
 use reads::ByteRead;
 use reads::LengthRead;
 use reads::Marks;
+use reads::PartialRead;
 use reads::WordRead;
 
 // The place of a chunk's number: k memory page number.
@@ -29,6 +30,15 @@ fn word_read(r: WordRead) -> Numbers {
         return answers::alone(r.refusal);
     }
     answers::word(r.word)
+}
+
+// Without the number of bytes that lead the word: vm2 does not tell it.
+fn partial_read(r: PartialRead) -> Numbers {
+    let word = r.word;
+    word_read(WordRead {
+        refusal: r.refusal,
+        word: word,
+    })
 }
 
 fn byte_read(r: ByteRead) -> Numbers {
@@ -133,7 +143,7 @@ fn on_memory(bytes: &[u8], keys: &[u64], order: &[u32], words: &[u64], call: Cal
     let address = call.address();
     match letter {
         calls::READ_WORD => word_read(reads::read_u256(bytes, keys, order, words, page, address)),
-        calls::READ_WORD_PARTIALLY => word_read(reads::read_u256_partially(
+        calls::READ_WORD_PARTIALLY => partial_read(reads::read_u256_partially(
             bytes,
             keys,
             order,

@@ -11,7 +11,7 @@ use Rattle.store.specs.Mem.{Mem, mem}
 use Rattle.formed.specs.Buffers.{bytesFor, keysFor, orderFor, wordsFor}
 use Rattle.view.specs.View.{Setting}
 use Rattle.view.specs.Checks.{openingChecks, lengthsRight}
-use Rattle.view.specs.Calls.{Call, WriteWord, ReadWord, Snapshot, Rollback, Value, nothing, number, lengths, bytes, verdict, executed, answerOf, CallDoes, OpenDoes}
+use Rattle.view.specs.Calls.{Call, WriteWord, ReadWord, Snapshot, Rollback, Value, nothing, number, lengths, bytes, verdict, executed, pointerLoaded, partialWord, answerOf, CallDoes, OpenDoes}
 use Rattle.page_ids.specs.Decode.{layoutFrom}
 use Rattle.opening.specs.Opening.{settingFrom}
 use Rattle.trace.specs.Language.{Line, opens, writes, reads, takesSnapshot, rollsBack}
@@ -19,7 +19,7 @@ use Rattle.trace.specs.Language as language
 use Rattle.trace_text.specs.Text.{Reported, unread, done, word, marks, refused}
 use Rattle.trace_calls.specs.declared.Run.{Run}
 
--- the answer that tells an outcome; no call of a trace gives bytes, compares memories or is an instruction
+-- the answer that tells an outcome; no call of a trace gives bytes, compares memories, is a partial read or an instruction
 abbrev pub reported : Outcome Value → Reported
 reported (outcome.refused n) = refused n
 reported (outcome.done nothing) = done
@@ -28,6 +28,8 @@ reported (outcome.done (lengths h a)) = marks h a
 reported (outcome.done (bytes bs)) = unread
 reported (outcome.done (verdict b)) = unread
 reported (outcome.done (executed g)) = unread
+reported (outcome.done (pointerLoaded g k)) = unread
+reported (outcome.done (partialWord n k)) = unread
 reported (outcome.panicked v) = unread
 
 -- ---- one call, on the buffers m of just its memory: it is answered with t, and leaves the buffers m'

@@ -10,6 +10,7 @@ use Rattle.outcome.specs.Outcome.{Outcome, done, carriedOut, firstOf, refusalNu
 use Rattle.word.specs.Value.{bigEndian, wordBytes}
 use Rattle.state.specs.declared.Frame.{Frame}
 use Rattle.state.specs.declared.Area.{Area}
+use Rattle.fat_pointer.specs.Pointer.{pointerOf}
 use Rattle.registers.specs.declared.LoadPlaces.{LoadPlaces}
 use Rattle.registers.specs.declared.StorePlaces.{StorePlaces}
 use Rattle.registers.specs.Registers.{Registers, registerNumber, sourceOf, valueOf, loadTakes, pointerTakes, storeTakes}
@@ -20,7 +21,7 @@ use Rattle.view.specs.View.{View, Setting, settingOf, viewOf}
 use Rattle.view.specs.Steps.{run, padded, wordWritten, bytesWritten, contentsAllocated, freed, windowed, truncated, alike, marks, rolledBack, forgotten, opened}
 use Rattle.view.specs.Does.{Does}
 use Rattle.view.specs.Checks.{Check, ifFormed, onMemory, wordWriteChecks, byteWriteChecks, allocateChecks, partialChecks, rangeChecks, lookupChecks, freeChecks, truncateChecks, compareChecks, rollbackChecks, openingChecks, lengthsRight, bytesLength, keysLength, orderLength, wordsLength}
-use Rattle.view.specs.Instructions.{Hook, Executed, heapOf, staticOf, accessChecks, loaded, storeChecks, stored, pointerChecks, pointed, staticChecks, staticLoaded, staticStoreChecks, staticStored, placeChecks, loadedInto, storedInto, panickedInto}
+use Rattle.view.specs.Instructions.{Hook, Executed, heapOf, staticOf, accessChecks, loaded, storeChecks, stored, pointerChecks, readCount, pointed, staticChecks, staticLoaded, staticStoreChecks, staticStored, placeChecks, loadedInto, storedInto, panickedInto}
 
 pub data Call : Type 0 where
   Open : (setting : Setting) (calldata : List ℕ) → Call
@@ -56,8 +57,13 @@ pub data Call : Type 0 where
 
 pub data Value : Type 0 where
   nothing : Value
+  -- by an instruction, except a pointer load that was carried out
   executed : (result : Executed) → Value
+  -- by such a pointer load, with how many bytes of the pointer's range lead the word
+  pointerLoaded : (result : Executed) (bytesRead : ℕ) → Value
   number : (n : ℕ) → Value
+  -- by a partial read: the word, and how many bytes of the range lead it
+  partialWord : (word bytesRead : ℕ) → Value
   -- of the journals of the bootloader heap and of the bootloader aux heap
   lengths : (heap aux : ℕ) → Value
   bytes : (bs : List ℕ) → Value
@@ -89,7 +95,7 @@ abbrev pub outcomeOf : Setting → Call → View → Outcome Value
 outcomeOf s (Open t calldata) v = firstOf (openingChecks t (sameLengths t s) (length calldata)) (done nothing)
 outcomeOf s (Allocate p bs) v = firstOf (allocateChecks s v p (length bs)) (done nothing)
 outcomeOf s (ReadWord p a) v = done (number (bigEndian (run v p a 32)))
-outcomeOf s (ReadPartial p x y) v = firstOf (partialChecks x y) (done (number (bigEndian (padded (run v p x (y - x))))))
+outcomeOf s (ReadPartial p x y) v = firstOf (partialChecks x y) (done (partialWord (bigEndian (padded (run v p x (y - x)))) (y - x)))
 outcomeOf s (ReadRange p x y n) v = firstOf (rangeChecks x y n) (done (bytes (run v p x (y - x))))
 outcomeOf s (ReadByte p a) v = done (number (v .bytes p a))
 outcomeOf s DynamicLength v = done (number (v .dynamicLength))
@@ -115,7 +121,7 @@ outcomeOf s (Store area f g p kernel h) v =
     firstOf (placeChecks (storeTakes p) ++ storeChecks (λ r. executed (panickedInto g (p .dst1) r)) s v area f (x .word) n h) (done (executed (storedInto g p (stored area f x n h))))
 outcomeOf s (LoadPointer f g p) v =
     let x = sourceOf g (p .source) in
-    firstOf (placeChecks (pointerTakes p) ++ pointerChecks (λ r. executed (panickedInto g (p .dst1) r)) f x) (done (executed (loadedInto g p (pointed v f x))))
+    firstOf (placeChecks (pointerTakes p) ++ pointerChecks (λ r. executed (panickedInto g (p .dst1) r)) f x) (done (pointerLoaded (loadedInto g p (pointed v f x)) (readCount (pointerOf (x .word)))))
 outcomeOf s (LoadStatic f g p) v =
     let x = sourceOf g (p .source) in
     firstOf (placeChecks (loadTakes p) ++ staticChecks (λ r. executed (panickedInto g (p .dst1) r)) f (x .word)) (done (executed (loadedInto g p (staticLoaded s v f x))))

@@ -17,9 +17,9 @@ use Rattle.view.specs.Calls.{Value, executed}
 use Rattle.execution.specs.declared.Execution.{Execution}
 use Rattle.execution.specs.declared.ExecutionStatus.{ExecutionStatus}
 use Rattle.execution.specs.declared.ExecutionStatus.the-variants.{Running, SuspendedOnHook, Panicked, Refused}
-use Rattle.execution.specs.Executions.{stopOf, resultOf, statusOutcome, executionOutcome}
+use Rattle.execution.specs.Executions.{stopOf, resultOf, statusOutcome}
 use Rattle.write_back.specs.declared.Executed as code
-use Rattle.write_back.specs.Runs.{endedWith, executedOutcome, WritesBack}
+use Rattle.write_back.specs.Runs.{endedWith, WritesBack}
 
 -- a register's number is at most 15
 pub number-few : (d : Place) → isRegister d ≡ true → (n : ℕ) → n ≡ registerNumber d → n ≤ 15
@@ -72,15 +72,12 @@ module _ (onPanic onDone : InstructionResult → Registers) (x : Execution) (l :
   abbrev ends : InstructionResult → Executed
   ends g = record { frame = g .frame; registers = onDone g; stop = g .stop }
 
-  abbrev gives : ExecutionStatus → Outcome Value
-  gives s = statusOutcome (λ g. executed (panics g)) (λ g. executed (ends g)) s (record { word = resultOf x .word; operand = resultOf x .operand; frame = x .frame; stop = stopOf s })
-
-  gives-is : gives (x .status) ≡ executionOutcome (λ g. executed (panics g)) (λ g. executed (ends g)) x
-  gives-is = refl
+  abbrev gives : (Executed → Value) → ExecutionStatus → Outcome Value
+  gives v s = statusOutcome (λ g. executed (panics g)) (λ g. v (ends g)) s (record { word = resultOf x .word; operand = resultOf x .operand; frame = x .frame; stop = stopOf s })
 
   pub refused-back : (n : ℕ) → x .status ≡ Refused n → r .status ≡ Refused n → r .frame ≡ x .frame → WritesBack panics ends x l r l
   refused-back n s t f = record {
-    answer = ap (λ (y : ExecutionStatus). endedWith y (r .frame) (registersFrom l)) t ∙ ap gives (sym s);
+    answer = λ v. ap (λ (y : ExecutionStatus). endedWith v y (r .frame) (registersFrom l)) t ∙ ap (gives v) (sym s);
     status = t ∙ sym s;
     frame = f;
     refusal = λ _ _. refl;
@@ -90,10 +87,10 @@ module _ (onPanic onDone : InstructionResult → Registers) (x : Execution) (l :
     pub panicked-back : x .status ≡ Panicked → r .status ≡ Panicked → r .frame ≡ x .frame
         → registersFrom l' ≡ onPanic (record { word = resultOf x .word; operand = resultOf x .operand; frame = x .frame; stop = running }) → WritesBack panics ends x l r l'
     panicked-back s t f e = record {
-      answer =
-          ap (λ (y : ExecutionStatus). endedWith y (r .frame) (registersFrom l')) t
+      answer = λ v.
+          ap (λ (y : ExecutionStatus). endedWith v y (r .frame) (registersFrom l')) t
           ∙ (λ i. panicked (executed (record { frame = f i; registers = e i; stop = running })))
-          ∙ ap gives (sym s);
+          ∙ ap (gives v) (sym s);
       status = t ∙ sym s;
       frame = f;
       refusal = λ n q. absurd (let z : _≡_ {A = ℕ} 0 1 = cc in omega arith);
@@ -102,10 +99,10 @@ module _ (onPanic onDone : InstructionResult → Registers) (x : Execution) (l :
     pub running-back : x .status ≡ Running → r .status ≡ Running → r .frame ≡ x .frame
         → registersFrom l' ≡ onDone (record { word = resultOf x .word; operand = resultOf x .operand; frame = x .frame; stop = running }) → WritesBack panics ends x l r l'
     running-back s t f e = record {
-      answer =
-          ap (λ (y : ExecutionStatus). endedWith y (r .frame) (registersFrom l')) t
-          ∙ (λ i. done (executed (record { frame = f i; registers = e i; stop = running })))
-          ∙ ap gives (sym s);
+      answer = λ v.
+          ap (λ (y : ExecutionStatus). endedWith v y (r .frame) (registersFrom l')) t
+          ∙ (λ i. done (v (record { frame = f i; registers = e i; stop = running })))
+          ∙ ap (gives v) (sym s);
       status = t ∙ sym s;
       frame = f;
       refusal = λ n q. absurd (let z : _≡_ {A = ℕ} 0 1 = cc in omega arith);
@@ -114,10 +111,10 @@ module _ (onPanic onDone : InstructionResult → Registers) (x : Execution) (l :
     pub stopped-back : (k : ℕ) → x .status ≡ SuspendedOnHook k → r .status ≡ SuspendedOnHook k → r .frame ≡ x .frame
         → registersFrom l' ≡ onDone (record { word = resultOf x .word; operand = resultOf x .operand; frame = x .frame; stop = onHook k }) → WritesBack panics ends x l r l'
     stopped-back k s t f e = record {
-      answer =
-          ap (λ (y : ExecutionStatus). endedWith y (r .frame) (registersFrom l')) t
-          ∙ (λ i. done (executed (record { frame = f i; registers = e i; stop = onHook k })))
-          ∙ ap gives (sym s);
+      answer = λ v.
+          ap (λ (y : ExecutionStatus). endedWith v y (r .frame) (registersFrom l')) t
+          ∙ (λ i. done (v (record { frame = f i; registers = e i; stop = onHook k })))
+          ∙ ap (gives v) (sym s);
       status = t ∙ sym s;
       frame = f;
       refusal = λ n q. absurd (let z : _≡_ {A = ℕ} 0 1 = cc in omega arith);

@@ -22,12 +22,27 @@ pub struct Executed {
     pub frame: Frame,
 }
 
+// What a pointer load returns: beside that, how many bytes of the pointer's range lead the word. A panic or a refusal has none.
+pub struct PointerExecuted {
+    pub executed: Executed,
+    pub bytes_read: u32,
+}
+
 pub fn refused(number: u32, frame: Frame) -> Executed
     ensures { λ r. ⌜ (r .status ≡ ExecutionStatus.Refused number) × (r .frame ≡ frame) ⌝ }
 {
     Executed {
         status: ExecutionStatus::Refused(number),
         frame: frame,
+    }
+}
+
+pub fn pointer_refused(number: u32, frame: Frame) -> PointerExecuted
+    ensures { λ r. ⌜ (r .executed .status ≡ ExecutionStatus.Refused number) × ((r .executed .frame ≡ frame) × (r .«bytes_read» ≡ 0)) ⌝ }
+{
+    PointerExecuted {
+        executed: refused(number, frame),
+        bytes_read: 0,
     }
 }
 

@@ -8,7 +8,7 @@ ghost use Rattle.registers.specs.Registers.{registersFrom, loadPlacesFrom, stor
 ghost use Rattle.store.specs.Mem.{mem};
 ghost use Rattle.view.specs.Calls.{Call};
 ghost use Rattle.frames.specs.Frames.{frameFrom, areaOf};
-ghost use Rattle.abi.specs.Executing.{hookFrom, fit, Executes};
+ghost use Rattle.abi.specs.Executing.{hookFrom, fit, Executes, PointerExecutes};
 use abi::executions;
 use abi::status::UNFIT;
 use instructions::on_formed;
@@ -94,7 +94,7 @@ pub extern "C" fn zp_store(
     executions::report_stop(run, frame, out)
 }
 
-// Reads the bytes that a pointer shows from its offset on, at most 32.
+// Reads the bytes that a pointer shows from its offset on, at most 32. `out` has one number: how many bytes of the pointer's range lead the word.
 #[no_mangle]
 pub extern "C" fn zp_load_pointer(
     bytes: &[u8],
@@ -107,10 +107,15 @@ pub extern "C" fn zp_load_pointer(
     dst0: u32,
     dst1: u32,
     increment: bool,
+    out: &mut [u64],
 ) -> u32
-    ensures { λ r. ⌜ Executes (mem (now (bytes .entry)) (now (keys .entry)) (now (order .entry)) (now (words .entry))) (Call.LoadPointer (frameFrom (now (frame .entry))) (registersFrom (now (registers .entry))) (loadPlacesFrom source dst0 dst1 increment)) (now (frame .entry)) (now (registers .entry)) (fit (now (frame .entry)) (now (registers .entry)) 65) r 0 (mem (now (bytes .entry)) (now (keys .entry)) (now (order .entry)) (now (words .entry))) (now (frame .exit)) (now (registers .exit)) ⌝ }
+    ensures { λ r. ⌜ PointerExecutes (mem (now (bytes .entry)) (now (keys .entry)) (now (order .entry)) (now (words .entry))) (Call.LoadPointer (frameFrom (now (frame .entry))) (registersFrom (now (registers .entry))) (loadPlacesFrom source dst0 dst1 increment)) (now (frame .entry)) (now (registers .entry)) (fit (now (frame .entry)) (now (registers .entry)) 65 && eqb (length (now (out .entry))) 1) r (now (out .exit)) (mem (now (bytes .entry)) (now (keys .entry)) (now (order .entry)) (now (words .entry))) (now (frame .exit)) (now (registers .exit)) ⌝ }
+    ensures { λ r. ⌜ ((r ≡ 0 → ⊥) → now (out .exit) ≡ now (out .entry)) ⌝ }
 {
     if !executions::lengths_fit(frame, registers, registers::LENGTH) {
+        return UNFIT;
+    }
+    if out.len() != 1 {
         return UNFIT;
     }
     if !formed::well_formed(bytes, keys, order, words) {
@@ -119,7 +124,7 @@ pub extern "C" fn zp_load_pointer(
     let before = frames::frame_of(frame);
     let places = registers::load_places(source, dst0, dst1, increment);
     let run = on_formed::load_pointer(bytes, keys, order, words, registers, before, places);
-    executions::report(run, frame)
+    executions::report_read(run, frame, out)
 }
 
 // Reads the word at the operand in the static page.

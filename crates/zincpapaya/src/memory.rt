@@ -11,7 +11,7 @@ ghost use Rattle.store.specs.Mem.{mem};
 ghost use Rattle.view.specs.Calls.{Call, Value, nothing, answerOf, comparisonOf, CallDoes, OpenDoes};
 ghost use Rattle.page_ids.specs.Decode.{layoutFrom};
 ghost use Rattle.opening.specs.Opening.{settingFrom};
-ghost use Rattle.abi.specs.Interface.{Gives, wordIn, numberIn, marksIn, verdictIn, chunkAnswer};
+ghost use Rattle.abi.specs.Interface.{Gives, wordIn, partialIn, numberIn, marksIn, verdictIn, chunkAnswer};
 
 const CHUNK_BYTES: usize = 256;
 
@@ -89,7 +89,7 @@ pub extern "C" fn zp_read_u256_partially(
     end: u32,
     out: &mut [u64],
 ) -> u32
-    ensures { λ r. let m = mem (now (bytes .entry)) (now (keys .entry)) (now (order .entry)) (now (words .entry)) in ⌜ Gives 4 (answerOf m (Call.ReadPartial page start end)) wordIn r (now (out .entry)) (now (out .exit)) ⌝ }
+    ensures { λ r. let m = mem (now (bytes .entry)) (now (keys .entry)) (now (order .entry)) (now (words .entry)) in ⌜ Gives 5 (answerOf m (Call.ReadPartial page start end)) partialIn r (now (out .entry)) (now (out .exit)) ⌝ }
 {
     let read = reads::read_u256_partially(
         bytes,
@@ -102,7 +102,7 @@ pub extern "C" fn zp_read_u256_partially(
     );
     let refusal = read.refusal;
     let word = read.word;
-    answers::give_word(out, refusal, word)
+    answers::give_partial(out, refusal, word, read.bytes_read)
 }
 
 // An output of any other length than the range has is refused with 8, and none is unfit.

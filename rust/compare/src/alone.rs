@@ -9,7 +9,7 @@ use crate::{
     both::{on_both, Both},
     list::Mismatch,
     model::{self, Model},
-    ours::{self, Reply, UNWRITTEN},
+    ours::{self, Given, Reply, UNWRITTEN},
     rng::Rng,
     rules::{self, Ending},
 };
@@ -52,14 +52,14 @@ pub fn outputs_of_wrong_lengths(
 pub fn not_run(both: &Both, model: &Model, call: &Call) -> Result<Option<&'static str>, Mismatch> {
     match *call {
         Call::Chunk { .. } => {
-            let due = Reply::Answer(Answer::Bytes(vec![0; 256]));
+            let due = Reply::Answer(Answer::Bytes(vec![0; 256]).into());
             expect("a chunk past the last", due, answer_on_copy(both, call).1)?;
             Ok(Some("chunks past the last"))
         }
         Call::Decode { page } => {
             let given = answer_on_copy(both, call).1;
             let due = Answer::Decoded(model::place(&model.layout, page));
-            expect("a decode of a far page", Reply::Answer(due), given)?;
+            expect("a decode of a far page", Reply::Answer(due.into()), given)?;
             Ok(Some("far pages decoded"))
         }
         Call::Deallocate { .. } => {
@@ -162,7 +162,9 @@ fn aux_hook(both: &Both, call: &Call, frame: &Frame) -> Result<(), Mismatch> {
         }
     }
     let (copy, mut given) = answer_on_copy(both, call);
-    if let Reply::Answer(Answer::Ran(left, _) | Answer::EraPanic(left)) = &mut given {
+    if let Reply::Answer(Given { answer: Answer::Ran(left, _) | Answer::EraPanic(left), .. }) =
+        &mut given
+    {
         left.frame = exchanged(&left.frame);
     }
     let (other, due) = answer_on_copy(both, &twin);
@@ -197,7 +199,7 @@ fn erased_value(
     let (copy, given) = answer_on_copy(both, call);
     let (other, mut due) = answer_on_copy(both, &twin.on(frame));
     if let (
-        Reply::Answer(Answer::Ran(left, _) | Answer::EraPanic(left)),
+        Reply::Answer(Given { answer: Answer::Ran(left, _) | Answer::EraPanic(left), .. }),
         Call::Instruction { instruction, .. },
     ) = (&mut due, call)
     {

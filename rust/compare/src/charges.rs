@@ -172,7 +172,7 @@ impl Sides {
     ) -> Result<Option<Run>, Mismatch> {
         let vm2 = self.vm2.answered(step, theirs);
         let library = match ours {
-            Reply::Answer(ours) => self.library.answered(step, ours),
+            Reply::Answer(ours) => self.library.answered(step, &ours.answer),
             Reply::Refused(_) | Reply::Wrong(_) => Ok(None),
         };
         let what = match (vm2, library) {
@@ -316,10 +316,11 @@ mod tests {
         let panic = RustPanic { message: String::new(), file: String::new(), refusal: Some(4) };
         let refused = sides.answered(&between, &Answer::RustPanic(panic), &Reply::Refused(4));
         assert!(refused.is_ok_and(|ended| ended.is_none()));
-        let goes_on = sides.answered(&between, &ran(THIRD), &Reply::Answer(ran(THIRD)));
+        let goes_on = sides.answered(&between, &ran(THIRD), &Reply::Answer(ran(THIRD).into()));
         assert!(goes_on.is_ok_and(|ended| ended.is_none()));
         let panic = Answer::EraPanic(left(THIRD));
-        let ended = sides.answered(&load(THIRD, 0.into()), &panic, &Reply::Answer(panic.clone()));
+        let ended =
+            sides.answered(&load(THIRD, 0.into()), &panic, &Reply::Answer(panic.clone().into()));
         assert_eq!(ended.expect("it adds up").map(|run| run.accesses), Some(2));
         assert!(sides.end().is_none() && sides.library.end().is_none());
     }
@@ -343,8 +344,11 @@ mod tests {
             (wrong, wrong, "growth does not add up on vm2's side: Aux: charges of 33"),
         ] {
             let mut sides = Sides { vm2: begun(), library: begun() };
-            let found =
-                sides.answered(&load(SECOND, 0.into()), &ran(vm2), &Reply::Answer(ran(library)));
+            let found = sides.answered(
+                &load(SECOND, 0.into()),
+                &ran(vm2),
+                &Reply::Answer(ran(library).into()),
+            );
             let found = found.expect_err(due);
             assert!(found.what.starts_with(due), "{found:?}");
             assert_eq!(found.vm2.contains("sum: 33"), vm2 == wrong, "{found:?}");

@@ -3,6 +3,7 @@
 
 mod alone;
 mod both;
+mod bytes_read;
 mod charges;
 mod edges;
 mod framed;
@@ -93,7 +94,8 @@ impl Shard {
             Quotes::new(bank.as_mut(), &mut self.tally, &memories)
                 .edges(&mut Rng::new(self.options.seed, 0))
                 .map_err(|mismatch| after_list(name, &memories, mismatch))?;
-            edge_runs(bank.as_mut(), &mut self.tally, list)?;
+            edge_runs(bank.as_mut(), &mut self.tally, list.clone())?;
+            counted_reads(bank.as_mut(), &mut self.tally, list)?;
             all_outputs(bank.as_mut(), &mut self.tally, name)?;
             for chunks in pool::SIZES.into_iter().chain([pool::LARGEST]) {
                 pool_list(bank.as_mut(), &mut self.tally, name, chunks)?;
@@ -192,6 +194,12 @@ fn compare_list(
 fn edge_runs(bank: &mut dyn Bank, tally: &mut Tally, list: List) -> Result<(), Box<Finding>> {
     let next = edges::steps(edges::runs(&bank.layout()));
     compare_list(bank, tally, list, [Looks::Always; 2], next).map(|_| ())
+}
+
+/// The partial and pointer reads that every comparison makes on each layout, for their numbers of bytes.
+fn counted_reads(bank: &mut dyn Bank, tally: &mut Tally, list: List) -> Result<(), Box<Finding>> {
+    let mut steps = bytes_read::steps(&bank.layout()).into_iter();
+    compare_list(bank, tally, list, [Looks::Always; 2], |_, _| steps.next()).map(|_| ())
 }
 
 /// Every pair of outputs of every instruction, for each way in which it ends.

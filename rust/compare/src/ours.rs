@@ -8,16 +8,31 @@ use oracle::{
 use zincpapaya::{
     aux_heap_page_from_base, base_page_from_heap, code_page_from_base, heap_page_from_base,
     raw::{Instructions, LoadCodes, StoreCodes},
-    Buffers, Capacity, DecodedPage, Error, FatPointer, Frame, Layout, Outcome, PageId, Registers,
-    Snapshot, Word,
+    Buffers, Capacity, DecodedPage, Error, FatPointer, Frame, Layout, Outcome, PageId, PartialWord,
+    PointerOutcome, Registers, Snapshot, Word,
 };
 
 use crate::both::{on_both, same, Both};
 
+/// An answer, and what vm2's does not have.
+#[derive(Debug, PartialEq)]
+pub struct Given {
+    pub answer: Answer,
+    /// How many bytes came from the range, of a partial read and of a pointer load that was carried out.
+    pub bytes_read: Option<u64>,
+}
+
+/// An answer without such a number.
+impl From<Answer> for Given {
+    fn from(answer: Answer) -> Self {
+        Self { answer, bytes_read: None }
+    }
+}
+
 /// What the library answered.
 #[derive(Debug, PartialEq)]
 pub enum Reply {
-    Answer(Answer),
+    Answer(Given),
     /// A refusal, by its number.
     Refused(u8),
     /// Something that no answer of vm2's can be compared with, and that is wrong by itself.
@@ -25,13 +40,21 @@ pub enum Reply {
 }
 
 impl Reply {
-    /// Whether this is vm2's answer.
+    /// Whether this is vm2's answer. The number of bytes is compared elsewhere.
     pub fn agrees_with(&self, theirs: &Answer) -> bool {
         match (theirs, self) {
             (Answer::RustPanic(panic), Self::Refused(number)) => panic.refusal == Some(*number),
             (Answer::RustPanic(_) | Answer::NotRun(_), _) => false,
-            (theirs, Self::Answer(ours)) => theirs == ours,
+            (theirs, Self::Answer(ours)) => *theirs == ours.answer,
             _ => false,
+        }
+    }
+
+    /// How many bytes came from the range, where the library tells it.
+    pub fn bytes_read(&self) -> Option<u64> {
+        match self {
+            Self::Answer(given) => given.bytes_read,
+            Self::Refused(_) | Self::Wrong(_) => None,
         }
     }
 }
@@ -42,7 +65,8 @@ impl From<Error> for Reply {
     }
 }
 
-type Replied = Result<Answer, Reply>;
+type Replied = Result<Given, Reply>;
+type Answered = Result<Answer, Reply>;
 
 pub fn layout(layout: &oracle::Layout) -> Layout {
     Layout {
@@ -63,16 +87,22 @@ fn theirs(word: Word) -> Answer {
 /// with its mark set where `marked` says so.
 pub fn answer(memories: &mut [Both; 2], at: usize, call: &Call, marked: bool) -> Reply {
     let answered = match call {
-        Call::Compare { other } => memories[at].equal(&memories[*other]).map(Answer::Equal),
+        Call::Compare { other } => {
+            memories[at].equal(&memories[*other]).map(|equal| Answer::Equal(equal).into())
+        }
+        Call::ReadU256Partially { page, start, end } => {
+            partial(&mut memories[at], PageId(*page), *start..*end)
+        }
         Call::UseGas { frame, .. }
         | Call::GrowHeap { frame, .. }
         | Call::Instruction { frame, .. } => {
             framed(&mut memories[at], &our_frame(frame, marked), call)
         }
-        _ if call.changes() => change(&mut memories[at], call),
+        _ if call.changes() => change(&mut memories[at], call).map(Given::from),
         _ => {
             let layout = memories[at].owned.layout();
-            read(&mut memories[at], call).or_else(|| apart(&layout, call)).expect("a call")
+            let answered = read(&mut memories[at], call).or_else(|| apart(&layout, call));
+            answered.expect("a call").map(Given::from)
         }
     };
     answered.map_or_else(|refused| refused, Reply::Answer)
@@ -94,14 +124,17 @@ fn range(both: &mut Both, page: PageId, range: Range<u32>) -> Result<Vec<u8>, Re
     Ok(made)
 }
 
-/// Calls that only look at a memory.
-fn read(both: &mut Both, call: &Call) -> Option<Replied> {
+fn partial(both: &mut Both, page: PageId, range: Range<u32>) -> Replied {
+    let read = on_both!(both => read_u256_partially(page, range.clone()))?;
+    let PartialWord { word, bytes_read } = read;
+    Ok(Given { answer: theirs(word), bytes_read: Some(bytes_read as u64) })
+}
+
+/// Calls that only look at a memory, except partial reads.
+fn read(both: &mut Both, call: &Call) -> Option<Answered> {
     Some(match *call {
         Call::ReadU256 { page, address } => {
             on_both!(both => read_u256(PageId(page), address)).map(theirs)
-        }
-        Call::ReadU256Partially { page, start, end } => {
-            on_both!(both => read_u256_partially(PageId(page), start..end)).map(theirs)
         }
         Call::ReadRangeBigEndian { page, start, end } => {
             range(both, PageId(page), start..end).map(Answer::Bytes)
@@ -123,7 +156,7 @@ pub const LAST_CHUNK: u32 = 1 << 24;
 const REACHED: usize = 31;
 
 /// A chunk; of the last one the bytes that vm2 can show, the others being zero.
-fn chunk(both: &mut Both, page: u32, number: u32) -> Replied {
+fn chunk(both: &mut Both, page: u32, number: u32) -> Answered {
     let bytes = on_both!(both => chunk(PageId(page), number))?;
     if number != LAST_CHUNK {
         return Ok(Answer::Bytes(bytes.to_vec()));
@@ -136,7 +169,7 @@ fn chunk(both: &mut Both, page: u32, number: u32) -> Replied {
 }
 
 /// Calls that may change a memory, but for the instructions.
-fn change(both: &mut Both, call: &Call) -> Replied {
+fn change(both: &mut Both, call: &Call) -> Answered {
     match call {
         Call::Open { calldata } => both.reopen(both.owned.layout(), calldata)?,
         Call::AllocateAt { page } => {
@@ -169,7 +202,7 @@ fn change(both: &mut Both, call: &Call) -> Replied {
 }
 
 /// Calls that take no memory.
-fn apart(layout: &Layout, call: &Call) -> Option<Replied> {
+fn apart(layout: &Layout, call: &Call) -> Option<Answered> {
     Some(match *call {
         Call::Decode { page } => {
             let decoded = layout.decode(PageId(page));
@@ -255,11 +288,11 @@ fn framed(both: &mut Both, entered: &Frame, call: &Call) -> Replied {
     let answer = match call {
         Call::UseGas { amount, .. } => {
             let paid = frame.use_gas(*amount);
-            Ok(Answer::Paid(paid, their_frame(&frame)))
+            Ok(Answer::Paid(paid, their_frame(&frame)).into())
         }
         Call::GrowHeap { area, new_bound, .. } => {
             let paid = frame.grow_heap(our_area(*area), *new_bound);
-            Ok(Answer::Paid(paid, their_frame(&frame)))
+            Ok(Answer::Paid(paid, their_frame(&frame)).into())
         }
         Call::Instruction { instruction, .. } => executed(both, &mut frame, instruction),
         _ => unreachable!("this call takes no frame"),
@@ -267,7 +300,7 @@ fn framed(both: &mut Both, entered: &Frame, call: &Call) -> Replied {
     if matches!(answer, Err(Reply::Wrong(_))) {
         return answer;
     }
-    let panicked = matches!(answer, Ok(Answer::EraPanic(_)));
+    let panicked = matches!(answer, Ok(Given { answer: Answer::EraPanic(_), .. }));
     if frame.panicked != (entered.panicked || panicked) {
         return Err(Reply::Wrong(format!("the frame's mark: {answer:?}")));
     }
@@ -287,12 +320,17 @@ fn executed(both: &mut Both, frame: &mut Frame, instruction: &HeapInstruction) -
     }
     let left = Left { frame: their_frame(frame), registers: their_registers(&registers) };
     let left = Box::new(left);
-    Ok(match outcome? {
+    let (outcome, bytes_read) = outcome?;
+    let answer = match outcome {
         Outcome::Running => Answer::Ran(left, None),
         Outcome::SuspendedOnHook(value) => Answer::Ran(left, Some(value)),
         Outcome::Panicked => Answer::EraPanic(left),
-    })
+    };
+    Ok(Given { answer, bytes_read })
 }
+
+/// How an instruction ended, and of a pointer load that was carried out how many bytes came from the range.
+type Ended = (Outcome, Option<u64>);
 
 /// Runs an instruction on both memories. The frames and the registers that it leaves must be the same,
 /// too.
@@ -301,7 +339,7 @@ fn run(
     frame: &mut Frame,
     registers: &mut Registers,
     instruction: &HeapInstruction,
-) -> Result<Outcome, Reply> {
+) -> Result<Ended, Reply> {
     let (mut lent, mut in_lent) = (*frame, *registers);
     let outcome = same(
         put(&mut both.owned, frame, registers, instruction),
@@ -317,20 +355,28 @@ pub fn put(
     frame: &mut Frame,
     registers: &mut Registers,
     instruction: &HeapInstruction,
-) -> Result<Outcome, Error> {
+) -> Result<Ended, Error> {
     let HeapInstruction { increment, kernel, .. } = *instruction;
     let Places { source, value, dst0, dst1 } = instruction.places;
     let load = LoadCodes { source, dst0, dst1, increment };
     let store = StoreCodes { source, value, dst0, dst1, increment };
-    match instruction.op {
+    let outcome = match instruction.op {
         Op::Load(area) => memory.raw_load(frame, registers, our_area(area), load),
         Op::Store { area, hook } => {
             memory.raw_store(frame, registers, our_area(area), store, kernel, hook)
         }
-        Op::LoadPointer => memory.raw_load_pointer(frame, registers, load),
+        Op::LoadPointer => {
+            return memory.raw_load_pointer(frame, registers, load).map(|ended| match ended {
+                PointerOutcome::Running { bytes_read } => {
+                    (Outcome::Running, Some(bytes_read as u64))
+                }
+                PointerOutcome::Panicked => (Outcome::Panicked, None),
+            });
+        }
         Op::LoadStatic => memory.raw_load_static(frame, registers, load),
         Op::StoreStatic => memory.raw_store_static(frame, registers, store, kernel),
-    }
+    };
+    outcome.map(|outcome| (outcome, None))
 }
 
 /// A page of a memory's buffers and the number of a chunk that it holds.

@@ -8,6 +8,7 @@ use zincpapaya::{Capacity, PageId};
 use crate::{
     alone,
     both::{on_both, Both},
+    bytes_read,
     charges::Sides,
     list::{Finding, Handed, List, Mismatch, Step},
     model::{Model, CHUNK},
@@ -17,9 +18,13 @@ use crate::{
     tally::Tally,
 };
 
+/// What answers a call for the library: the library, or in a test something wrong.
+pub type Library = fn(&mut [Both; 2], usize, &Call, bool) -> Reply;
+
 /// Two memories on each side, and what they must hold.
 pub struct Pair<'a> {
     bank: &'a mut dyn Bank,
+    library: Library,
     tally: &'a mut Tally,
     ours: [Both; 2],
     /// The library's memories before the latest call that may change one.
@@ -53,10 +58,22 @@ pub fn run(
     tally: &mut Tally,
     list: List,
     looks: Looks,
+    next: impl FnMut(&[Model; 2], Option<Handed>) -> Option<Step>,
+) -> Result<Vec<Both>, Box<Finding>> {
+    run_by(ours::answer, bank, tally, list, looks, next)
+}
+
+/// The same, where `library` answers for the library.
+pub fn run_by(
+    library: Library,
+    bank: &mut dyn Bank,
+    tally: &mut Tally,
+    list: List,
+    looks: Looks,
     mut next: impl FnMut(&[Model; 2], Option<Handed>) -> Option<Step>,
 ) -> Result<Vec<Both>, Box<Finding>> {
     let mut done = List { steps: Vec::new(), ..list };
-    let mut pair = Pair::start(bank, tally, done.capacities);
+    let mut pair = Pair { library, ..Pair::start(bank, tally, done.capacities) };
     let mut outcome = Ok(());
     while outcome.is_ok() {
         let Some(step) = next(&pair.models, pair.left) else { break };
@@ -101,7 +118,8 @@ impl<'a> Pair<'a> {
         let models = [0, 1].map(|_| Model::new(layout));
         let (before, changed, sides) = (ours.clone(), [true; 2], Sides::default());
         let fills = capacities.map(|capacity| Fill::new(capacity.chunks));
-        Self { bank, tally, ours, before, models, changed, sides, left: None, fills }
+        let library = ours::answer;
+        Self { bank, library, tally, ours, before, models, changed, sides, left: None, fills }
     }
 
     fn step(&mut self, step: &Step, look_before_refusal: bool) -> Result<(), Mismatch> {
@@ -127,6 +145,7 @@ impl<'a> Pair<'a> {
             let (vm2, library) = (show::answer(&theirs), shown(&ours));
             return Err(Mismatch { what: "the answers differ".into(), vm2, library });
         }
+        self.bytes_counted(step, &theirs, &ours)?;
         self.tally.count(call, &theirs);
         if let Call::Instruction { frame, instruction } = call {
             let ending = self.by_the_rules(at, frame, instruction, &theirs)?;
@@ -147,9 +166,27 @@ impl<'a> Pair<'a> {
     /// The library's answer. A panic of its crate, which has none for any answer of the header's, is
     /// wrong by itself.
     fn answer(&mut self, step: &Step) -> Reply {
-        let memories = &mut self.ours;
-        let answered = catch(|| ours::answer(memories, step.memory, &step.call, step.marked));
+        let (memories, library) = (&mut self.ours, self.library);
+        let answered = catch(|| library(memories, step.memory, &step.call, step.marked));
         answered.unwrap_or_else(|panic| Reply::Wrong(panic.message))
+    }
+
+    /// Compares the library's number of bytes from the range with the one that is due.
+    fn bytes_counted(
+        &mut self,
+        step: &Step,
+        theirs: &Answer,
+        ours: &Reply,
+    ) -> Result<(), Mismatch> {
+        let (due, given) = (bytes_read::due(&step.call, theirs), ours.bytes_read());
+        if due != given {
+            let [due, library] = [due, given].map(number_of_bytes);
+            let vm2 = format!("tells none; by the call's arguments {due}");
+            let what = "how many bytes of the word come from the range".into();
+            return Err(Mismatch { what, vm2, library });
+        }
+        self.tally.reads.count(&self.models[step.memory], &step.call, theirs);
+        Ok(())
     }
 
     /// Holds vm2's answer to the rules: how the instruction ended, its frame, and every register with
@@ -302,9 +339,13 @@ impl<'a> Pair<'a> {
     }
 }
 
+fn number_of_bytes(number: Option<u64>) -> String {
+    number.map_or_else(|| "no number".into(), |number| format!("{number} bytes"))
+}
+
 fn shown(reply: &Reply) -> String {
     match reply {
-        Reply::Answer(answer) => show::answer(answer),
+        Reply::Answer(given) => show::answer(&given.answer),
         Reply::Refused(number) => format!("refused {number}"),
         Reply::Wrong(what) => format!("wrong by itself: {what}"),
     }

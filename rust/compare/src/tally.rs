@@ -6,6 +6,7 @@ use lines::spell;
 use oracle::{Answer, Call, HeapInstruction};
 
 use crate::{
+    bytes_read::ReadCounts,
     charges::Run,
     model::LAST_ADDRESS,
     pool,
@@ -30,6 +31,7 @@ pub struct Tally {
     pub quotes: QuoteCounts,
     pub runs: RunCounts,
     pub registers: RegisterCounts,
+    pub reads: ReadCounts,
     /// By the chunks of the memory.
     pub pools: BTreeMap<u32, pool::Counts>,
     /// Looks at all that a memory holds, on both sides.
@@ -238,6 +240,7 @@ impl Tally {
         self.quotes.high += other.quotes.high;
         self.runs.add(&other.runs);
         self.registers.add(&other.registers);
+        self.reads.add(&other.reads);
         for (chunks, counts) in &other.pools {
             self.pools.entry(*chunks).or_default().add(*counts);
         }
@@ -287,7 +290,7 @@ impl fmt::Display for Tally {
             "{all} quotes compared with {loads} loads: {panics} end at a panic, {high} of them at the \
              operand limit"
         )?;
-        write!(out, "{}{}", self.runs, self.registers)?;
+        write!(out, "{}{}{}", self.reads, self.runs, self.registers)?;
         for (chunks, pool::Counts { emptied, refused, taken_again }) in &self.pools {
             writeln!(
                 out,

@@ -1,6 +1,9 @@
 //! That the comparison finds what is wrong: vm2's answers are tampered with on their way, or the
 //! library's quotes are, or one of its two memories, or its pool. And that its lists have runs of several
-//! loads and stores, and every pair of outputs, and empty the pools of memories.
+//! loads and stores, and every pair of outputs, and empty the pools of memories. The child `bytes_read` has what is about the
+//! number of bytes from a range.
+
+mod bytes_read;
 
 use oracle::{
     Answer, Area, Bank, Call, Frame, HeapInstruction, Layout, Left, Op, Operand, Registers,

@@ -8,7 +8,7 @@ use crate::{
     ffi,
     methods::Calls,
     registers::{LoadCodes, StoreCodes},
-    Area, Error, Frame, Outcome, PageId, Registers, Snapshot, Word,
+    Area, Error, Frame, Outcome, PageId, PartialWord, PointerOutcome, Registers, Snapshot, Word,
 };
 
 /// Four buffers with whatever is in them: every call tests them first.
@@ -41,10 +41,11 @@ impl<M: Checked> Calls for M {
         Ok(Word(out))
     }
 
-    fn read_u256_partially(&self, page: PageId, range: Range<u32>) -> Result<Word, Error> {
-        let mut out = [0; 4];
+    fn read_u256_partially(&self, page: PageId, range: Range<u32>) -> Result<PartialWord, Error> {
+        let mut out = [0; 5];
         carried_out(ffi::read_u256_partially(self.shown(), page.0, range, &mut out))?;
-        Ok(Word(out))
+        let [limbs @ .., bytes_read] = out;
+        Ok(PartialWord { word: Word(limbs), bytes_read: bytes_read as usize })
     }
 
     fn read_range_into(
@@ -149,8 +150,12 @@ impl<M: Checked> Calls for M {
         frame: &mut Frame,
         registers: &mut Registers,
         places: LoadCodes,
-    ) -> Result<Outcome, Error> {
-        run(frame, |frame, _| ffi::load_pointer(self.shown(), frame, registers, places))
+    ) -> Result<PointerOutcome, Error> {
+        let mut out = [0];
+        let outcome = run(frame, |frame, _| {
+            ffi::load_pointer(self.shown(), frame, registers, places, &mut out)
+        })?;
+        Ok(PointerOutcome::of(outcome, out[0] as usize))
     }
 
     fn load_static(

@@ -112,7 +112,7 @@ declare! {
     ) -> u32;
     reading fn zp_load_pointer(
         frame: *mut u32, frame_len: usize, registers: *mut u64, registers_len: usize,
-        source: u32, dst0: u32, dst1: u32, increment: bool,
+        source: u32, dst0: u32, dst1: u32, increment: bool, out: *mut u64, out_len: usize,
     ) -> u32;
     reading fn zp_load_static(
         frame: *mut u32, frame_len: usize, registers: *mut u64, registers_len: usize,
@@ -196,7 +196,7 @@ pub(crate) fn read_u256_partially(
     memory: Buffers<'_>,
     page: u32,
     Range { start, end }: Range<u32>,
-    out: &mut [u64; 4],
+    out: &mut [u64; 5],
 ) -> u32 {
     // SAFETY: the memory is only read, and `out` is borrowed by `&mut`.
     unsafe {
@@ -347,12 +347,13 @@ pub(crate) fn load_pointer(
     frame: &mut [u32; 6],
     registers: &mut Registers,
     LoadCodes { source, dst0, dst1, increment }: LoadCodes,
+    out: &mut [u64; 1],
 ) -> u32 {
-    // SAFETY: the memory is only read; `frame` and `registers` are borrowed by `&mut`.
+    // SAFETY: the memory is only read; `frame`, `registers` and `out` are borrowed by `&mut`.
     unsafe {
         lend!(& memory => zp_load_pointer(
             frame.as_mut_ptr(), frame.len(), numbers(registers), Registers::NUMBERS,
-            source, dst0, dst1, increment,
+            source, dst0, dst1, increment, out.as_mut_ptr(), out.len(),
         ))
     }
 }
@@ -467,4 +468,38 @@ pub(crate) fn grow_heap(
 pub(crate) fn quote(list: &[u32], gas: u32, bound: u32, out: &mut [u64; 3]) -> u32 {
     // SAFETY: `list` is only read, and `out` is borrowed by `&mut`.
     unsafe { zp_quote(list.as_ptr(), list.len(), gas, bound, out.as_mut_ptr(), out.len()) }
+}
+
+/// Calls with outputs of any length, for tests alone: in this crate all others are arrays that fit.
+#[cfg(test)]
+pub(crate) mod of_any_length {
+    use super::*;
+
+    pub(crate) fn read_u256_partially(
+        memory: Buffers<'_>,
+        page: u32,
+        Range { start, end }: Range<u32>,
+        out: &mut [u64],
+    ) -> u32 {
+        // SAFETY: the memory is only read, and `out`, of any length, is borrowed by `&mut`.
+        unsafe {
+            lend!(& memory => zp_read_u256_partially(page, start, end, out.as_mut_ptr(), out.len()))
+        }
+    }
+
+    pub(crate) fn load_pointer(
+        memory: Buffers<'_>,
+        frame: &mut [u32; 6],
+        registers: &mut Registers,
+        LoadCodes { source, dst0, dst1, increment }: LoadCodes,
+        out: &mut [u64],
+    ) -> u32 {
+        // SAFETY: the memory is only read; `frame`, `registers` and `out`, of any length, are borrowed by `&mut`.
+        unsafe {
+            lend!(& memory => zp_load_pointer(
+                frame.as_mut_ptr(), frame.len(), numbers(registers), Registers::NUMBERS,
+                source, dst0, dst1, increment, out.as_mut_ptr(), out.len(),
+            ))
+        }
+    }
 }

@@ -61,7 +61,11 @@
 //! The five instructions, such as [`Heaps::load`], work on [`Registers`]: they read their operand from a
 //! register or an immediate and write their results to registers, as vm2's handlers do. [`LoadPlaces`] and
 //! [`StorePlaces`] say which. The host decodes the instruction, pays its fixed cost and keeps the program
-//! counter; where an [`Outcome`] is [`Panicked`](Outcome::Panicked), it runs its panic.
+//! counter; where an [`Outcome`] is [`Panicked`](Outcome::Panicked), or a pointer load's [`PointerOutcome`]
+//! is, it runs its panic.
+//!
+//! A read through a pointer may have fewer than 32 bytes to read; zeros follow them in the word.
+//! [`PointerOutcome`] tells how many bytes are the pointer's, and a [`PartialWord`] how many are its range's.
 //!
 //! # Pages
 //!
@@ -96,7 +100,7 @@ pub use buffers::{Buffers, Capacity, Lengths, Usage};
 pub use error::Error;
 pub use frame::{quote, use_gas, Area, Frame, Quote};
 pub use heaps::{Heaps, Snapshot};
-pub use instructions::{Operand, Outcome};
+pub use instructions::{Operand, Outcome, PointerOutcome};
 pub use lent::Lent;
 pub use pages::{
     aux_heap_page_from_base, base_page_from_heap, code_page_from_base, heap_page_from_base,
@@ -104,4 +108,4 @@ pub use pages::{
 };
 pub use pointer::FatPointer;
 pub use registers::{LoadPlaces, Mode, Registers, Source, StorePlaces};
-pub use word::Word;
+pub use word::{PartialWord, Word};

@@ -4,8 +4,8 @@ use std::ops::Range;
 
 use crate::{
     registers::{LoadCodes, StoreCodes},
-    Area, Error, Frame, Heaps, Lent, LoadPlaces, Mode, Outcome, PageId, Registers, Snapshot,
-    StorePlaces, Word,
+    Area, Error, Frame, Heaps, Lent, LoadPlaces, Mode, Outcome, PageId, PartialWord,
+    PointerOutcome, Registers, Snapshot, StorePlaces, Word,
 };
 
 /// The calls as a memory answers them: one that is owned (`memory/calls.rs`), or one that is tested
@@ -14,7 +14,7 @@ pub(crate) trait Calls {
     fn check(&self) -> Result<(), Error>;
 
     fn read_u256(&self, page: PageId, address: u32) -> Result<Word, Error>;
-    fn read_u256_partially(&self, page: PageId, range: Range<u32>) -> Result<Word, Error>;
+    fn read_u256_partially(&self, page: PageId, range: Range<u32>) -> Result<PartialWord, Error>;
     fn read_range(&self, page: PageId, range: Range<u32>) -> Result<Vec<u8>, Error> {
         let mut output = vec![0; range.len()];
         self.read_range_into(page, range, &mut output)?;
@@ -63,7 +63,7 @@ pub(crate) trait Calls {
         frame: &mut Frame,
         registers: &mut Registers,
         places: LoadCodes,
-    ) -> Result<Outcome, Error>;
+    ) -> Result<PointerOutcome, Error>;
     fn load_static(
         &self,
         frame: &mut Frame,
@@ -91,13 +91,29 @@ macro_rules! methods {
                 self.memory.read_u256(page, address)
             }
 
-            /// The bytes of a range, leading a word; zeros follow. Refused with [`Error::Range`]
-            /// where the range has more than 32 bytes.
+            /// The bytes of a range, leading a word, and how many they are; zeros follow. All bytes of the
+            /// range count, whatever the page holds of them. Refused with [`Error::Range`] where the range
+            /// has more than 32 bytes.
+            ///
+            /// ```
+            /// # use zincpapaya::{Capacity, Error, Heaps, Layout, PageId};
+            /// # fn main() -> Result<(), Error> {
+            /// # let layout = Layout { static_memory: PageId(1), calldata: PageId(4),
+            /// #     bootloader_heap: PageId(5), bootloader_aux: PageId(6), base: 64, stride: 8 };
+            /// # let capacity = Capacity { chunks: 16, pages: 4, journal_words: 8 };
+            /// let heaps = Heaps::open(layout, capacity, &[1, 2])?;
+            /// // The third byte was never written. It is 0, and one of the range.
+            /// let read = heaps.read_u256_partially(layout.calldata, 0..3)?;
+            /// assert_eq!(read.bytes_read, 3);
+            /// assert_eq!(read.word.to_big_endian()[..3], [1, 2, 0]);
+            /// # Ok(())
+            /// # }
+            /// ```
             pub fn read_u256_partially(
                 &self,
                 page: PageId,
                 range: Range<u32>,
-            ) -> Result<Word, Error> {
+            ) -> Result<PartialWord, Error> {
                 self.memory.read_u256_partially(page, range)
             }
 
@@ -369,12 +385,14 @@ macro_rules! methods {
                 self.memory.store(frame, registers, area, places.into(), mode.is_kernel(), hook)
             }
 
-            /// Loads up to 32 bytes through a fat pointer in a register. The instruction panics where the
-            /// register is not tagged. Where it increments, `dst1` is tagged. Refused with [`Error::Operand`]
-            /// where the source is an immediate, and with [`Error::Pointer`].
+            /// Loads up to 32 bytes through a fat pointer in a register, and returns how many they are: these
+            /// lead the word, and zeros follow. All bytes of the pointer's range count, whatever its page holds
+            /// of them. The instruction panics where the register is not tagged, and where the offset is above
+            /// 4,294,967,263. Where it increments, `dst1` is tagged. Refused with [`Error::Operand`] where the
+            /// source is an immediate, and with [`Error::Pointer`].
             ///
             /// ```
-            /// use zincpapaya::{FatPointer, LoadPlaces, Outcome, PageId, Registers, Source, Word};
+            /// use zincpapaya::{FatPointer, LoadPlaces, PageId, PointerOutcome, Registers, Source, Word};
             /// # use zincpapaya::{Capacity, Frame, Heaps, Layout};
             /// # fn main() -> Result<(), zincpapaya::Error> {
             /// # let layout = Layout { static_memory: PageId(1), calldata: PageId(4),
@@ -391,7 +409,7 @@ macro_rules! methods {
             /// let source = Source::Register(1);
             /// let places = LoadPlaces { source, dst0: 2, dst1: 1, increment: true };
             /// let outcome = heaps.load_pointer(&mut frame, &mut registers, places)?;
-            /// assert_eq!(outcome, Outcome::Running);
+            /// assert_eq!(outcome, PointerOutcome::Running { bytes_read: 2 });
             /// let mut bytes = [0; 32];
             /// bytes[..2].copy_from_slice(&[4, 5]); // bytes 13 and 14
             /// assert_eq!(registers.get(2), Word::from_big_endian(&bytes).into());
@@ -404,7 +422,7 @@ macro_rules! methods {
                 frame: &mut Frame,
                 registers: &mut Registers,
                 places: LoadPlaces,
-            ) -> Result<Outcome, Error> {
+            ) -> Result<PointerOutcome, Error> {
                 self.memory.load_pointer(frame, registers, places.into())
             }
 

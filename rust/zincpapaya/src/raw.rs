@@ -24,7 +24,8 @@
 
 pub use crate::registers::{LoadCodes, StoreCodes};
 use crate::{
-    methods::Calls, registers::FIRST_IMMEDIATE, Area, Error, Frame, Heaps, Lent, Outcome, Registers,
+    methods::Calls, registers::FIRST_IMMEDIATE, Area, Error, Frame, Heaps, Lent, Outcome,
+    PointerOutcome, Registers,
 };
 
 /// The first code that is neither a register nor an immediate.
@@ -63,7 +64,7 @@ pub trait Instructions {
         frame: &mut Frame,
         registers: &mut Registers,
         places: LoadCodes,
-    ) -> Result<Outcome, Error>;
+    ) -> Result<PointerOutcome, Error>;
 
     /// [`Heaps::load_static`] with codes.
     fn raw_load_static(
@@ -113,7 +114,7 @@ macro_rules! instructions {
                 frame: &mut Frame,
                 registers: &mut Registers,
                 places: LoadCodes,
-            ) -> Result<Outcome, Error> {
+            ) -> Result<PointerOutcome, Error> {
                 self.memory.load_pointer(frame, registers, places)
             }
 

@@ -1,7 +1,9 @@
 //! What the public interface does not show: outputs, frames and registers of refused calls as the library
 //! leaves them. And memories that are not well formed, edges of openings and quotes, and the registers that
-//! instructions write. The child `pool` has what is about the pool's bits.
+//! instructions write. The child `pool` has what is about the pool's bits, and `bytes_read` what tells how many
+//! bytes of a word come from the range that was read.
 
+mod bytes_read;
 mod pool;
 
 use std::ops::Range;
@@ -14,7 +16,8 @@ use crate::{
     quote,
     registers::{LoadCodes, StoreCodes},
     Area, Buffers, Capacity, Error, FatPointer, Frame, Heaps, Layout, Lengths, Lent, LoadPlaces,
-    Mode, Operand, Outcome, PageId, Quote, Registers, Snapshot, Source, StorePlaces, Word,
+    Mode, Operand, Outcome, PageId, PointerOutcome, Quote, Registers, Snapshot, Source,
+    StorePlaces, Word,
 };
 
 pub(crate) const LAYOUT: Layout = Layout {
@@ -139,7 +142,9 @@ const INSTRUCTIONS: [Call; 5] = [
     },
     |memory| {
         let places = LOAD_POINTER.into();
-        framed(|frame, given| ffi::load_pointer(memory.shown(), frame, given, places))
+        put(|out| {
+            framed(|frame, given| ffi::load_pointer(memory.shown(), frame, given, places, out))
+        })
     },
     |memory| framed(|frame, given| ffi::load_static(memory.shown(), frame, given, LOAD.into())),
     |memory| framed(|frame, given| ffi::store_static(memory, frame, given, STORE.into(), true)),
@@ -310,8 +315,9 @@ fn a_refused_instruction_leaves_frame_registers_and_output() {
     given.set(1, pointer);
     let (before, mut frame, places) = (given, FRAME, LOAD_POINTER.into());
     let mut numbers = frame.numbers();
-    assert_eq!(ffi::load_pointer(heaps.buffers(), &mut numbers, &mut given, places), 14);
-    assert_eq!((numbers, given), (frame.numbers(), before));
+    let status =
+        put(|out| ffi::load_pointer(heaps.buffers(), &mut numbers, &mut given, places, out));
+    assert_eq!((status, numbers, given), (14, frame.numbers(), before));
     let loaded = heaps.load_pointer(&mut frame, &mut given, LOAD_POINTER);
     assert_eq!((loaded, frame, given), (Err(Error::Pointer), FRAME, before));
 
@@ -348,6 +354,7 @@ macro_rules! on_both {
         owned
     }};
 }
+pub(crate) use on_both;
 
 /// The frame and the registers of the worked figures. Register 1 has an address, 2 a value, and 3 a tagged word.
 fn worked() -> (Frame, Registers) {
@@ -455,7 +462,7 @@ fn a_pointer_load_sets_the_tag() {
     let (mut frame, mut given) = worked();
     given.set(1, pointer);
     let loaded = on_both!(heaps, frame, given, load_pointer(LOAD_POINTER));
-    assert_eq!((loaded, frame), (Ok(Outcome::Running), worked().0));
+    assert_eq!((loaded, frame), (Ok(PointerOutcome::Running { bytes_read: 2 }), worked().0));
     assert_eq!(given.get(3), Word([0, 0, 0, 0x0405 << 48]).into());
     assert_eq!(given.get(4), FatPointer { offset: 35, ..pointer }.into());
     assert_eq!(given.pointer_flags(), 0b1_0010);
@@ -490,7 +497,7 @@ fn a_panic_clears_the_second_output_alone() {
     let (mut frame, mut given) = worked();
     let places = LoadPlaces { source: Source::Register(2), ..LOAD };
     let loaded = on_both!(heaps, frame, given, load_pointer(places));
-    assert_eq!(loaded, Ok(Outcome::Panicked));
+    assert_eq!(loaded, Ok(PointerOutcome::Panicked));
     assert_eq!(frame, Frame { panicked: true, ..worked_frame });
     assert_eq!((small(&given, [3, 4]), given.pointer_flags()), ([5, 0], 8));
 }

@@ -44,6 +44,30 @@ impl Word {
     }
 }
 
+/// A word that up to 32 bytes of a range lead, and how many they are.
+///
+/// The first `bytes_read` bytes of the word, as [`Word::to_big_endian`] has them, came from the range that was
+/// read; the rest is padding of zeros. The number is the range's: a byte of it that nobody wrote is 0 and
+/// counts, even where its page is not allocated or its id decodes to no page.
+///
+/// ```
+/// use zincpapaya::{PartialWord, Word};
+///
+/// // A range of three bytes: 7, 0 and 0.
+/// let read = PartialWord { word: Word([0, 0, 0, 7 << 56]), bytes_read: 3 };
+/// let bytes = read.word.to_big_endian();
+/// let (real, padding) = bytes.split_at(read.bytes_read);
+/// assert_eq!((real, padding), (&[7, 0, 0][..], &[0; 29][..]));
+/// ```
+#[derive(Debug, Clone, Copy, Default, PartialEq, Eq, Hash)]
+#[must_use = "only the first `bytes_read` bytes of the word came from the range"]
+pub struct PartialWord {
+    /// The bytes of the range, then zeros.
+    pub word: Word,
+    /// How many bytes the range has, 0 to 32.
+    pub bytes_read: usize,
+}
+
 impl From<[u64; 4]> for Word {
     fn from(limbs: [u64; 4]) -> Self {
         Self(limbs)

@@ -187,7 +187,7 @@ fn calls_declares_what_the_crate_owned_exports() {
 }
 
 /// Places of the header, each with something else that a compiler of C would take.
-const FAULTS: [(&str, &str); 11] = [
+const FAULTS: [(&str, &str); 12] = [
     // Two types or two names are exchanged.
     ("bool aux, uint32_t new_bound", "uint32_t aux, bool new_bound"),
     ("uint64_t heap, uint64_t aux", "uint64_t aux, uint64_t heap"),
@@ -199,6 +199,7 @@ const FAULTS: [(&str, &str); 11] = [
     ("zp_snapshot(ZP_CONST_MEMORY", "zp_snapshot(ZP_MEMORY"),
     // An argument is left out, or a function.
     ("uint32_t base, uint32_t stride, uint64_t *out", "uint32_t base, uint64_t *out"),
+    ("bool increment, uint64_t *out, size_t out_len", "bool increment"),
     ("uint32_t zp_deallocate(ZP_MEMORY, uint32_t page);", ""),
     // Another result.
     ("uint32_t zp_quote(", "uint64_t zp_quote("),
@@ -238,7 +239,13 @@ fn fields(text: &str, name: &str) -> Vec<Argument> {
 fn structs_have_the_fields_that_they_have_in_rattle() {
     let [memory, execute] = OWNED;
     let reads = include_str!("../../../crates/reads/src/lib.rt");
-    let structs = [(reads, "WordRead"), (reads, "Marks"), (memory, "Compared"), (execute, "Ran")];
+    let structs = [
+        (reads, "PartialRead"),
+        (reads, "Marks"),
+        (memory, "Compared"),
+        (execute, "Ran"),
+        (execute, "PointerRan"),
+    ];
     for (text, name) in structs {
         assert_eq!(fields(text, name), fields(CALLS, name), "{name}");
     }

@@ -18,4 +18,4 @@ returns-2 c =
     min-left 32 (start .args .end - start .args .first) (omega (arith, at-if1 .if1 .left))
 
 pub count-spec : {M : Type 1} → statement M
-count-spec = tie.close (tie.spec (λ c. search needs) (λ c. search needs) returns returns-2)
+count-spec = tie.close (tie.spec (λ c. search needs) returns returns-2)

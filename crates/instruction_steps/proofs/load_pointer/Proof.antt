@@ -1,5 +1,4 @@
-use mathlib.Core.Path.{ap, _∙_}
-use Prim.Native.Nat.{ℕ, _+_, _-_, min}
+use Prim.Native.Nat.{_+_, _-_}
 use native.Mathlib.Omega.{arith}
 use borrow.Author.Tests.{not-true, not-false}
 use Rattle.registers.specs.Registers.{operandOf}
@@ -12,32 +11,35 @@ use Rattle.instruction_steps.proofs.load_pointer.Tie as tie
 
 returns : tie.Need-returns
 returns c =
-    let at-panicked = c in
+    let at-unread = c in
+    let at-panicked = at-unread .before in
     let at-if1 = at-panicked .before in
     let start = at-if1 .before .before .before .before .before .before in
     let m = mem (start .args .bytes .now) (start .args .keys .now) (start .args .order .now) (start .args .words .now) in
-    untagged-panics m (start .args .frame) (operandOf (start .args .operand)) _ (not-true _ (at-if1 .if1 .taken)) (at-panicked .panicked .ensures .0) (at-panicked .panicked .ensures .1)
+    untagged-panics m (start .args .frame) (operandOf (start .args .operand)) _ _ (at-unread .unread .ensures .0) (at-unread .unread .ensures .1) (not-true _ (at-if1 .if1 .taken)) (at-panicked .panicked .ensures .0) (at-panicked .panicked .ensures .1)
 
 returns-2 : tie.Need-returns-2
 returns-2 c =
-    let at-panicked2 = c in
+    let at-unread2 = c in
+    let at-panicked2 = at-unread2 .before in
     let at-if2 = at-panicked2 .before in
     let at-from-u256 = at-if2 .before .before in
     let at-if1 = at-from-u256 .before in
     let start = at-if1 .before .before .before .before .before .before in
     let m = mem (start .args .bytes .now) (start .args .keys .now) (start .args .order .now) (start .args .words .now) in
-    offset-panics m (start .args .frame) (operandOf (start .args .operand)) _ (not-false _ (at-if1 .if1 .left)) (at-from-u256 .from-u256 .result) (at-from-u256 .from-u256 .ensures) (at-if2 .if2 .taken) (at-panicked2 .panicked2 .ensures .0) (at-panicked2 .panicked2 .ensures .1)
+    offset-panics m (start .args .frame) (operandOf (start .args .operand)) _ _ (at-unread2 .unread2 .ensures .0) (at-unread2 .unread2 .ensures .1) (not-false _ (at-if1 .if1 .left)) (at-from-u256 .from-u256 .result) (at-from-u256 .from-u256 .ensures) (at-if2 .if2 .taken) (at-panicked2 .panicked2 .ensures .0) (at-panicked2 .panicked2 .ensures .1)
 
 returns-3 : tie.Need-returns-3
 returns-3 c =
-    let at-refused = c in
+    let at-unread3 = c in
+    let at-refused = at-unread3 .before in
     let at-if3 = at-refused .before in
     let at-if2 = at-if3 .before .before .before in
     let at-from-u256 = at-if2 .before .before in
     let at-if1 = at-from-u256 .before in
     let start = at-if1 .before .before .before .before .before .before in
     let m = mem (start .args .bytes .now) (start .args .keys .now) (start .args .order .now) (start .args .words .now) in
-    pointer-refused m (start .args .frame) (operandOf (start .args .operand)) _ (not-false _ (at-if1 .if1 .left)) (at-from-u256 .from-u256 .result) (at-from-u256 .from-u256 .ensures) (at-if2 .if2 .left) (omega (arith, at-if3 .if3 .taken)) (at-refused .refused .ensures .0) (at-refused .refused .ensures .1)
+    pointer-refused m (start .args .frame) (operandOf (start .args .operand)) _ _ (at-unread3 .unread3 .ensures .0) (at-unread3 .unread3 .ensures .1) (not-false _ (at-if1 .if1 .left)) (at-from-u256 .from-u256 .result) (at-from-u256 .from-u256 .ensures) (at-if2 .if2 .left) (omega (arith, at-if3 .if3 .taken)) (at-refused .refused .ensures .0) (at-refused .refused .ensures .1)
 
 add-first : tie.Need-add-first
 add-first c =
@@ -89,8 +91,8 @@ returns-4 c =
     let m = mem (start .args .bytes .now) (start .args .keys .now) (start .args .order .now) (start .args .words .now) in
     let q = at-from-u256 .from-u256 .result in
     pointer-done m (start .args .frame) (operandOf (start .args .operand)) _ (not-false _ (at-if1 .if1 .left)) (at-from-u256 .from-u256 .result) (at-from-u256 .from-u256 .ensures) (at-if2 .if2 .left) (omega (arith, at-if3 .if3 .left, at-struct-known4 .struct-known4 .given)) _ (q .start + at-lesser .lesser .result) (at-count .count .result) (at-read-padded .read-padded .result)
-    (ap (λ (y : ℕ). q .start + y) (at-lesser .lesser .ensures)) (at-count .count .ensures ∙ ap (λ (y : ℕ). min 32 (q .start + q .length - (q .start + y))) (at-lesser .lesser .ensures))
+    (omega (arith, at-lesser .lesser .ensures)) (omega (arith, at-lesser .lesser .ensures, at-count .count .ensures)) (omega (arith, at-lesser .lesser .ensures, at-count .count .ensures))
     (at-read-padded .read-padded .ensures) (at-from-big-endian .from-big-endian .ensures) (at-carried-out .carried-out .ensures .0) (at-carried-out .carried-out .ensures .1) (start .pre)
 
 pub load-pointer-spec : {M : Type 1} → statement M
-load-pointer-spec = tie.close (tie.spec (λ c κs. search needs) returns (λ c κs. search needs) (λ c κs. search needs) returns-2 (λ c. search needs) (λ c κs. search needs) returns-3 (λ c. search needs) (λ c κs. search needs) add-first count-requires read-padded-requires (λ c κs. search needs) (λ c κs. search needs) returns-4)
+load-pointer-spec = tie.close (tie.spec (λ c κs. search needs) (λ c κs. search needs) returns (λ c κs. search needs) (λ c κs. search needs) (λ c κs. search needs) returns-2 (λ c. search needs) (λ c κs. search needs) (λ c κs. search needs) returns-3 (λ c. search needs) (λ c κs. search needs) add-first count-requires (λ c. search needs) read-padded-requires (λ c κs. search needs) (λ c κs. search needs) returns-4)

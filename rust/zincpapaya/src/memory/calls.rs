@@ -22,14 +22,16 @@ use crate::{
     ffi::{numbers, ZEROS},
     methods::Calls,
     registers::{LoadCodes, StoreCodes},
-    Area, Error, Frame, Layout, Outcome, PageId, Registers, Snapshot, Word,
+    Area, Error, Frame, Layout, Outcome, PageId, PartialWord, PointerOutcome, Registers, Snapshot,
+    Word,
 };
 
-/// The word of a partial read, or a refusal.
+/// The word of a partial read and how many of its bytes come from the range, or a refusal.
 #[repr(C)]
-struct WordRead {
+struct PartialRead {
     refusal: u32,
     word: Word,
+    bytes_read: u32,
 }
 
 /// The lengths of both journals. The refusal is 0.
@@ -60,6 +62,13 @@ struct Ran {
     panicked: bool,
 }
 
+/// How a pointer load ended, and how many bytes come from the pointer's range; 0 where it was not carried out.
+#[repr(C)]
+struct PointerRan {
+    ran: Ran,
+    bytes_read: u32,
+}
+
 // The values of `Ran::kind`: 2 is an EraVM panic, and all from 3 up mean that it was refused.
 const RUNNING: u32 = 0;
 const SUSPENDED: u32 = 1;
@@ -73,7 +82,7 @@ declare! {
         calldata: *const u8, calldata_len: usize,
     ) -> u32;
     reading fn own_read_u256(page: u32, address: u32) -> Word;
-    reading fn own_read_u256_partially(page: u32, start: u32, end: u32) -> WordRead;
+    reading fn own_read_u256_partially(page: u32, start: u32, end: u32) -> PartialRead;
     reading fn own_read_range_big_endian(
         page: u32, start: u32, end: u32, output: *mut u8, output_len: usize,
     ) -> u32;
@@ -117,7 +126,7 @@ declare! {
         registers: *mut u64,
         gas: u32, heap: u32, aux: u32, heap_bound: u32, aux_bound: u32, panicked: bool,
         source: u32, dst0: u32, dst1: u32, increment: bool,
-    ) -> Ran;
+    ) -> PointerRan;
     reading fn own_load_static(
         registers: *mut u64,
         gas: u32, heap: u32, aux: u32, heap_bound: u32, aux_bound: u32, panicked: bool,
@@ -222,12 +231,12 @@ impl Calls for Memory {
         &self,
         page: PageId,
         Range { start, end }: Range<u32>,
-    ) -> Result<Word, Error> {
+    ) -> Result<PartialWord, Error> {
         test!(self);
         // SAFETY: the memory is owned.
         let read = unsafe { lend!(& self => own_read_u256_partially(page.0, start, end)) };
         carried_out(read.refusal)?;
-        Ok(read.word)
+        Ok(PartialWord { word: read.word, bytes_read: read.bytes_read as usize })
     }
 
     /// No zeros are put into the output before the bytes are: that would cost a third of the read.
@@ -421,17 +430,18 @@ impl Calls for Memory {
         frame: &mut Frame,
         registers: &mut Registers,
         LoadCodes { source, dst0, dst1, increment }: LoadCodes,
-    ) -> Result<Outcome, Error> {
+    ) -> Result<PointerOutcome, Error> {
         test!(self);
         let Frame { gas, heap, aux, heap_bound, aux_bound, panicked } = *frame;
         // SAFETY: the memory is owned, and `registers` are borrowed by `&mut`.
-        let ran = unsafe {
+        let read = unsafe {
             lend!(& self => own_load_pointer(
                 numbers(registers), gas, heap.0, aux.0, heap_bound, aux_bound, panicked,
                 source, dst0, dst1, increment,
             ))
         };
-        ran.told(frame)
+        let outcome = read.ran.told(frame)?;
+        Ok(PointerOutcome::of(outcome, read.bytes_read as usize))
     }
 
     fn load_static(

@@ -1,17 +1,13 @@
-use mathlib.Core.Path.{_≡_, refl}
-use mathlib.Core.Bool.{Bool, false, _&&_}
+use mathlib.Core.Path.{refl}
 use lib.ListN.{length}
 use borrow.Author.Tests.{eq-eqb, ne-eqb}
 use Rattle.formed.proofs.Meaning.{well-formed-means}
 use Rattle.index.proofs.Logic.{passed, failed, and-both, and-false-right}
 use Rattle.abi.specs.Executing.{fit}
-use Rattle.abi.proofs.Executing.{lengths, unfit, ill, executes, store, store-is, stop-told, stop-kept}
+use Rattle.abi.proofs.Executing.{and-false-left, lengths, unfit, ill, executes, store, store-is, stop-told, stop-kept}
 use borrow.Author.Needs.{needs}
 use Rattle.zincpapaya.proofs.execute.zp_store.Statement.{statement}
 use Rattle.zincpapaya.proofs.execute.zp_store.Tie as tie
-
-and-false-left : (a b : Bool) → a ≡ false → (a && b) ≡ false
-and-false-left a b e = rw e
 
 returns : tie.Need-returns
 returns c =

@@ -1,5 +1,7 @@
 // A table of keys, and an order of its places by ascending key. A place with key 0 is free.
 // The table of chunk holders and the table of pages are both of this form.
+#![tactic(auto)]
+
 ghost use Rattle.std.specs.Prelude.{◌≡◌, true, ℕ, ◌+◌, ◌^◌, ◌<◌, ◌≤◌, length, get_or, set};
 ghost use Rattle.index.specs.Index.{all, rises, used_count, indexed, seek, LowerBound, MovedUp, Insertable, Cleared, MovedDown, Removed};
 

@@ -1,4 +1,6 @@
 // What a call answers. specs/Outcome.antt says what the contracts of every crate mean by an outcome, and by the order of checks.
+#![tactic(auto)]
+
 ghost use Rattle.std.specs.Prelude.{◌≡◌};
 ghost use Rattle.outcome.specs.Outcome.{status_of};
 

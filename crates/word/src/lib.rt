@@ -1,5 +1,7 @@
 // Words of 256 bits: four limbs of 64 bits, the lowest first; 32 bytes, the highest first.
 // vm2: the part of `U256` that its memory uses, and `bigger_than_last_address` of heap_access.rs.
+#![tactic(auto)]
+
 ghost use Rattle.std.specs.Prelude.{◌≡◌, ◌+◌, ◌*◌, ◌%◌, ◌≤◌, ◌<◌, ◌^◌, ltb};
 ghost use Rattle.word.specs.Value.{value, limbs_value, bytes_at, big_endian, word_bytes, last_address};
 ghost use Rattle.word.specs.Swap.{Swapped, low_first};

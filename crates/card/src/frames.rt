@@ -18,7 +18,7 @@ const FIRST: u32 = 3;
 const SECOND: u32 = 4;
 
 // A frame after an instruction, and whether the path is right so far.
-#[derive(Drop)]
+#[derive(Clone, Copy)]
 pub struct Touched {
     pub right: bool,
     pub frame: Frame,

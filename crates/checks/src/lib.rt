@@ -101,7 +101,7 @@ fn known_run(
 }
 
 // What is known of a range of chunks: those before `chunk` are held. `rank` is the rank of the key of `chunk`, unless the range ends there.
-#[derive(Drop)]
+#[derive(Clone, Copy)]
 pub struct Located {
     pub chunk: u32,
     pub rank: usize,

@@ -7,7 +7,7 @@ ghost use Rattle.compare.specs.Verdict.{comparison_outcome};
 
 pub mod on_formed;
 
-#[derive(Drop)]
+#[derive(Clone, Copy)]
 pub enum Comparison {
     Equal,
     Different,

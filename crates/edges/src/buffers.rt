@@ -57,7 +57,7 @@ const PRIME: u64 = 4294967291;
 const FACTOR: u64 = 65599;
 
 // The lengths of a memory's own parts of the buffers, each part a leading one.
-#[derive(Drop)]
+#[derive(Clone, Copy)]
 pub struct Lengths {
     pub bytes: usize,
     pub keys: usize,

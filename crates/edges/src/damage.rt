@@ -31,7 +31,7 @@ const DAMAGED: u64 = 2000;
 const BITS: usize = 64;
 
 // Which elements are refused: as bits, the newest the lowest; how many, the first and the last. The last one with a wrong answer is counted from 1.
-#[derive(Drop)]
+#[derive(Clone, Copy)]
 pub struct Tally {
     pub bits: u64,
     pub count: u64,

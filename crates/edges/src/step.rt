@@ -39,7 +39,7 @@ const WRONG_LENGTH: u32 = 97;
 const CHANGED: u32 = 99;
 
 // What a call returned: the number of its refusal or 0, and a value or 0.
-#[derive(Drop)]
+#[derive(Clone, Copy)]
 pub struct Got {
     pub refusal: u32,
     pub value: u64,

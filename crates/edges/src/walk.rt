@@ -14,7 +14,7 @@ const VALUE: usize = 12;
 const SHORT: u64 = 1844674407370955160;
 
 // A line: its letter, the place of its next number, and its numbers.
-#[derive(Drop)]
+#[derive(Clone, Copy)]
 pub struct Line {
     pub call: u8,
     pub place: usize,
@@ -22,7 +22,7 @@ pub struct Line {
 }
 
 // The lengths of the open memory; how many answers were right and wrong since the last title.
-#[derive(Drop)]
+#[derive(Clone, Copy)]
 pub struct Run {
     pub lengths: Lengths,
     pub right: u32,
@@ -170,7 +170,7 @@ fn ended(run: Run) -> Run {
 }
 
 // A run that has read a part of a line.
-#[derive(Drop)]
+#[derive(Clone, Copy)]
 pub struct State {
     pub run: Run,
     pub line: Line,

@@ -19,14 +19,14 @@ use state::{Area, Frame, FrameStep};
 use word::Word;
 
 // Whether hooking is on, and the hook address.
-#[derive(Drop)]
+#[derive(Clone, Copy)]
 pub struct Hook {
     pub on: bool,
     pub address: Address,
 }
 
 // How an instruction ended. The run goes on, or stops on the hook with a value: vm2's `ExecutionStatus`, with the stop reason that a store has.
-#[derive(Drop)]
+#[derive(Clone, Copy)]
 pub enum ExecutionStatus {
     Running,
     SuspendedOnHook(u32),
@@ -35,7 +35,7 @@ pub enum ExecutionStatus {
 }
 
 // What a step returns: the word that it read, the operand plus 32, and the frame. A panic returns the frame alone, and a refusal the frame as it was.
-#[derive(Drop)]
+#[derive(Clone, Copy)]
 pub struct Execution {
     pub status: ExecutionStatus,
     pub word: Word,
@@ -44,7 +44,7 @@ pub struct Execution {
 }
 
 // What the step of a pointer load returns beside it: how many bytes of the pointer's range lead the word. A panic or a refusal has none.
-#[derive(Drop)]
+#[derive(Clone, Copy)]
 pub struct PointerExecution {
     pub execution: Execution,
     pub bytes_read: u32,

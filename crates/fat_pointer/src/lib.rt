@@ -7,7 +7,7 @@ ghost use Rattle.fat_pointer.specs.Pointer.{pointer_of, pointer_word};
 use page_ids::PageId;
 use word::Word;
 
-#[derive(Drop)]
+#[derive(Clone, Copy)]
 pub struct FatPointer {
     pub offset: u32,
     pub memory_page: PageId,

@@ -8,7 +8,7 @@ ghost use Rattle.store.specs.Mem.{mem};
 use trace_calls::Run;
 
 // The open memory's counts; how many bytes of the line and of the output are gathered.
-#[derive(Drop)]
+#[derive(Clone, Copy)]
 pub struct State {
     pub run: Run,
     pub held: usize,
@@ -16,7 +16,7 @@ pub struct State {
 }
 
 // The state after a line or a piece of one, and the place after it.
-#[derive(Drop)]
+#[derive(Clone, Copy)]
 pub struct Place {
     pub state: State,
     pub at: usize,

@@ -34,7 +34,7 @@ pub const REFUSED: u32 = 3;
 
 // What an instruction returns beside its registers: how it ended, and the frame.
 #[repr(C)]
-#[derive(Drop)]
+#[derive(Clone, Copy)]
 pub struct Ran {
     pub kind: u32,
     // the hook's value, or the number of the refusal
@@ -49,7 +49,7 @@ pub struct Ran {
 
 // What a pointer load returns: beside that, how many bytes of the pointer's range lead the word. A panic or a refusal has none.
 #[repr(C)]
-#[derive(Drop)]
+#[derive(Clone, Copy)]
 pub struct PointerRan {
     pub ran: Ran,
     pub bytes_read: u32,

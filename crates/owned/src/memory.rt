@@ -427,7 +427,7 @@ pub extern "C" fn own_delete_history(
 
 // Whether two memories are equal, or a refusal.
 #[repr(C)]
-#[derive(Drop)]
+#[derive(Clone, Copy)]
 pub struct Compared {
     pub refusal: u32,
     pub equal: bool,

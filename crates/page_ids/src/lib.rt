@@ -1,20 +1,22 @@
 // Page ids, base pages and byte addresses, and what a page id stands for.
 // vm2: page_ids.rs, and `DecodedPage` of heap.rs. Its constants are the six numbers of a `Layout` here.
+#![tactic(auto)]
+
 ghost use Rattle.std.specs.Prelude.{◌≡◌};
 ghost use Rattle.page_ids.specs.Arithmetic.{page_outcome, base_outcome, code_page, first_base, sum, difference};
 ghost use Rattle.page_ids.specs.Decode.{bad_layout, page_of, kind_number, group_number, is_none, is_fixed, decoding_outcome, by_remainder, decoded, decoding};
 
-#[derive(Drop)]
+#[derive(Clone, Copy)]
 pub struct PageId(pub u32);
 
-#[derive(Drop)]
+#[derive(Clone, Copy)]
 pub struct BasePage(pub u32);
 
-#[derive(Drop)]
+#[derive(Clone, Copy)]
 pub struct Address(pub u32);
 
 // 01's layout, in its order.
-#[derive(Drop)]
+#[derive(Clone, Copy)]
 pub struct Layout {
     pub static_memory: PageId,
     pub calldata: PageId,
@@ -24,7 +26,7 @@ pub struct Layout {
     pub stride: u32,
 }
 
-#[derive(Drop)]
+#[derive(Clone, Copy)]
 pub enum DynamicPageKind {
     Code,
     Heap,
@@ -32,7 +34,7 @@ pub enum DynamicPageKind {
 }
 
 // A dynamic page is of a kind and a group.
-#[derive(Drop)]
+#[derive(Clone, Copy)]
 pub enum DecodedPage {
     Static,
     BootloaderCalldata,
@@ -42,19 +44,19 @@ pub enum DecodedPage {
     Undecodable,
 }
 
-#[derive(Drop)]
+#[derive(Clone, Copy)]
 pub enum Decoding {
     Refused(u32),
     Decoded(DecodedPage),
 }
 
-#[derive(Drop)]
+#[derive(Clone, Copy)]
 pub enum PageAnswer {
     Refused(u32),
     Page(PageId),
 }
 
-#[derive(Drop)]
+#[derive(Clone, Copy)]
 pub enum BaseAnswer {
     Refused(u32),
     Base(BasePage),

@@ -13,7 +13,7 @@ const WORD: u32 = 3;
 const NEXT: u32 = 4;
 
 // How loads ended: the gas left, the area's bound, how many were carried out, and whether one panicked.
-#[derive(Drop)]
+#[derive(Clone, Copy)]
 pub struct Ran {
     pub gas: u32,
     pub bound: u32,

@@ -125,7 +125,7 @@ pub fn read_into(
 }
 
 // A word, if hints know its chunks.
-#[derive(Drop)]
+#[derive(Clone, Copy)]
 struct Known {
     pub found: bool,
     pub word: Word,

@@ -17,7 +17,7 @@ use word::Word;
 pub mod on_formed;
 
 // A word, or a refusal and the word 0.
-#[derive(Drop)]
+#[derive(Clone, Copy)]
 pub struct WordRead {
     pub refusal: u32,
     pub word: Word,
@@ -25,20 +25,20 @@ pub struct WordRead {
 
 // A word of the bytes of a range, and how many they are: these lead it, and zeros follow. Or a refusal, the word 0 and no bytes.
 #[repr(C)]
-#[derive(Drop)]
+#[derive(Clone, Copy)]
 pub struct PartialRead {
     pub refusal: u32,
     pub word: Word,
     pub bytes_read: u32,
 }
 
-#[derive(Drop)]
+#[derive(Clone, Copy)]
 pub struct ByteRead {
     pub refusal: u32,
     pub byte: u8,
 }
 
-#[derive(Drop)]
+#[derive(Clone, Copy)]
 pub struct LengthRead {
     pub refusal: u32,
     pub length: u32,
@@ -46,7 +46,7 @@ pub struct LengthRead {
 
 // The lengths of the journals: what a rollback goes back to.
 #[repr(C)]
-#[derive(Drop)]
+#[derive(Clone, Copy)]
 pub struct Marks {
     pub refusal: u32,
     pub heap: u32,

@@ -1,5 +1,7 @@
 // The sixteen registers with their pointer flags, as numbers that a caller lends, and the places that operands come from and go to.
 // vm2: addressing_modes.rs, its registers and immediates.
+#![tactic(auto)]
+
 ghost use Rattle.std.specs.Prelude.{◌≡◌, true, ◌≤◌, ◌^◌, length};
 ghost use Rattle.word.specs.Value.{value, limbs_value};
 ghost use Rattle.registers.specs.Registers.{registers_from, place_from, load_places_from, store_places_from, operand_of, flag_of, put_flag, with_register, is_register, is_source, register_number, source_of, erased, value_of, load_takes, pointer_takes, store_takes};
@@ -26,7 +28,7 @@ pub const LAST_IMMEDIATE_CODE: u32 = 131071;
 const HALF_LIMB: u64 = 4294967296;
 
 // Where an operand comes from or goes to. A form that is neither a register nor an immediate is `Other`.
-#[derive(Drop)]
+#[derive(Clone, Copy)]
 pub enum Place {
     Register(u32),
     Immediate(u32),
@@ -34,14 +36,14 @@ pub enum Place {
 }
 
 // A word, and whether it is tagged as a pointer.
-#[derive(Drop)]
+#[derive(Clone, Copy)]
 pub struct Operand {
     pub word: Word,
     pub tagged: bool,
 }
 
 // The places of a load: the operand, the word that it reads, and the operand plus 32 where it increments.
-#[derive(Drop)]
+#[derive(Clone, Copy)]
 pub struct LoadPlaces {
     pub source: Place,
     pub dst0: Place,
@@ -50,7 +52,7 @@ pub struct LoadPlaces {
 }
 
 // The places of a store: the operand, the stored value, and the operand plus 32 where it increments. It writes no second output, and clears dst1.
-#[derive(Drop)]
+#[derive(Clone, Copy)]
 pub struct StorePlaces {
     pub source: Place,
     pub value: Place,

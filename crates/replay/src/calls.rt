@@ -83,7 +83,7 @@ const END: usize = 3;
 // The place of the layout of an opening, which has six numbers.
 const LAYOUT: usize = 1;
 
-#[derive(Drop)]
+#[derive(Clone, Copy)]
 pub struct Call {
     pub letter: u8,
     pub numbers: [u64; CAPACITY],

@@ -10,7 +10,7 @@ pub const BLOCK: usize = 65536;
 pub const LINE: usize = 512;
 
 // The next place in a block, and the block's end; the byte that was taken last, and whether the input ended there; the length of the last line.
-#[derive(Drop)]
+#[derive(Clone, Copy)]
 pub struct Cursor {
     pub at: usize,
     pub end: usize,

@@ -5,7 +5,7 @@ use libc::STDOUT_FILENO;
 pub const CAPACITY: usize = 19;
 
 // The count is that of all numbers, also of those that the list has no place for.
-#[derive(Drop)]
+#[derive(Clone, Copy)]
 pub struct Numbers {
     pub count: usize,
     pub values: [u64; CAPACITY],

@@ -15,7 +15,7 @@ const HIGHEST_TENTH: u64 = 1844674407370955161;
 const HIGHEST_LAST_DIGIT: u64 = 5;
 
 // A call, and the answer that its line expects.
-#[derive(Drop)]
+#[derive(Clone, Copy)]
 pub struct StoredCall {
     pub call: Call,
     pub expected: Numbers,
@@ -24,7 +24,7 @@ pub struct StoredCall {
 // ---- a list of numbers, each after a space
 
 // What may come next: a space; the first digit of a number; a further digit or a space; nothing, since a byte was wrong.
-#[derive(Drop)]
+#[derive(Clone, Copy)]
 enum Next {
     Space,
     FirstDigit,
@@ -33,7 +33,7 @@ enum Next {
 }
 
 // The numbers that are read, and the value so far of the one that is being read.
-#[derive(Drop)]
+#[derive(Clone, Copy)]
 struct Reading {
     numbers: Numbers,
     value: u64,

@@ -12,7 +12,7 @@ const TITLE_END: usize = 130;
 // How many answers that differ are printed.
 const PRINTED: u64 = 20;
 
-#[derive(Drop)]
+#[derive(Clone, Copy)]
 pub struct Counts {
     pub calls: u64,
     pub differ: u64,
@@ -50,7 +50,7 @@ impl Counts {
 }
 
 // The line of the group's title, and the title's end; the counts of the group, and of all.
-#[derive(Drop)]
+#[derive(Clone, Copy)]
 pub struct Report {
     pub title: [u8; LINE],
     pub title_end: usize,

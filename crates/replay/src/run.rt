@@ -19,7 +19,7 @@ const TITLE: u8 = b't';
 const LAST_LINE: u64 = 18446744073709551615;
 
 // What is kept from line to line: the layout of the latest opening, and the counts.
-#[derive(Drop)]
+#[derive(Clone, Copy)]
 pub struct Run {
     pub layout: Layout,
     pub report: Report,

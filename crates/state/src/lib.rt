@@ -7,7 +7,7 @@ use page_ids::{Address, PageId};
 
 pub mod quote;
 
-#[derive(Drop)]
+#[derive(Clone, Copy)]
 pub struct Frame {
     pub gas: u32,
     pub heap: PageId,
@@ -18,21 +18,21 @@ pub struct Frame {
 }
 
 // Which of a frame's two pages an instruction reads or writes.
-#[derive(Drop)]
+#[derive(Clone, Copy)]
 pub enum Area {
     Heap,
     Aux,
 }
 
 // The gas that is left, and whether the amount was paid.
-#[derive(Drop)]
+#[derive(Clone, Copy)]
 pub struct Gas {
     pub left: u32,
     pub paid: bool,
 }
 
 // Gas and bound after a growth or an access, and whether it was paid.
-#[derive(Drop)]
+#[derive(Clone, Copy)]
 pub struct Growth {
     pub gas: u32,
     pub bound: u32,
@@ -40,7 +40,7 @@ pub struct Growth {
 }
 
 // The frame after a growth or an access, and whether it was paid.
-#[derive(Drop)]
+#[derive(Clone, Copy)]
 pub struct FrameStep {
     pub frame: Frame,
     pub paid: bool,

@@ -9,14 +9,14 @@ use page_ids::Address;
 const MOST_ADDRESSES: usize = 4096;
 
 // The gas spent, the bound reached, and the position of the access that panics, or the list's length.
-#[derive(Drop)]
+#[derive(Clone, Copy)]
 pub struct RunEnd {
     pub spent: u32,
     pub bound: u32,
     pub position: u32,
 }
 
-#[derive(Drop)]
+#[derive(Clone, Copy)]
 pub enum Quoted {
     Refused(u32),
     Ended(RunEnd),

@@ -9,7 +9,7 @@ ghost use Rattle.trace.specs.Reading.{space_at, fields_from, parsed_number, pars
 use word::Word;
 
 // The form of a line.
-#[derive(Drop)]
+#[derive(Clone, Copy)]
 pub enum Kind {
     Unread,
     Open,
@@ -20,7 +20,7 @@ pub enum Kind {
 }
 
 // What a line asks: the numbers of its form, in their order, and the word of a write.
-#[derive(Drop)]
+#[derive(Clone, Copy)]
 pub struct Command {
     pub kind: Kind,
     pub numbers: [u32; 9],
@@ -28,20 +28,20 @@ pub struct Command {
 }
 
 // A number, if there is one.
-#[derive(Drop)]
+#[derive(Clone, Copy)]
 pub struct Number {
     pub ok: bool,
     pub value: u32,
 }
 
-#[derive(Drop)]
+#[derive(Clone, Copy)]
 pub struct WordNumber {
     pub ok: bool,
     pub word: Word,
 }
 
 // Numbers, if all of them are there, and the place after them.
-#[derive(Drop)]
+#[derive(Clone, Copy)]
 pub struct Numbers {
     pub ok: bool,
     pub values: [u32; 9],

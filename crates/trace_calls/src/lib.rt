@@ -24,7 +24,7 @@ const WORD_BYTES: usize = 32 * head::JOURNAL_COUNT;
 const WORD_NUMBERS: usize = 3 * head::JOURNAL_COUNT;
 
 // The open memory's counts of chunks, pages and journal words, if one is open.
-#[derive(Drop)]
+#[derive(Clone, Copy)]
 pub struct Run {
     pub begun: bool,
     pub chunks: u32,
@@ -33,7 +33,7 @@ pub struct Run {
 }
 
 // The answer to a line, and the counts after it.
-#[derive(Drop)]
+#[derive(Clone, Copy)]
 pub struct Taken {
     pub run: Run,
     pub reply: Reply,

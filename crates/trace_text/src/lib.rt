@@ -1,4 +1,6 @@
 // The text of an answer. specs/Text.antt says what it is.
+#![tactic(auto)]
+
 ghost use Rattle.std.specs.Prelude.{◌≡◌, [], ◌∷◌, ◌++◌, ◌+◌, ◌/◌, ◌%◌, ◌≤◌, ◌<◌, eqb, length, drop};
 ghost use Rattle.word.specs.Value.{value, limbs_value};
 ghost use Rattle.trace_text.specs.Text.{glyph as glyphOf, numeral, Reported, reply_of, text_of, Wrote};
@@ -6,7 +8,7 @@ ghost use Rattle.trace_text.specs.Text.{glyph as glyphOf, numeral, Reported, rep
 use word::Word;
 
 // What a line is answered with.
-#[derive(Drop)]
+#[derive(Clone, Copy)]
 pub enum Answered {
     Unread,
     Done,
@@ -16,7 +18,7 @@ pub enum Answered {
 }
 
 // An answer with its values: the word, the two lengths of a snapshot, or the number of a refusal, which is `first`.
-#[derive(Drop)]
+#[derive(Clone, Copy)]
 pub struct Reply {
     pub answered: Answered,
     pub word: Word,
@@ -76,7 +78,7 @@ pub fn refused(number: u32) -> Reply
 // ---- numerals
 
 // A numeral that ends where the text does.
-#[derive(Drop)]
+#[derive(Clone, Copy)]
 pub struct Numeral {
     pub text: [u8; 64],
     pub from: usize,

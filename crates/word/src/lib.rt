@@ -7,7 +7,7 @@ ghost use Rattle.word.specs.Value.{value, limbs_value, bytes_at, big_endian, wor
 ghost use Rattle.word.specs.Swap.{Swapped, low_first};
 
 #[repr(C)]
-#[derive(Drop)]
+#[derive(Clone, Copy)]
 pub struct Word {
     pub limbs: [u64; 4],
 }

@@ -12,14 +12,14 @@ use state::Frame;
 use word::Word;
 
 // What an instruction returns beside its registers. A refusal returns the frame as it was.
-#[derive(Drop)]
+#[derive(Clone, Copy)]
 pub struct Executed {
     pub status: ExecutionStatus,
     pub frame: Frame,
 }
 
 // What a pointer load returns: beside that, how many bytes of the pointer's range lead the word. A panic or a refusal has none.
-#[derive(Drop)]
+#[derive(Clone, Copy)]
 pub struct PointerExecuted {
     pub executed: Executed,
     pub bytes_read: u32,

@@ -1,0 +1,12 @@
+use Rattle.trace_text.specs.Text.{numeral}
+use mathlib.Core.List.{◌++◌}
+use Prim.Native.Nat.{◌≤◌}
+use mathlib.Core.Path.{◌≡◌}
+use lib.ListN.{length, drop}
+use Rattle.trace_text.proofs.decimal_numeral.Given as goal
+
+abbrev pub invariant-loop-i : goal.invariant-loop-i
+invariant-loop-i l = (l.i ≤ 64) × (length l.text ≡ 64) × (numeral 10 64 l.initial.n ≡ numeral 10 l.i l.n ++ drop l.i l.text)
+
+abbrev pub decreases-loop-i : goal.decreases-loop-i
+decreases-loop-i l = l.i

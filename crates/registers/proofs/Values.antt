@@ -82,11 +82,11 @@ pub value_plain : (f k : Bool) (e y : ℕ) → f ≡ false → y ≡ cond (f && 
 value_plain f k e y g = sym (ap (λ (t : Bool). cond (t && not k) e y) g)
 
 -- ---- tests one after the other
-pub stopped : (r a b : Bool) → r ≡ a → not r ≡ true → false ≡ (a && b)
-stopped r a b e h = sym (ap (λ (t : Bool). t && b) (sym e ∙ not-true r h))
+pub stopped : (r a b : Bool) → r ≡ a → r ≡ false → false ≡ (a && b)
+stopped r a b e h = sym (ap (λ (t : Bool). t && b) (sym e ∙ h))
 
-pub passed : (r a b v : Bool) → r ≡ a → not r ≡ false → v ≡ b → v ≡ (a && b)
-passed r a b v e h f = f ∙ sym (ap (λ (t : Bool). t && b) (sym e ∙ not-false r h))
+pub passed : (r a b v : Bool) → r ≡ a → r ≡ true → v ≡ b → v ≡ (a && b)
+passed r a b v e h f = f ∙ sym (ap (λ (t : Bool). t && b) (sym e ∙ h))
 
 -- ---- the numbers of the registers
 -- the numbers l with the limbs of register n and its flag written

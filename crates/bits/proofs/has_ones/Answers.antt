@@ -1,5 +1,4 @@
 use mathlib.Core.Path.{◌≡◌, sym, ap, ◌∙◌}
-use mathlib.Core.Logic.{⊎_elim}
 use Prim.Native.Nat.{ℕ, ◌-◌}
 use native.Mathlib.Omega.{arith}
 use lib.Count.{ones, ones-ones}
@@ -11,6 +10,7 @@ use Rattle.bits.specs.Bits.{ones_of}
 use Rattle.bits.proofs.Words.{ones_next, ones_from, ones_pos}
 use Rattle.bits.proofs.Loops.{ones_done}
 use Rattle.bits.proofs.has_ones.Goals as goal
+use Rattle.bits.proofs.has_ones.Goals.{then-ws-i-ne0+else-n-found, else-ws-i-ne0}
 
 pub loop-i-init : goal.loop-i-init
 loop-i-init c =
@@ -25,12 +25,12 @@ returns-then-n-found c =
 pub loop-i-preserved : goal.loop-i-preserved
 loop-i-preserved c =
     let more = ones_next c.args.ws.now c.loop-i.i c.loop-i-test.true in
-    ⊎_elim
-    (λ w. (omega (arith, c.loop-i-test.true), omega (arith, w.3.ensures.1, w.4, c.loop-i.invariant.1), omega (arith, more, w.3.ensures.0, w.4, c.loop-i.invariant.2)))
-    (λ w.
-    let z : ones (get_or c.args.ws.now c.loop-i.i 0) ≡ 0 = ap ones w.0.left ∙ ones-ones 0 in
-    (omega (arith, c.loop-i-test.true), omega (arith, w.1, c.loop-i.invariant.1), omega (arith, more, z, w.1, c.loop-i.invariant.2)))
-    c.if-ws-i-ne0.branch
+    elim c.if-ws-i-ne0.branch [
+      | then-ws-i-ne0 w ↦ (omega (arith, c.loop-i-test.true), omega (arith, w.ones_in.ensures.1, w.found-is, c.loop-i.invariant.1), omega (arith, more, w.ones_in.ensures.0, w.found-is, c.loop-i.invariant.2))
+      | else-ws-i-ne0 w ↦
+          let z : ones (get_or c.args.ws.now c.loop-i.i 0) ≡ 0 = ap ones w.if-ws-i-ne0.false ∙ ones-ones 0 in
+          (omega (arith, c.loop-i-test.true), omega (arith, w.found-is, c.loop-i.invariant.1), omega (arith, more, z, w.found-is, c.loop-i.invariant.2))
+    ]
 
 pub returns : goal.returns
 returns c =

@@ -12,7 +12,7 @@ operand_at-requires c =
 
 pub returns-in-Register : goal.returns-in-Register
 returns-in-Register c =
-    rw c.in-Register.is c.Operand-at.ensures
+    rw c.in-Register.is c.operand_at.ensures
 
 pub returns-in-Immediate : goal.returns-in-Immediate
 returns-in-Immediate c =

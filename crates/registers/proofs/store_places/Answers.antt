@@ -1,7 +1,5 @@
 use Rattle.registers.proofs.store_places.Goals as goal
 
-}
-
 pub returns : goal.returns
 returns c = λ i. record {
   source = c.place_of-from.ensures i;
@@ -9,3 +7,4 @@ returns c = λ i. record {
   dst0 = c.place_of-first.ensures i;
   dst1 = c.place_of-second.ensures i;
   increment = c.args.increment;
+}

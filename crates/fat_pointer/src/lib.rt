@@ -1,5 +1,7 @@
 // Fat pointers: offset, page, start and length of 32 bits each, from the low end of a word.
 // vm2: fat_pointer.rs, whose transmute is arithmetic on limbs here.
+#![tactic(auto)]
+
 ghost use Rattle.std.specs.Prelude.{◌≡◌, ◌+◌, ◌*◌, ◌/◌, ◌%◌, ◌^◌};
 ghost use Rattle.word.specs.Value.{value, limbs_value};
 ghost use Rattle.fat_pointer.specs.Pointer.{pointer_of, pointer_word};

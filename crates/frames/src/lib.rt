@@ -1,4 +1,6 @@
 // Layouts, frames and words as the numbers of the C interface: what the exported functions are given and write.
+#![tactic(auto)]
+
 ghost use Rattle.std.specs.Prelude.{◌≡◌, ◌+◌, ◌≤◌, length};
 ghost use Rattle.word.specs.Value.{value, limbs_value};
 ghost use Rattle.frames.specs.Frames as spec;

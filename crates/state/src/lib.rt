@@ -1,5 +1,7 @@
 // A frame by value, its gas, and what an access to its heap or aux heap pays.
 // vm2: `use_gas` of state.rs and `grow_heap` of heap_access.rs.
+#![tactic(auto)]
+
 ghost use Rattle.std.specs.Prelude.{◌≡◌};
 ghost use Rattle.state.specs.Access.{new_bound, used, grown, accessed, frame_grown};
 

@@ -1,4 +1,6 @@
 // Slots of chunks, in the lent buffers of a memory: keys, the place of the pool, the lookup of chunks and pages, and hints.
+#![tactic(auto)]
+
 ghost use Rattle.std.specs.Prelude.{◌≡◌, ◌+◌, ◌/◌, ◌^◌, ◌<◌, ◌≤◌, true, length, take, drop, slice_index};
 ghost use Rattle.index.specs.Index.{seek};
 ghost use Rattle.store.specs.Keys.{last_chunk, key_of, key_entry, key_chunk};

@@ -26,7 +26,7 @@ pub loop-i-preserved : goal.loop-i-preserved
 loop-i-preserved c =
     let more = ones_next c.args.ws.now c.loop-i.i c.loop-i-test.true in
     elim c.if-ws-i-ne0.branch [
-      | then-ws-i-ne0 w ↦ (omega (arith, c.loop-i-test.true), omega (arith, w.ones_in.ensures.1, w.found-is, c.loop-i.invariant.1), omega (arith, more, w.ones_in.ensures.0, w.found-is, c.loop-i.invariant.2))
+      | then-ws-i-ne0+else-n-found w ↦ (omega (arith, c.loop-i-test.true), omega (arith, w.ones_in.ensures.1, w.found-is, c.loop-i.invariant.1), omega (arith, more, w.ones_in.ensures.0, w.found-is, c.loop-i.invariant.2))
       | else-ws-i-ne0 w ↦
           let z : ones (get_or c.args.ws.now c.loop-i.i 0) ≡ 0 = ap ones w.if-ws-i-ne0.false ∙ ones-ones 0 in
           (omega (arith, c.loop-i-test.true), omega (arith, w.found-is, c.loop-i.invariant.1), omega (arith, more, z, w.found-is, c.loop-i.invariant.2))

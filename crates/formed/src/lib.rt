@@ -1,4 +1,6 @@
 // Whether a lent memory is well formed: 01's sentence and the encoding's own rules, tested in one order.
+#![tactic(auto)]
+
 ghost use Rattle.std.specs.Prelude.{◌≡◌, true, ◌&&◌, ◌≤◌, length, take, drop};
 ghost use Rattle.index.specs.Index.{indexed};
 ghost use Rattle.store.specs.Mem.{mem, held_now, in_use, holders, entries, slot_order, page_order};

@@ -1,14 +1,8 @@
 -- What the arms of a match on a decoded page know of it.
 -- Assumes nothing.
-use mathlib.Core.Logic.{inl, inr}
-use mathlib.Core.List.{[], ◌∷◌}
 use mathlib.Core.Bool.{true, false}
 use mathlib.Core.Path.{◌≡◌, refl}
 use Prim.Native.Nat.{ℕ}
-use native.Mathlib.Omega.{arith}
-use types.Run.{OneOf}
-use denote.Enum.Declared.{tag_of}
-use Rattle.page_ids.specs.contracts.DecodedPage.{the_type}
 use Rattle.page_ids.specs.declared.DynamicPageKind.{DynamicPageKind}
 use Rattle.page_ids.specs.declared.DynamicPageKind.TheVariants.{Code, Heap, Aux}
 use Rattle.page_ids.specs.declared.DecodedPage.{DecodedPage}
@@ -27,17 +21,10 @@ dynamic_known Heap g = (refl, refl)
 dynamic_known Aux g = (refl, refl)
 
 -- ---- the arm of every other page
-no_dynamic : OneOf (0 ∷ 1 ∷ 2 ∷ 3 ∷ 5 ∷ []) 4 → ⊥
-no_dynamic (inl e) = omega arith
-no_dynamic (inr (inl e)) = omega arith
-no_dynamic (inr (inr (inl e))) = omega arith
-no_dynamic (inr (inr (inr (inl e)))) = omega arith
-no_dynamic (inr (inr (inr (inr e)))) = omega arith
-
-pub other_than_dynamic : (r : DecodedPage) → OneOf (0 ∷ 1 ∷ 2 ∷ 3 ∷ 5 ∷ []) (tag_of the_type r) → (is_dynamic (page_of r) ≡ false) × (group_number (page_of r) ≡ 0)
-other_than_dynamic Static k = (refl, refl)
-other_than_dynamic BootloaderCalldata k = (refl, refl)
-other_than_dynamic BootloaderHeap k = (refl, refl)
-other_than_dynamic BootloaderAuxHeap k = (refl, refl)
-other_than_dynamic (Dynamic kind group) k = absurd (no_dynamic k)
-other_than_dynamic Undecodable k = (refl, refl)
+pub other_than_dynamic : (r : DecodedPage) → ((kind : DynamicPageKind) (group : ℕ) → r ≡ Dynamic kind group → ⊥) → (is_dynamic (page_of r) ≡ false) × (group_number (page_of r) ≡ 0)
+other_than_dynamic Static n = (refl, refl)
+other_than_dynamic BootloaderCalldata n = (refl, refl)
+other_than_dynamic BootloaderHeap n = (refl, refl)
+other_than_dynamic BootloaderAuxHeap n = (refl, refl)
+other_than_dynamic (Dynamic kind group) n = absurd (n kind group refl)
+other_than_dynamic Undecodable n = (refl, refl)

@@ -1,4 +1,6 @@
 // The pool: how many slots it has, the lowest one taken from it, and slots returned to it.
+#![tactic(auto)]
+
 ghost use Rattle.std.specs.Prelude.{◌≡◌, ℕ, ◌+◌, ◌*◌, ◌-◌, ◌/◌, ◌%◌, ◌^◌, ◌<◌, ◌≤◌, leb, length, get_or, take};
 ghost use Rattle.index.specs.Index.{seek};
 ghost use Rattle.bits.specs.Bits.{ones_of, lowest_of};

@@ -1,4 +1,6 @@
 // Bytes put into chunks that are held.
+#![tactic(auto)]
+
 ghost use Rattle.std.specs.Prelude.{◌≡◌, ◌+◌, ◌-◌, ◌%◌, ◌<◌, ◌≤◌, min, length, get_or};
 ghost use Rattle.store.specs.Mem.{mem, slot_count};
 ghost use Rattle.store.specs.Keys.{last_chunk};

@@ -1,4 +1,6 @@
 // Chunks: the missing ones of a range, taken from the pool.
+#![tactic(auto)]
+
 ghost use Rattle.std.specs.Prelude.{◌≡◌, ◌+◌, ◌<◌};
 ghost use Rattle.store.specs.Keys.{key_of};
 ghost use Rattle.store.specs.Mem.{mem, slot_count, entries};

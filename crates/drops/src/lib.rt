@@ -1,4 +1,6 @@
 // Chunks given back to the pool, and pages no longer allocated.
+#![tactic(auto)]
+
 ghost use Rattle.std.specs.Prelude.{◌≡◌};
 ghost use Rattle.store.specs.Mem.{mem, entries};
 ghost use Rattle.view.specs.View.{setting_of, view_of};

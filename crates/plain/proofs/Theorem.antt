@@ -37,7 +37,7 @@ module _ (S : Steps) (C : Contracts S) where
       go true e = since_follow s (rule g) heap aux f p o e c (ap carried_out (sym (does S C c x l g).answer) ∙ e) k h
       go false e = h
 
-  run_since : {s : Setting} {m m' : Mem} {p p' : Plain} (heap aux : ℕ) (f : ℕ → ℕ → ℕ) → Run S (Keeps heap aux) s m p m' p' → Good s m p
+  run_since : (heap aux : ℕ) (f : ℕ → ℕ → ℕ) {s : Setting} {m m' : Mem} {p p' : Plain} → Run S (Keeps heap aux) s m p m' p' → Good s m p
       → Since s.layout (marks heap aux) f p → Since s.layout (marks heap aux) f p'
   run_since heap aux f none g h = h
   run_since heap aux f (more r x l k) g h = since heap aux f x l k (run_good S C r g) (run_since heap aux f r g h)

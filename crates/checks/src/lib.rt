@@ -1,5 +1,7 @@
 // Which refusal a write to a well-formed memory or an allocation in it gets, or 0: the tests in the order of 01's table.
 // How much of a range of chunks is known to be held, and the rank of the next one.
+#![tactic(auto)]
+
 ghost use Rattle.std.specs.Prelude.{◌≡◌, true, false, ℕ, ◌+◌, ◌/◌, ◌%◌, ◌<◌, ◌≤◌, ◌^◌, ltb, length, drop};
 ghost use Rattle.index.specs.Index.{seek};
 ghost use Rattle.view.specs.Calls.{first_refusal};

@@ -1,5 +1,7 @@
 // Whether two lent memories are equal: every page has equal bytes, and the same pages are allocated.
 // The call tests first that both are well formed (refusal 3); `on_formed` has what is left of it.
+#![tactic(auto)]
+
 ghost use Rattle.std.specs.Prelude.{◌≡◌};
 ghost use Rattle.store.specs.Mem.{mem};
 ghost use Rattle.view.specs.Calls.{comparison_of};

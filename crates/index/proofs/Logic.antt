@@ -55,8 +55,8 @@ not_held true h = absurd (h refl)
 not_held false h = refl
 
 -- a test by a call: `if !call() {..}`
-pub passed : {b x : Bool} → b ≡ x → not b ≡ false → x ≡ true
-passed {b} e q = sym e ∙ not-false b q
+pub passed : {b x : Bool} → b ≡ x → b ≡ true → x ≡ true
+passed e q = sym e ∙ q
 
-pub failed : {b x : Bool} → b ≡ x → not b ≡ true → x ≡ false
-failed {b} e q = sym e ∙ not-true b q
+pub failed : {b x : Bool} → b ≡ x → b ≡ false → x ≡ false
+failed e q = sym e ∙ q

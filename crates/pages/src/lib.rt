@@ -1,4 +1,6 @@
 // Page entries: a page is allocated.
+#![tactic(auto)]
+
 ghost use Rattle.std.specs.Prelude.{◌≡◌, false, ◌<◌, ◌≤◌, max, length, get_or, set};
 ghost use Rattle.index.specs.Index.{used_count};
 ghost use Rattle.store.specs.Mem.{mem, head_length, dynamic_length_place, dynamic_length};

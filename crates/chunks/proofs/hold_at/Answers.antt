@@ -24,4 +24,9 @@ pub returns : goal.returns
 returns c =
     let h = c.hold-s.ensures.held in
     let a = one_held c.args.bytes.now c.args.keys.now c.args.order.now c.args.words.now c.args.page.0 c.args.chunk c.requires.hold_asks c.args.k c.requires.k_value.0 _ _ _ _ h in
-    let b = after_learnt _ _ _ _ _ a _ c.learn.ensures in let both = (b.shows, (b.pages, ((one_slot c.args.bytes.now c.args.keys.now c.args.order.now c.args.words.now c.args.page.0 c.args.chunk c.requires.hold_asks c.args.k c.requires.k_value.0 _ _ _ _ h _, h.slot_in), rank_learnt _ a.shows.formed _ _ c.hold-s.ensures.ranked _ c.learn.ensures))) in record { shows = both.0; words_unchanged = both.1.0; value = both.1.1.0; ranked = both.1.1.1 }
+    let b = after_learnt _ _ _ _ _ a _ c.learn.ensures in record {
+      shows = b.shows;
+      words_unchanged = b.pages;
+      value = (one_slot c.args.bytes.now c.args.keys.now c.args.order.now c.args.words.now c.args.page.0 c.args.chunk c.requires.hold_asks c.args.k c.requires.k_value.0 _ _ _ _ h _, h.slot_in);
+      ranked = rank_learnt _ a.shows.formed _ _ c.hold-s.ensures.ranked _ c.learn.ensures;
+    }

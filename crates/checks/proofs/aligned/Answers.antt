@@ -1,0 +1,5 @@
+use Rattle.checks.proofs.Ranges.{aligned_some}
+use Rattle.checks.proofs.aligned.Goals as goal
+
+pub returns : goal.returns
+returns c = aligned_some _ _ c.if-n-eq0.false

@@ -1,0 +1,39 @@
+use mathlib.Core.Path.{refl, sym, ◌∙◌}
+use mathlib.Core.List.{◌∷◌}
+use Rattle.store.specs.Mem.{mem}
+use Rattle.view.specs.View.{setting_of, view_of}
+use Rattle.view.specs.Checks.{capacity_checks_at}
+use Rattle.checks.proofs.Chosen.{layout_asks, room_chosen, chosen_4, allocate_5, allocate_6, allocate_room}
+use Rattle.outcome.specs.Outcome.{refused}
+use Rattle.formed.specs.Pages.{fixed}
+use Rattle.checks.proofs.allocate_refusal.Goals as goal
+
+pub returns-then-is_undecodable : goal.returns-then-is_undecodable
+returns-then-is_undecodable c =
+    let m = mem c.args.bytes.now c.args.keys.now c.args.order.now c.args.words.now in
+    chosen_4 (setting_of m) (view_of m) c.args.page.0 _ c.decode-decoded.ensures ((fixed (setting_of m).layout c.args.page.0, refused 5) ∷ ((view_of m).allocated c.args.page.0, refused 6) ∷ capacity_checks_at (setting_of m) (view_of m) c.args.page.0 0 c.args.n 0) (sym c.is_undecodable.ensures ∙ c.if-is_undecodable.true)
+
+pub returns-then-is_fixed : goal.returns-then-is_fixed
+returns-then-is_fixed c =
+    let m = mem c.args.bytes.now c.args.keys.now c.args.order.now c.args.words.now in
+    allocate_5 (setting_of m) (view_of m) c.args.page.0 _ c.decode-decoded.ensures c.args.n (sym c.is_undecodable.ensures ∙ c.if-is_undecodable.false) (sym c.is_fixed.ensures ∙ c.if-is_fixed.true)
+
+pub returns-then-is_allocated : goal.returns-then-is_allocated
+returns-then-is_allocated c =
+    let m = mem c.args.bytes.now c.args.keys.now c.args.order.now c.args.words.now in
+    allocate_6 (setting_of m) (view_of m) c.args.page.0 _ c.decode-decoded.ensures c.args.n (sym c.is_undecodable.ensures ∙ c.if-is_undecodable.false) (sym c.is_fixed.ensures ∙ c.if-is_fixed.false) (sym c.is_allocated.ensures ∙ c.if-is_allocated.true)
+
+pub unallocated_refusal-requires : goal.unallocated_refusal-requires
+unallocated_refusal-requires c =
+    (c.requires, sym c.is_allocated.ensures ∙ c.if-is_allocated.false)
+
+pub returns : goal.returns
+returns c =
+    let m = mem c.args.bytes.now c.args.keys.now c.args.order.now c.args.words.now in
+    allocate_room (setting_of m) (view_of m) c.args.page.0 _ c.decode-decoded.ensures c.args.n (sym c.is_undecodable.ensures ∙ c.if-is_undecodable.false) (sym c.is_fixed.ensures ∙ c.if-is_fixed.false) (sym c.is_allocated.ensures ∙ c.if-is_allocated.false) _ (room_chosen 0 c.args.n _ c.touched-count.ensures (setting_of m) (view_of m) c.args.page.0 0 0 _ refl (c.unallocated_refusal.ensures 0 0))
+
+pub decode-decoded-requires : goal.decode-decoded-requires
+decode-decoded-requires c = layout_asks _ c.requires
+
+pub is_allocated-requires : goal.is_allocated-requires
+is_allocated-requires c = c.requires

@@ -1,4 +1,6 @@
 // What a window and a truncation do once they are not refused.
+#![tactic(auto)]
+
 ghost use Rattle.std.specs.Prelude.{◌≡◌, ◌+◌, ◌-◌, ◌<◌, ◌≤◌, length};
 ghost use Rattle.store.specs.Mem.{mem, head_length, layout_of};
 ghost use Rattle.formed.specs.WellFormed.{WellFormed};

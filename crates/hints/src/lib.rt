@@ -1,4 +1,6 @@
 // What one hint tells of a word: the lookup of the fast functions in `owned`.
+#![tactic(auto)]
+
 ghost use Rattle.std.specs.Prelude.{◌≡◌, true, false, ◌+◌, ◌<◌, ◌≤◌, length, get_or};
 ghost use Rattle.store.specs.Mem.{head_length, slot_count, layout_of};
 ghost use Rattle.store.specs.Find.{Findable};

@@ -1,4 +1,6 @@
 // The journals of the bootloader pages: words as they were before they were written. vm2: the rollback part of `Heaps`.
+#![tactic(auto)]
+
 ghost use Rattle.std.specs.Prelude.{◌≡◌, ◌+◌, ◌*◌, ◌^◌, ◌<◌, ◌≤◌};
 ghost use Rattle.store.specs.Indexed.{Indexed};
 ghost use Rattle.store.specs.Find.{slot_at_entry};

@@ -1,4 +1,6 @@
 // Opens a memory in lent buffers, whatever they hold.
+#![tactic(auto)]
+
 ghost use Rattle.std.specs.Prelude.{◌≡◌, ◌≤◌, length, replicate};
 ghost use Rattle.outcome.specs.Outcome.{answered, answer_outcome};
 ghost use Rattle.store.specs.Mem.{mem, head_length, fixed_count, pool_length};

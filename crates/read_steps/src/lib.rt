@@ -1,4 +1,6 @@
 // What the reads of a well-formed memory are made of.
+#![tactic(auto)]
+
 ghost use Rattle.std.specs.Prelude.{◌≡◌, true, List, ℕ, ◌+◌, ◌*◌, ◌<◌, ◌≤◌, min, length, get_or, take};
 ghost use Rattle.word.specs.Value.{value, big_endian};
 ghost use Rattle.store.specs.Mem.{mem, head_length, slot_count};

@@ -1,4 +1,6 @@
 // Makes a page hold chunks: allocates it, if it is not, and takes the chunks that are missing from the pool. The page's entry and one rank are handed on.
+#![tactic(auto)]
+
 ghost use Rattle.std.specs.Prelude.{◌≡◌, false, ℕ, ◌+◌, ◌<◌};
 ghost use Rattle.store.specs.Mem.{mem, page_count, fixed_count};
 ghost use Rattle.formed.specs.Parts.{entry_of};

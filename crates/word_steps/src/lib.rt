@@ -1,4 +1,6 @@
 // A word write whose chunks' slots are known: the word is journalled, and another put in its place, or the write is refused.
+#![tactic(auto)]
+
 ghost use Rattle.outcome.specs.Outcome.{answered};
 ghost use Rattle.word.specs.Value.{value, word_bytes};
 ghost use Rattle.view.specs.Calls.{Call, CallDoes, nothing};

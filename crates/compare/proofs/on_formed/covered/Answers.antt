@@ -8,6 +8,7 @@ use Rattle.store.specs.Mem.{mem}
 use Rattle.compare.proofs.Meaning.{entry_width}
 use Rattle.compare.proofs.Walk.{entry_at, held_few, ranked_pos, ranked_lt, ranked_key, seen_none, past_slot, past_page, past_free, all_seen, page_here_lem, page_gone, byte_same, byte_other}
 use Rattle.compare.proofs.on_formed.covered.Goals as goal
+use Rattle.compare.proofs.on_formed.covered.Goals.{then-listed-ne0+else-f-right_pages+else-chunks-test, then-listed-ne0+else-f-right_pages+then-chunks-test+then-key_entry-e, else-listed-ne0}
 
 pub bounds-left_words-7 : goal.bounds-left_words-7
 bounds-left_words-7 c =
@@ -145,23 +146,20 @@ pub pages-preserved : goal.pages-preserved
 pages-preserved c =
     let here = page_here_lem (mem c.args.left_bytes.now c.args.left_keys.now c.args.left_order.now c.args.left_words.now) (mem c.args.right_bytes.now c.args.right_keys.now c.args.right_order.now c.args.right_words.now) c.requires.well_formed c.requires.well_formed_2 c.pages.e in
     let on = past_page (mem c.args.left_bytes.now c.args.left_keys.now c.args.left_order.now c.args.left_words.now) (mem c.args.right_bytes.now c.args.right_keys.now c.args.right_order.now c.args.right_words.now) c.requires.well_formed c.requires.well_formed_2 c.pages.e c.pages.i in
-    ⊎_elim
-    (λ w. (
-      w.5 ∙ w.3.inv.0,
-      rw w.6 (on w.3.i c.pages-test.true c.pages.invariant.1 (here w.1.result w.0.taken w.1.ensures w.2.left) w.3.inv.1 (λ l. absurd (omega (arith, w.4.left)))),
-    ))
-    (λ v.
-    ⊎_elim
-    (λ w. (
-      w.9 ∙ w.3.inv.0,
-      rw w.10 (on w.3.i c.pages-test.true c.pages.invariant.1 (here w.1.result w.0.taken w.1.ensures w.2.left) w.3.inv.1 (λ l. omega (arith, ranked_key (mem c.args.left_bytes.now c.args.left_keys.now c.args.left_order.now c.args.left_words.now) c.requires.well_formed w.3.i l, w.7.ensures, w.8.taken))),
-    ))
-    (λ w. (
-      w.1 ∙ c.pages.invariant.0,
-      rw w.2 (past_free (mem c.args.left_bytes.now c.args.left_keys.now c.args.left_order.now c.args.left_words.now) (mem c.args.right_bytes.now c.args.right_keys.now c.args.right_order.now c.args.right_words.now) c.requires.well_formed c.requires.well_formed_2 c.pages.e c.pages.i c.pages-test.true w.0.(mem c.args.left_bytes.now c.args.left_keys.now c.args.left_order.now c.args.left_words.now).pages.invariant.1),
-    ))
-    v)
-    c.if-listed-ne0.branch
+    elim c.if-listed-ne0.branch [
+      | then-listed-ne0+else-f-right_pages+else-chunks-test w ↦ (
+        w.equal-is ∙ w.chunks.invariant.0,
+        rw w.i-is (on w.chunks.i c.pages-test.true c.pages.invariant.1 (here w.entry_of-f.result w.if-listed-ne0.true w.entry_of-f.ensures w.if-f-right_pages.false) w.chunks.invariant.1 (λ l. absurd (omega (arith, w.chunks-test.false)))),
+      )
+      | then-listed-ne0+else-f-right_pages+then-chunks-test+then-key_entry-e w ↦ (
+        w.equal-is ∙ w.chunks.invariant.0,
+        rw w.i-is (on w.chunks.i c.pages-test.true c.pages.invariant.1 (here w.entry_of-f.result w.if-listed-ne0.true w.entry_of-f.ensures w.if-f-right_pages.false) w.chunks.invariant.1 (λ l. omega (arith, ranked_key (mem c.args.left_bytes.now c.args.left_keys.now c.args.left_order.now c.args.left_words.now) c.requires.well_formed w.chunks.i l, w.key_entry.ensures, w.if-key_entry-e.true))),
+      )
+      | else-listed-ne0 w ↦ (
+        w.equal-is ∙ c.pages.invariant.0,
+        rw w.i-is (past_free (mem c.args.left_bytes.now c.args.left_keys.now c.args.left_order.now c.args.left_words.now) (mem c.args.right_bytes.now c.args.right_keys.now c.args.right_order.now c.args.right_words.now) c.requires.well_formed c.requires.well_formed_2 c.pages.e c.pages.i c.pages-test.true w.if-listed-ne0.false c.pages.invariant.1),
+      )
+    ]
 
 pub returns-after-pages : goal.returns-after-pages
 returns-after-pages c =

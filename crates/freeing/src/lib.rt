@@ -1,4 +1,6 @@
 // Pages freed, shrunk to a window, and cut off by truncation. A call tests first that the memory is well formed (refusal 3); `on_formed` has what is left of it.
+#![tactic(auto)]
+
 ghost use Rattle.outcome.specs.Outcome.{answer_outcome};
 ghost use Rattle.store.specs.Mem.{mem};
 ghost use Rattle.view.specs.Calls.{Call, nothing, CallDoes};

@@ -1,5 +1,7 @@
 // Reads of a lent memory. A call tests first that the memory is well formed (refusal 3); `on_formed` has what is left of it.
 // vm2: the reading half of `Heaps`.
+#![tactic(auto)]
+
 ghost use Rattle.std.specs.Prelude.{◌≡◌, [], ◌-◌, length};
 ghost use Rattle.outcome.specs.Outcome.{answered, unit_outcome};
 ghost use Rattle.word.specs.Value.{value, big_endian};

@@ -1,5 +1,7 @@
 // Word writes and byte writes to a well-formed memory, refused or done.
 // An allocation with contents, once it is not refused.
+#![tactic(auto)]
+
 ghost use Rattle.std.specs.Prelude.{◌≡◌, ◌+◌, ◌%◌, ◌<◌, ◌≤◌, ◌^◌, length};
 ghost use Rattle.outcome.specs.Outcome.{answered};
 ghost use Rattle.word.specs.Value.{value, word_bytes};

@@ -1,0 +1,13 @@
+use Rattle.index.proofs.Logic.{passed, failed}
+use Rattle.formed.proofs.Meaning.{well_formed_means}
+use Rattle.view.specs.Calls.{Call}
+use Rattle.view.proofs.Refused.{ill_does}
+use Rattle.freeing.proofs.compact_to_window.Goals as goal
+
+pub returns-then-not-well_formed : goal.returns-then-not-well_formed
+returns-then-not-well_formed c =
+    ill_does _ (Call.Window c.args.page.0 c.args.start.0 c.args.length) (failed c.well_formed-2.ensures c.if-not-well_formed.true)
+
+pub compact_to_window-requires : goal.compact_to_window-requires
+compact_to_window-requires c =
+    well_formed_means _ (passed c.well_formed-2.ensures c.if-not-well_formed.false)

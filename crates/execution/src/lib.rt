@@ -1,4 +1,6 @@
 // What the steps of the instructions are made of: their answers, the pages and the growth, the hook, loads and stores of a well-formed memory.
+#![tactic(auto)]
+
 ghost use Rattle.std.specs.Prelude.{◌≡◌, true, false, cond, ◌&&◌, [], ◌∷◌, ◌++◌, ◌-◌, ◌%◌, ◌^◌, ◌≤◌, min, ltb, length};
 ghost use Rattle.view.specs.Calls.{first_refusal};
 ghost use Rattle.outcome.specs.Outcome as outcome;

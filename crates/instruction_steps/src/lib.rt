@@ -1,5 +1,7 @@
 // The step of each instruction on an operand, on a memory that is known to be well formed: it panics or is refused, or does its work.
 // It reads and writes no register. vm2: heap_access.rs.
+#![tactic(auto)]
+
 ghost use Rattle.word.specs.Value.{value};
 ghost use Rattle.store.specs.Mem.{mem};
 ghost use Rattle.formed.specs.WellFormed.{WellFormed};

@@ -1,5 +1,7 @@
 // Writes and allocations. A call tests first that the memory is well formed (refusal 3); `on_formed` has what is left of it.
 // vm2: the writing half of `Heaps`.
+#![tactic(auto)]
+
 ghost use Rattle.std.specs.Prelude.{[]};
 ghost use Rattle.outcome.specs.Outcome.{answer_outcome};
 ghost use Rattle.word.specs.Value.{value};

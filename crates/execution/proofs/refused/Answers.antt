@@ -1,0 +1,4 @@
+use Rattle.execution.proofs.refused.Goals as goal
+
+pub returns : goal.returns
+returns c = c.alone.ensures

@@ -1,0 +1,15 @@
+use Rattle.word.specs.Value.{value}
+use Rattle.store.specs.Mem.{mem}
+use Rattle.registers.specs.Registers.{operand_of}
+use Rattle.execution.specs.Executions.{hook_of}
+use Rattle.execution.proofs.Laws.{within, store_ends}
+use Rattle.instruction_steps.proofs.store.Goals as goal
+
+pub store_at-requires : goal.store_at-requires
+store_at-requires c =
+    let m = mem c.args.bytes.now c.args.keys.now c.args.order.now c.args.words.now in record { well_formed = c.requires; limbs_bound = within m c.args.frame (operand_of c.args.operand) c.reach-step.result c.args.area c.reach-step.ensures }
+
+pub returns : goal.returns
+returns c =
+    let m = mem c.args.bytes.now c.args.keys.now c.args.order.now c.args.words.now in
+    store_ends m c.args.frame (operand_of c.args.operand) c.reach-step.result c.args.area c.reach-step.ensures c.page_of-page.result.0 c.page_of-page.ensures (value c.args.word.limbs) (hook_of c.args.hook) c.store_at.ensures

@@ -1,4 +1,6 @@
 // Reads a line of a trace: specs/Language.antt says what a line means. The module `text` writes the answers.
+#![tactic(auto)]
+
 ghost use Rattle.std.specs.Prelude.{◌≡◌, [], ◌∷◌, ◌+◌, ◌*◌, ◌≤◌, ◌<◌, ◌^◌, length, take, drop};
 ghost use Rattle.std.proofs.Math.Option.{none};
 ghost use Rattle.word.specs.Value.{value, limbs_value};

@@ -108,6 +108,7 @@ fn kind_of(name: &[u8]) -> Kind
 // ---- numbers
 
 // The digit that a byte stands for, or 16.
+#[tactic(auto, unfolding(crate::specs::Language::digit))]
 fn digit(b: u8) -> u64
     ensures { result ≡ language.digit b }
 {

@@ -26,7 +26,7 @@ loop-i-preserved c =
     let d = c.digit-d.ensures in
     let t = c.if-d-ge10.false in (
       omega arith,
-      omega (arith, c.if-n-gt4294967295.false),
+      omega arith,
       digital_step 10 c.args.field.now c.loop-i.i c.loop-i-test.true (omega arith) ∙ c.loop-i.invariant.2,
       ap (λ (d : ℕ). number_after 10 (c.loop-i.n * 10 + d) (drop (c.loop-i.i + 1) c.args.field.now)) c.digit-d.ensures ∙ number_step 10 c.args.field.now c.loop-i.i c.loop-i-test.true c.loop-i.n ∙ c.loop-i.invariant.3,
     )

@@ -1,4 +1,6 @@
 // The field engineer's card: walks five paths on the linked library and prints a line for each, so that running it checks an installation.
+#![tactic(auto)]
+
 ghost use Rattle.std.specs.Prelude.{◌≤◌};
 
 use buffers::{BYTES, KEYS, ORDER, WORDS};

@@ -1,4 +1,6 @@
 // Walks the edges of a memory by running the library: each line of the input has a call and what a plain map of bytes answers.
+#![tactic(auto)]
+
 mod buffers;
 mod damage;
 mod naive;

@@ -5,6 +5,7 @@ ghost use Rattle.heaptrace.specs.Bounds.{Bounded, LineEnd, Gathered, output_writ
 ghost use Rattle.trace_calls.specs.Space.{Space};
 ghost use Rattle.store.specs.Mem.{mem};
 
+use std::io::{Read, Stdin};
 use trace_calls::Run;
 
 // The open memory's counts; how many bytes of the line and of the output are gathered.
@@ -200,12 +201,12 @@ fn finish(
     flush(output, s);
 }
 
-// Reads a block of the input, and gives the number of its bytes: 0 where the input ends.
-fn read_block(input: &mut [u8]) -> usize
+// Reads a block of the input, and gives the number of its bytes: 0 where the input ends or cannot be read.
+fn read_block(from: Stdin, input: &mut [u8]) -> usize
     ensures { IsPrefixLen result input.new }
 {
-    let got = libc::read(0, input);
-    io::count(got, input)
+    let mut from = from;
+    from.read(input).unwrap_or(0)
 }
 
 // How many reads may follow one that gave n bytes.
@@ -221,6 +222,7 @@ fn reads_after(reads: u64, n: usize) -> u64
 
 // Answers the input to its end. A proved loop has to end, so it counts its reads down, from a number that no run uses up.
 pub fn run(
+    from: Stdin,
     bytes: &mut [u8],
     keys: &mut [u64],
     order: &mut [u32],
@@ -234,7 +236,7 @@ pub fn run(
     let mut state = start();
     let mut reads: u64 = 18446744073709551615;
     while 0 < reads {
-        let n = read_block(input);
+        let n = read_block(from, input);
         state = block(bytes, keys, order, words, line, output, &input[0..n], state);
         reads = reads_after(reads, n);
     }

@@ -1,7 +1,10 @@
 // Reads a trace from standard input and prints an answer to each of its lines. Document 01, 'The trace program'.
+#![tactic(auto)]
+
 mod lines;
+
 // Space for 128 chunks, 64 pages and 256 words of each journal, of the lengths that docs/BUFFERS.md states.
-fn main() {
+fn main(rt: HostRuntime) {
     let mut bytes = [0u8; 49152];
     let mut keys = [0u64; 196];
     let mut order = [0u32; 452];
@@ -10,6 +13,7 @@ fn main() {
     let mut input = io::large_buffer();
     let mut output = io::large_buffer();
     lines::run(
+        rt.stdin(),
         &mut bytes,
         &mut keys,
         &mut order,

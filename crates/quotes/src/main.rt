@@ -1,4 +1,6 @@
 // Quotes worked out by hand, each beside the loads that it speaks of: a line tells the quote, and whether loads of the heap and of the aux heap pay the same.
+#![tactic(auto)]
+
 mod loads;
 mod report;
 

@@ -1,7 +1,7 @@
 // Reads the lines of the standard input, in blocks.
 ghost use Rattle.std.specs.Prelude.{◌≤◌};
 
-use libc::STDIN_FILENO;
+use std::io::{Read, Stdin};
 
 // The bytes of a block.
 pub const BLOCK: usize = 65536;
@@ -47,13 +47,18 @@ fn taken(block: &[u8; BLOCK], at: usize, end: usize) -> Cursor {
     }
 }
 
+// Reads a block, and gives the number of its bytes: 0 where the input ends or cannot be read.
+fn read_block(from: Stdin, block: &mut [u8; BLOCK]) -> usize {
+    let mut from = from;
+    from.read(block).unwrap_or(0)
+}
+
 // Takes the next byte, from the next block where this one is used up.
-fn next(block: &mut [u8; BLOCK], c: Cursor) -> Cursor {
+fn next(from: Stdin, block: &mut [u8; BLOCK], c: Cursor) -> Cursor {
     if c.at < c.end {
         return taken(block, c.at, c.end);
     }
-    let got = libc::read(STDIN_FILENO, block);
-    let count = io::count(got, block);
+    let count = read_block(from, block);
     taken(block, 0, count)
 }
 
@@ -67,13 +72,18 @@ fn of_length(c: Cursor, length: usize) -> Cursor
 }
 
 // Reads a line. One of more than 512 bytes counts as several.
-pub fn read_line(block: &mut [u8; BLOCK], line: &mut [u8; LINE], from: Cursor) -> Cursor
+pub fn read_line(
+    from: Stdin,
+    block: &mut [u8; BLOCK],
+    line: &mut [u8; LINE],
+    cursor: Cursor,
+) -> Cursor
     ensures { result.length ≤ 512 }
 {
-    let mut c = from;
+    let mut c = cursor;
     let mut i: usize = 0;
     while i < LINE {
-        c = next(block, c);
+        c = next(from, block, c);
         if c.byte == b'\n' {
             return of_length(c, i);
         }

@@ -1,4 +1,6 @@
 // Puts the calls of a file to the library, and counts the answers that differ from those of vm2. rust/README.md describes the lines.
+#![tactic(auto)]
+
 mod answers;
 mod arithmetic;
 mod calls;
@@ -15,10 +17,10 @@ mod queries;
 mod report;
 mod run;
 
-fn main() {
+fn main(rt: HostRuntime) {
     let mut bytes = [0u8; memories::ALL_BYTES];
     let mut keys = [0u64; memories::ALL_KEYS];
     let mut order = [0u32; memories::ALL_ORDER];
     let mut words = [0u64; memories::ALL_WORDS];
-    run::replay(&mut bytes, &mut keys, &mut order, &mut words);
+    run::replay(rt.stdin(), &mut bytes, &mut keys, &mut order, &mut words);
 }

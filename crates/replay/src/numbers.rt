@@ -1,5 +1,7 @@
 // Numbers in a list: those of a call, of the answer that a line expects, or of the library's answer.
-use libc::STDOUT_FILENO;
+
+// The standard output.
+pub const STDOUT_FILENO: i32 = 1;
 
 // How many numbers a list holds. An instruction has the most, 19.
 pub const CAPACITY: usize = 19;

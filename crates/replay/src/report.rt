@@ -1,8 +1,7 @@
 // Counts the calls of each group and of all groups, and how many answers differ.
 use crate::input::LINE;
 use crate::numbers;
-use crate::numbers::Numbers;
-use libc::STDOUT_FILENO;
+use crate::numbers::{Numbers, STDOUT_FILENO};
 
 // The title is on its line after a letter and a space. At most 128 bytes of it are printed.
 const TITLE_START: usize = 2;

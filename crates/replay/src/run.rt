@@ -9,6 +9,7 @@ use crate::report::Report;
 use crate::{arithmetic, calls, changes, input, parse, queries, report};
 use page_ids::Layout;
 use registers::LENGTH;
+use std::io::Stdin;
 
 // The first byte of a line that is no call.
 const COMMENT: u8 = b'#';
@@ -112,6 +113,7 @@ fn next_number(number: u64, ended: bool) -> u64
 
 // Takes all lines. A proved loop has to end, so it counts lines up to a number that no input has.
 pub fn replay(
+    from: Stdin,
     bytes: &mut [u8; ALL_BYTES],
     keys: &mut [u64; ALL_KEYS],
     order: &mut [u32; ALL_ORDER],
@@ -124,7 +126,7 @@ pub fn replay(
     let mut run = new_run();
     let mut number: u64 = 1;
     while number < LAST_LINE {
-        cursor = input::read_line(&mut block, &mut line, cursor);
+        cursor = input::read_line(from, &mut block, &mut line, cursor);
         let stored = parse::read_call(&line, cursor.length);
         run = with_layout(run, stored.call);
         let answer = answer(

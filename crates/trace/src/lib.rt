@@ -1,4 +1,6 @@
 // Reads a line of a trace: specs/Language.antt says what a line means. The module `text` writes the answers.
+#![tactic(auto)]
+
 ghost use Rattle.std.specs.Prelude.{◌≡◌, [], ◌∷◌, ◌+◌, ◌*◌, ◌≤◌, ◌<◌, ◌^◌, length, take, drop};
 ghost use Rattle.std.proofs.Math.Option.{none};
 ghost use Rattle.word.specs.Value.{value, limbs_value};
@@ -106,6 +108,7 @@ fn kind_of(name: &[u8]) -> Kind
 // ---- numbers
 
 // The digit that a byte stands for, or 16.
+#[tactic(auto, unfolding(crate::specs::Language::digit))]
 fn digit(b: u8) -> u64
     ensures { result ≡ language.digit b }
 {

@@ -1,14 +1,11 @@
 -- What the answers tell.
 -- Assumes nothing.
 use mathlib.Core.Path.{◌≡◌, refl, sym, ap, ◌∙◌, subst}
-use mathlib.Core.Logic.{inl, inr}
-use mathlib.Core.List.{List, [], ◌∷◌, ◌++◌}
+use mathlib.Core.List.{List, ◌++◌}
 use Prim.Native.Nat.{ℕ, zero, suc, ◌+◌, ◌*◌, ◌-◌, ◌≤◌, min}
 use native.Mathlib.Omega.{arith}
 use lib.ListN.{length, get_or, take, drop}
 use lib.Seq.{take_at, drop_at, length-take-le}
-use types.Run.{OneOf}
-use denote.Enum.Declared.{tag_of}
 use Rattle.outcome.specs.Outcome.{Outcome, mapped, answered}
 use Rattle.store.specs.Mem.{Mem, mem, pool_length}
 use Rattle.page_ids.specs.declared.Layout.{Layout}
@@ -21,8 +18,6 @@ use Rattle.trace.specs.declared.Kind.{Kind}
 use Rattle.trace.specs.declared.Kind.TheVariants.{Unread, Open, Write, Read, Snapshot, Rollback}
 use Rattle.trace_text.specs.declared.Answered.{Answered}
 use Rattle.trace_text.specs.declared.Answered.TheVariants as answered
-use Rattle.trace.specs.contracts.Kind.{the_type}
-use Rattle.trace_text.specs.contracts.Answered.{the_type as answered_type}
 use Rattle.trace.specs.Language.{Line, command_line, meaning}
 use Rattle.trace_text.specs.Text.{Reported, word, marks, refused, reply_with}
 use Rattle.trace_calls.specs.declared.Run.{Run}
@@ -69,16 +64,9 @@ module _ (r r' : Run) (m m' : Mem) (t : Reported) (ns : List ℕ) (w : ℕ) wher
       → PartsTell (get_or ns 6 0) (get_or ns 7 0) (get_or ns 8 0) m (command_line k ns w) t m' → TraceTells r m (command_line k ns w) r' t m'
   trace_open k e a p = subst (λ (x : Kind). TraceTells r m (command_line x ns w) r' t m') (sym e) (a, subst (λ (x : Kind). PartsTell (get_or ns 6 0) (get_or ns 7 0) (get_or ns 8 0) m (command_line x ns w) t m') e p)
 
-  none_of : OneOf (0 ∷ 2 ∷ 3 ∷ 4 ∷ 5 ∷ []) 1 → ⊥
-  none_of (inl e) = omega arith
-  none_of (inr (inl e)) = omega arith
-  none_of (inr (inr (inl e))) = omega arith
-  none_of (inr (inr (inr (inl e)))) = omega arith
-  none_of (inr (inr (inr (inr e)))) = omega arith
-
-  pub trace_other : (k : Kind) → OneOf (0 ∷ 2 ∷ 3 ∷ 4 ∷ 5 ∷ []) (tag_of the_type k) → OnOpen r m (command_line k ns w) r' t m' → TraceTells r m (command_line k ns w) r' t m'
+  pub trace_other : (k : Kind) → (k ≡ Open → ⊥) → OnOpen r m (command_line k ns w) r' t m' → TraceTells r m (command_line k ns w) r' t m'
   trace_other Unread o p = p
-  trace_other Open o p = absurd (none_of o)
+  trace_other Open o p = absurd (o refl)
   trace_other Write o p = p
   trace_other Read o p = p
   trace_other Snapshot o p = p
@@ -89,15 +77,9 @@ trace_line r r' m m' t l l' e p = subst (λ (x : Line). TraceTells r m x r' t m'
 
 -- a reply that is not `ok` keeps the counts
 module _ (r : Run) (c p j w x y : ℕ) where
-  none_done : OneOf (0 ∷ 2 ∷ 3 ∷ 4 ∷ []) 1 → ⊥
-  none_done (inl e) = omega arith
-  none_done (inr (inl e)) = omega arith
-  none_done (inr (inr (inl e))) = omega arith
-  none_done (inr (inr (inr e))) = omega arith
-
-  pub after_other : (a : Answered) → OneOf (0 ∷ 2 ∷ 3 ∷ 4 ∷ []) (tag_of answered_type a) → r ≡ after_opening r c p j (reply_with a w x y)
+  pub after_other : (a : Answered) → (a ≡ answered.Done → ⊥) → r ≡ after_opening r c p j (reply_with a w x y)
   after_other answered.Unread o = refl
-  after_other answered.Done o = absurd (none_done o)
+  after_other answered.Done o = absurd (o refl)
   after_other answered.Word o = refl
   after_other answered.Marks o = refl
   after_other answered.Refused o = refl

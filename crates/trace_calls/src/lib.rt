@@ -1,4 +1,6 @@
 // What a line does to the memory. specs/Trace.antt says it; every number of a refusal is the library's own.
+#![tactic(auto)]
+
 ghost use Rattle.std.specs.Prelude.{◌≡◌, min, get_or};
 ghost use Rattle.outcome.specs.Outcome.{answer_outcome};
 ghost use Rattle.word.specs.Value.{value};

@@ -262,8 +262,7 @@ fn are_registers(source: u32, dst0: u32, dst1: u32) -> bool
 // ---- the instructions
 
 // Reads the word at the operand, in the page of an area, and pays for the area's growth.
-#[unsafe(no_mangle)]
-pub extern "C" fn own_load(
+pub fn own_load(
     bytes: &[u8],
     keys: &[u64],
     order: &[u32],
@@ -298,8 +297,7 @@ pub extern "C" fn own_load(
 }
 
 // Writes the word of a register at the operand, in the page of an area, and pays for the area's growth; stops on the hook.
-#[unsafe(no_mangle)]
-pub extern "C" fn own_store(
+pub fn own_store(
     bytes: &mut [u8],
     keys: &mut [u64],
     order: &mut [u32],
@@ -342,8 +340,7 @@ pub extern "C" fn own_store(
 }
 
 // Reads the bytes that a pointer shows from its offset on, at most 32.
-#[unsafe(no_mangle)]
-pub extern "C" fn own_load_pointer(
+pub fn own_load_pointer(
     bytes: &[u8],
     keys: &[u64],
     order: &[u32],
@@ -373,8 +370,7 @@ pub extern "C" fn own_load_pointer(
 }
 
 // Reads the word at the operand in the static page.
-#[unsafe(no_mangle)]
-pub extern "C" fn own_load_static(
+pub fn own_load_static(
     bytes: &[u8],
     keys: &[u64],
     order: &[u32],
@@ -400,8 +396,7 @@ pub extern "C" fn own_load_static(
 }
 
 // Writes the word of a register at the operand in the static page.
-#[unsafe(no_mangle)]
-pub extern "C" fn own_store_static(
+pub fn own_store_static(
     bytes: &mut [u8],
     keys: &mut [u64],
     order: &mut [u32],

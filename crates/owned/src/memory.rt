@@ -27,8 +27,7 @@ use word::Word;
 const CHUNK_BYTES: usize = 256;
 
 // Whether the memory is well formed: the test that every function of the library's C interface makes first if it is lent a memory.
-#[unsafe(no_mangle)]
-pub extern "C" fn own_well_formed(bytes: &[u8], keys: &[u64], order: &[u32], words: &[u64]) -> bool
+pub fn own_well_formed(bytes: &[u8], keys: &[u64], order: &[u32], words: &[u64]) -> bool
     ensures { result ≡ well_formed (mem bytes.now keys.now order.now words.now) }
 {
     formed::well_formed(bytes, keys, order, words)
@@ -37,8 +36,7 @@ pub extern "C" fn own_well_formed(bytes: &[u8], keys: &[u64], order: &[u32], wor
 // ---- opening
 
 // Opens a memory in buffers of the right lengths, with calldata on its page. It requires nothing of what they hold.
-#[unsafe(no_mangle)]
-pub extern "C" fn own_open(
+pub fn own_open(
     bytes: &mut [u8],
     keys: &mut [u64],
     order: &mut [u32],
@@ -80,8 +78,7 @@ pub extern "C" fn own_open(
 // ---- reads
 
 // A word in one piece that a hint knows is read here. All else is behind one call.
-#[unsafe(no_mangle)]
-pub extern "C" fn own_read_u256(
+pub fn own_read_u256(
     bytes: &[u8],
     keys: &[u64],
     order: &[u32],
@@ -110,8 +107,7 @@ pub extern "C" fn own_read_u256(
     word::from_big_endian(hints::word_at(bytes, 256 * s + (address % 256) as usize))
 }
 
-#[unsafe(no_mangle)]
-pub extern "C" fn own_read_u256_partially(
+pub fn own_read_u256_partially(
     bytes: &[u8],
     keys: &[u64],
     order: &[u32],
@@ -135,8 +131,7 @@ pub extern "C" fn own_read_u256_partially(
 }
 
 // An output of any other length than the range has is refused with 8.
-#[unsafe(no_mangle)]
-pub extern "C" fn own_read_range_big_endian(
+pub fn own_read_range_big_endian(
     bytes: &[u8],
     keys: &[u64],
     order: &[u32],
@@ -161,8 +156,7 @@ pub extern "C" fn own_read_range_big_endian(
     ))
 }
 
-#[unsafe(no_mangle)]
-pub extern "C" fn own_read_byte(
+pub fn own_read_byte(
     bytes: &[u8],
     keys: &[u64],
     order: &[u32],
@@ -184,8 +178,7 @@ pub extern "C" fn own_read_byte(
     read.byte
 }
 
-#[unsafe(no_mangle)]
-pub extern "C" fn own_dynamic_len(bytes: &[u8], keys: &[u64], order: &[u32], words: &[u64]) -> u32
+pub fn own_dynamic_len(bytes: &[u8], keys: &[u64], order: &[u32], words: &[u64]) -> u32
     requires { WellFormed (mem bytes.now keys.now order.now words.now) }
     ensures { let m = mem bytes.now keys.now order.now words.now in CallDoes m Call.DynamicLength (done (Value.number result)) m }
 {
@@ -193,8 +186,7 @@ pub extern "C" fn own_dynamic_len(bytes: &[u8], keys: &[u64], order: &[u32], wor
     read.length
 }
 
-#[unsafe(no_mangle)]
-pub extern "C" fn own_snapshot(bytes: &[u8], keys: &[u64], order: &[u32], words: &[u64]) -> Marks
+pub fn own_snapshot(bytes: &[u8], keys: &[u64], order: &[u32], words: &[u64]) -> Marks
     requires { WellFormed (mem bytes.now keys.now order.now words.now) }
     ensures { let m = mem bytes.now keys.now order.now words.now in CallDoes m Call.Snapshot (answered result.refusal (Value.lengths result.heap result.aux)) m }
 {
@@ -202,8 +194,7 @@ pub extern "C" fn own_snapshot(bytes: &[u8], keys: &[u64], order: &[u32], words:
 }
 
 // Copies a chunk, held or not.
-#[unsafe(no_mangle)]
-pub extern "C" fn own_chunk<'a>(
+pub fn own_chunk<'a>(
     bytes: &'a [u8],
     keys: &[u64],
     order: &[u32],
@@ -242,8 +233,7 @@ pub extern "C" fn own_chunk<'a>(
 
 // A word in one piece that a hint knows, on a page without a journal, is written here. All else is behind a call: one for a page with a journal, one for a word in one chunk that no hint knows, one for a word over two chunks.
 // `write_known` in execute.rt does the first for stores. Behind one function for both the compiler would inline it in neither.
-#[unsafe(no_mangle)]
-pub extern "C" fn own_write_u256(
+pub fn own_write_u256(
     bytes: &mut [u8],
     keys: &mut [u64],
     order: &mut [u32],
@@ -279,8 +269,7 @@ pub extern "C" fn own_write_u256(
     write_steps::write_word(bytes, keys, order, words, page, address, word)
 }
 
-#[unsafe(no_mangle)]
-pub extern "C" fn own_write_bytes(
+pub fn own_write_bytes(
     bytes: &mut [u8],
     keys: &mut [u64],
     order: &mut [u32],
@@ -303,8 +292,7 @@ pub extern "C" fn own_write_bytes(
     ))
 }
 
-#[unsafe(no_mangle)]
-pub extern "C" fn own_allocate_at(
+pub fn own_allocate_at(
     bytes: &mut [u8],
     keys: &mut [u64],
     order: &mut [u32],
@@ -317,8 +305,7 @@ pub extern "C" fn own_allocate_at(
     outcome::status(writes::on_formed::allocate_at(bytes, keys, order, words, PageId(page)))
 }
 
-#[unsafe(no_mangle)]
-pub extern "C" fn own_allocate_with_content_at(
+pub fn own_allocate_with_content_at(
     bytes: &mut [u8],
     keys: &mut [u64],
     order: &mut [u32],
@@ -341,8 +328,7 @@ pub extern "C" fn own_allocate_with_content_at(
 
 // ---- freeing
 
-#[unsafe(no_mangle)]
-pub extern "C" fn own_deallocate(
+pub fn own_deallocate(
     bytes: &mut [u8],
     keys: &mut [u64],
     order: &mut [u32],
@@ -355,8 +341,7 @@ pub extern "C" fn own_deallocate(
     outcome::status(freeing::on_formed::deallocate(bytes, keys, order, words, PageId(page)))
 }
 
-#[unsafe(no_mangle)]
-pub extern "C" fn own_compact_to_window(
+pub fn own_compact_to_window(
     bytes: &mut [u8],
     keys: &mut [u64],
     order: &mut [u32],
@@ -379,8 +364,7 @@ pub extern "C" fn own_compact_to_window(
     ))
 }
 
-#[unsafe(no_mangle)]
-pub extern "C" fn own_truncate_dynamic_to(
+pub fn own_truncate_dynamic_to(
     bytes: &mut [u8],
     keys: &mut [u64],
     order: &mut [u32],
@@ -395,8 +379,7 @@ pub extern "C" fn own_truncate_dynamic_to(
 
 // ---- history
 
-#[unsafe(no_mangle)]
-pub extern "C" fn own_rollback(
+pub fn own_rollback(
     bytes: &mut [u8],
     keys: &[u64],
     order: &[u32],
@@ -410,13 +393,7 @@ pub extern "C" fn own_rollback(
     outcome::status(history::on_formed::rollback(bytes, keys, order, words, heap, aux))
 }
 
-#[unsafe(no_mangle)]
-pub extern "C" fn own_delete_history(
-    bytes: &[u8],
-    keys: &[u64],
-    order: &[u32],
-    words: &mut [u64],
-) -> u32
+pub fn own_delete_history(bytes: &[u8], keys: &[u64], order: &[u32], words: &mut [u64]) -> u32
     requires { WellFormed (mem bytes.now keys.now order.now words.old) }
     ensures { CallDoes (mem bytes.now keys.now order.now words.old) Call.DeleteHistory (answered result nothing) (mem bytes.now keys.now order.now words.new) }
 {
@@ -454,8 +431,7 @@ fn verdict(comparison: Comparison) -> Compared
     }
 }
 
-#[unsafe(no_mangle)]
-pub extern "C" fn own_compare(
+pub fn own_compare(
     bytes: &[u8],
     keys: &[u64],
     order: &[u32],

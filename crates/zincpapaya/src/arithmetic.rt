@@ -18,8 +18,7 @@ use page_ids::{BasePage, PageId};
 // ---- page ids
 
 // The kind's number and the group of a page id.
-#[unsafe(no_mangle)]
-pub extern "C" fn zp_decode(
+pub fn zp_decode(
     static_memory: u32,
     calldata_page: u32,
     bootloader_heap: u32,
@@ -43,38 +42,33 @@ pub extern "C" fn zp_decode(
 }
 
 // The pages of a base page and back; 4 where a number leaves 32 bits. A code page has the base page's own number, and is never refused.
-#[unsafe(no_mangle)]
-pub extern "C" fn zp_heap_page_from_base(base: u32, out: &mut [u64]) -> u32
+pub fn zp_heap_page_from_base(base: u32, out: &mut [u64]) -> u32
     ensures { Gives 1 (sum base 2) one result out.old out.new }
 {
     answers::give_page(out, page_ids::heap_page_from_base(BasePage(base)))
 }
 
-#[unsafe(no_mangle)]
-pub extern "C" fn zp_aux_heap_page_from_base(base: u32, out: &mut [u64]) -> u32
+pub fn zp_aux_heap_page_from_base(base: u32, out: &mut [u64]) -> u32
     ensures { Gives 1 (sum base 3) one result out.old out.new }
 {
     answers::give_page(out, page_ids::aux_heap_page_from_base(BasePage(base)))
 }
 
-#[unsafe(no_mangle)]
-pub extern "C" fn zp_code_page_from_base(base: u32, out: &mut [u64]) -> u32
+pub fn zp_code_page_from_base(base: u32, out: &mut [u64]) -> u32
     ensures { Gives 1 (done base) one result out.old out.new }
 {
     let page = page_ids::code_page_from_base(BasePage(base));
     answers::give_number(out, 0, frames::wide(page.0))
 }
 
-#[unsafe(no_mangle)]
-pub extern "C" fn zp_base_page_from_heap(heap: u32, out: &mut [u64]) -> u32
+pub fn zp_base_page_from_heap(heap: u32, out: &mut [u64]) -> u32
     ensures { Gives 1 (difference heap 2) one result out.old out.new }
 {
     answers::give_base(out, page_ids::base_page_from_heap(PageId(heap)))
 }
 
 // The next far call's base page.
-#[unsafe(no_mangle)]
-pub extern "C" fn zp_next_page_group(base: u32, stride: u32, out: &mut [u64]) -> u32
+pub fn zp_next_page_group(base: u32, stride: u32, out: &mut [u64]) -> u32
     ensures { Gives 1 (sum base stride) one result out.old out.new }
 {
     answers::give_base(out, page_ids::next_page_group(BasePage(base), stride))
@@ -83,8 +77,7 @@ pub extern "C" fn zp_next_page_group(base: u32, stride: u32, out: &mut [u64]) ->
 // ---- fat pointers
 
 // Offset, page, start and length of a word.
-#[unsafe(no_mangle)]
-pub extern "C" fn zp_fat_pointer_from_u256(
+pub fn zp_fat_pointer_from_u256(
     limb0: u64,
     limb1: u64,
     limb2: u64,
@@ -98,8 +91,7 @@ pub extern "C" fn zp_fat_pointer_from_u256(
 }
 
 // The word of offset, page, start and length.
-#[unsafe(no_mangle)]
-pub extern "C" fn zp_fat_pointer_into_u256(
+pub fn zp_fat_pointer_into_u256(
     offset: u32,
     page: u32,
     start: u32,
@@ -121,8 +113,7 @@ pub extern "C" fn zp_fat_pointer_into_u256(
 // ---- gas
 
 // The gas that is left, and whether the amount was paid.
-#[unsafe(no_mangle)]
-pub extern "C" fn zp_use_gas(gas: u32, amount: u32, out: &mut [u64]) -> u32
+pub fn zp_use_gas(gas: u32, amount: u32, out: &mut [u64]) -> u32
     ensures { Gives 2 (done (gas_numbers (used gas amount))) as_they_are result out.old out.new }
 {
     let gas = state::use_gas(gas, amount);
@@ -135,8 +126,7 @@ pub extern "C" fn zp_use_gas(gas: u32, amount: u32, out: &mut [u64]) -> u32
 }
 
 // The growth of one area is paid from the frame's gas, as instructions do it; `out` is 1 where it was, else 0.
-#[unsafe(no_mangle)]
-pub extern "C" fn zp_grow_heap(frame: &mut [u32], aux: bool, new_bound: u32, out: &mut [u64]) -> u32
+pub fn zp_grow_heap(frame: &mut [u32], aux: bool, new_bound: u32, out: &mut [u64]) -> u32
     ensures { Grows frame.old out.old (frame_grown (frame_from frame.old) (area_of aux) new_bound) result frame.new out.new }
 {
     if !executions::lengths_fit(frame, out, 1) {
@@ -149,8 +139,7 @@ pub extern "C" fn zp_grow_heap(frame: &mut [u32], aux: bool, new_bound: u32, out
 }
 
 // What loads at these addresses of one area, one after another, spend of the gas, which bound they reach, and where they end.
-#[unsafe(no_mangle)]
-pub extern "C" fn zp_quote(list: &[u32], gas: u32, bound: u32, out: &mut [u64]) -> u32
+pub fn zp_quote(list: &[u32], gas: u32, bound: u32, out: &mut [u64]) -> u32
     ensures { Gives 3 (mapped end_numbers (quoted list.now gas bound)) as_they_are result out.old out.new }
 {
     answers::give_quote(out, state::quote::quote(list, gas, bound))

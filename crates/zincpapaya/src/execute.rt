@@ -12,8 +12,7 @@ use abi::status::UNFIT;
 use instructions::on_formed;
 
 // Reads the word at the operand, in the page of an area, and pays for the area's growth.
-#[unsafe(no_mangle)]
-pub extern "C" fn zp_load(
+pub fn zp_load(
     bytes: &[u8],
     keys: &[u64],
     order: &[u32],
@@ -42,8 +41,7 @@ pub extern "C" fn zp_load(
 }
 
 // Writes the word of a register at the operand, in the page of an area, and pays for the area's growth; stops on the hook.
-#[unsafe(no_mangle)]
-pub extern "C" fn zp_store(
+pub fn zp_store(
     bytes: &mut [u8],
     keys: &mut [u64],
     order: &mut [u32],
@@ -84,8 +82,7 @@ pub extern "C" fn zp_store(
 }
 
 // Reads the bytes that a pointer shows from its offset on, at most 32. `out` has one number: how many bytes of the pointer's range lead the word.
-#[unsafe(no_mangle)]
-pub extern "C" fn zp_load_pointer(
+pub fn zp_load_pointer(
     bytes: &[u8],
     keys: &[u64],
     order: &[u32],
@@ -117,8 +114,7 @@ pub extern "C" fn zp_load_pointer(
 }
 
 // Reads the word at the operand in the static page.
-#[unsafe(no_mangle)]
-pub extern "C" fn zp_load_static(
+pub fn zp_load_static(
     bytes: &[u8],
     keys: &[u64],
     order: &[u32],
@@ -145,8 +141,7 @@ pub extern "C" fn zp_load_static(
 }
 
 // Writes the word of a register at the operand in the static page.
-#[unsafe(no_mangle)]
-pub extern "C" fn zp_store_static(
+pub fn zp_store_static(
     bytes: &mut [u8],
     keys: &mut [u64],
     order: &mut [u32],

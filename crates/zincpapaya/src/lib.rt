@@ -1,6 +1,8 @@
-// The library as C sees it: include/zincpapaya.h declares each function, with the lengths and the statuses that it speaks of.
+// The library's calls as C makes them: include/zincpapaya.h declares each function, with the lengths and the statuses that it speaks of. The crate zincpapaya_c exports them under the same names.
 // Each takes numbers and slices alone, demands nothing of them, and is thin over the public call of the same name in a crate below.
 // An instruction makes the test itself and calls what comes after it, since the length of its registers is tested first.
+#![tactic(auto)]
+
 pub mod arithmetic;
 pub mod execute;
 pub mod memory;

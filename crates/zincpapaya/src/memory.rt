@@ -17,8 +17,7 @@ const CHUNK_BYTES: usize = 256;
 // ---- opening
 
 // Opens a memory in lent buffers, with calldata on its page.
-#[unsafe(no_mangle)]
-pub extern "C" fn zp_open(
+pub fn zp_open(
     bytes: &mut [u8],
     keys: &mut [u64],
     order: &mut [u32],
@@ -59,8 +58,7 @@ pub extern "C" fn zp_open(
 
 // ---- reads
 
-#[unsafe(no_mangle)]
-pub extern "C" fn zp_read_u256(
+pub fn zp_read_u256(
     bytes: &[u8],
     keys: &[u64],
     order: &[u32],
@@ -77,8 +75,7 @@ pub extern "C" fn zp_read_u256(
     answers::give_word(out, refusal, word)
 }
 
-#[unsafe(no_mangle)]
-pub extern "C" fn zp_read_u256_partially(
+pub fn zp_read_u256_partially(
     bytes: &[u8],
     keys: &[u64],
     order: &[u32],
@@ -105,8 +102,7 @@ pub extern "C" fn zp_read_u256_partially(
 }
 
 // An output of any other length than the range has is refused with 8, and none is unfit.
-#[unsafe(no_mangle)]
-pub extern "C" fn zp_read_range_big_endian(
+pub fn zp_read_range_big_endian(
     bytes: &[u8],
     keys: &[u64],
     order: &[u32],
@@ -130,8 +126,7 @@ pub extern "C" fn zp_read_range_big_endian(
     ))
 }
 
-#[unsafe(no_mangle)]
-pub extern "C" fn zp_read_byte(
+pub fn zp_read_byte(
     bytes: &[u8],
     keys: &[u64],
     order: &[u32],
@@ -148,8 +143,7 @@ pub extern "C" fn zp_read_byte(
     answers::give_number(out, refusal, byte as u64)
 }
 
-#[unsafe(no_mangle)]
-pub extern "C" fn zp_dynamic_len(
+pub fn zp_dynamic_len(
     bytes: &[u8],
     keys: &[u64],
     order: &[u32],
@@ -164,14 +158,7 @@ pub extern "C" fn zp_dynamic_len(
     answers::give_number(out, refusal, count as u64)
 }
 
-#[unsafe(no_mangle)]
-pub extern "C" fn zp_snapshot(
-    bytes: &[u8],
-    keys: &[u64],
-    order: &[u32],
-    words: &[u64],
-    out: &mut [u64],
-) -> u32
+pub fn zp_snapshot(bytes: &[u8], keys: &[u64], order: &[u32], words: &[u64], out: &mut [u64]) -> u32
     ensures { let m = mem bytes.now keys.now order.now words.now in Gives 2 (answer_of m Call.Snapshot) marks_in result out.old out.new }
 {
     let marks = reads::snapshot(bytes, keys, order, words);
@@ -182,8 +169,7 @@ pub extern "C" fn zp_snapshot(
 }
 
 // Copies a chunk, held or not.
-#[unsafe(no_mangle)]
-pub extern "C" fn zp_chunk<'a>(
+pub fn zp_chunk<'a>(
     bytes: &'a [u8],
     keys: &[u64],
     order: &[u32],
@@ -219,8 +205,7 @@ pub extern "C" fn zp_chunk<'a>(
 
 // ---- writes and allocation
 
-#[unsafe(no_mangle)]
-pub extern "C" fn zp_write_u256(
+pub fn zp_write_u256(
     bytes: &mut [u8],
     keys: &mut [u64],
     order: &mut [u32],
@@ -246,8 +231,7 @@ pub extern "C" fn zp_write_u256(
     ))
 }
 
-#[unsafe(no_mangle)]
-pub extern "C" fn zp_write_bytes(
+pub fn zp_write_bytes(
     bytes: &mut [u8],
     keys: &mut [u64],
     order: &mut [u32],
@@ -269,8 +253,7 @@ pub extern "C" fn zp_write_bytes(
     ))
 }
 
-#[unsafe(no_mangle)]
-pub extern "C" fn zp_allocate_at(
+pub fn zp_allocate_at(
     bytes: &mut [u8],
     keys: &mut [u64],
     order: &mut [u32],
@@ -282,8 +265,7 @@ pub extern "C" fn zp_allocate_at(
     outcome::status(writes::allocate_at(bytes, keys, order, words, PageId(page)))
 }
 
-#[unsafe(no_mangle)]
-pub extern "C" fn zp_allocate_with_content_at(
+pub fn zp_allocate_with_content_at(
     bytes: &mut [u8],
     keys: &mut [u64],
     order: &mut [u32],
@@ -305,8 +287,7 @@ pub extern "C" fn zp_allocate_with_content_at(
 
 // ---- freeing
 
-#[unsafe(no_mangle)]
-pub extern "C" fn zp_deallocate(
+pub fn zp_deallocate(
     bytes: &mut [u8],
     keys: &mut [u64],
     order: &mut [u32],
@@ -318,8 +299,7 @@ pub extern "C" fn zp_deallocate(
     outcome::status(freeing::deallocate(bytes, keys, order, words, PageId(page)))
 }
 
-#[unsafe(no_mangle)]
-pub extern "C" fn zp_compact_to_window(
+pub fn zp_compact_to_window(
     bytes: &mut [u8],
     keys: &mut [u64],
     order: &mut [u32],
@@ -341,8 +321,7 @@ pub extern "C" fn zp_compact_to_window(
     ))
 }
 
-#[unsafe(no_mangle)]
-pub extern "C" fn zp_truncate_dynamic_to(
+pub fn zp_truncate_dynamic_to(
     bytes: &mut [u8],
     keys: &mut [u64],
     order: &mut [u32],
@@ -356,8 +335,7 @@ pub extern "C" fn zp_truncate_dynamic_to(
 
 // ---- history
 
-#[unsafe(no_mangle)]
-pub extern "C" fn zp_rollback(
+pub fn zp_rollback(
     bytes: &mut [u8],
     keys: &[u64],
     order: &[u32],
@@ -370,13 +348,7 @@ pub extern "C" fn zp_rollback(
     outcome::status(history::rollback(bytes, keys, order, words, heap, aux))
 }
 
-#[unsafe(no_mangle)]
-pub extern "C" fn zp_delete_history(
-    bytes: &[u8],
-    keys: &[u64],
-    order: &[u32],
-    words: &mut [u64],
-) -> u32
+pub fn zp_delete_history(bytes: &[u8], keys: &[u64], order: &[u32], words: &mut [u64]) -> u32
     ensures { CallDoes (mem bytes.now keys.now order.now words.old) (Call.DeleteHistory) (answered result nothing) (mem bytes.now keys.now order.now words.new) }
 {
     outcome::status(history::delete_history(bytes, keys, order, words))
@@ -384,8 +356,7 @@ pub extern "C" fn zp_delete_history(
 
 // ---- comparison
 
-#[unsafe(no_mangle)]
-pub extern "C" fn zp_compare(
+pub fn zp_compare(
     bytes: &[u8],
     keys: &[u64],
     order: &[u32],

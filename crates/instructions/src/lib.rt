@@ -1,5 +1,7 @@
 // The five heap instructions. Each takes its operands from the registers and writes its results there, as its places say.
 // It tests first that the memory is well formed (refusal 3); `on_formed` has what is left of it. vm2: heap_access.rs.
+#![tactic(auto)]
+
 ghost use Rattle.registers.specs.Registers.{registers_from};
 ghost use Rattle.store.specs.Mem.{mem};
 ghost use Rattle.view.specs.Calls.{Call};

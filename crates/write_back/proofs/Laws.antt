@@ -187,5 +187,5 @@ module _ (m : Mem) (formed : WellFormed m) where
                 (w.answer (λ (z : Executed). pointer_loaded z x.bytes_read)
                 ∙ ap (λ (n : ℕ). status_outcome gone (gives n) x.execution.status (result_of x.execution)) step.bytes_read
                 ∙ read_value_lem (panicked_into read p.dst1) (loaded_into read p) q (result_of x.execution) x.execution.status);
-            none = λ e. step.bytes_read ∙ ap (λ (s : ExecutionStatus). bytes_read_of s q) (sym w.status) ∙ unread _ q r.frame (registers_from l') r.status e;
+            none = λ e. step.bytes_read ∙ ap (λ (s : ExecutionStatus). bytes_read_of s q) (sym w.status) ∙ unread (λ (z : Executed). pointer_loaded z x.bytes_read) q r.frame (registers_from l') r.status e;
           }

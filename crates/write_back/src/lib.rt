@@ -1,5 +1,7 @@
 // What an instruction returns, and the results of its step written to the registers: dst0 first, and then dst1.
 // vm2: the last lines of the handlers in heap_access.rs, and `full_boilerplate` of common.rs, which clears a dst1 that was not written.
+#![tactic(auto)]
+
 ghost use Rattle.std.specs.Prelude.{◌≡◌, true, ◌≤◌, length};
 ghost use Rattle.word.specs.Value.{value};
 ghost use Rattle.registers.specs.Registers.{registers_from, operand_of, is_register, cleared};

@@ -1,0 +1,14 @@
+use mathlib.Core.List.{[], ◌∷◌}
+use Rattle.abi.proofs.Outputs.{gives_unfit, gives_refused, gives_value}
+use Rattle.frames.proofs.Lists.{overwritten}
+use Rattle.abi.proofs.answers.give_pair.Goals as goal
+
+pub returns : goal.returns
+returns c =
+    gives_value c.if-out-ne2.false c.if-refusal-ne0.false (overwritten (c.args.first ∷ c.args.second ∷ []) c.args.out.now c.if-out-ne2.false)
+
+pub returns-then-out-ne2 : goal.returns-then-out-ne2
+returns-then-out-ne2 c = gives_unfit c.if-out-ne2.true
+
+pub returns-then-refusal-ne0 : goal.returns-then-refusal-ne0
+returns-then-refusal-ne0 c = gives_refused _ _ c.if-out-ne2.false c.if-refusal-ne0.true

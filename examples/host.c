@@ -2,7 +2,7 @@
  * A host in C: a memory in four buffers, a write, a snapshot, quotes, a load that pays for growth, a rollback, a refusal.
  * From the repository's folder:
  *
- *     rt staticlib zincpapaya
+ *     tools/build zincpapaya
  *     cc -Iinclude examples/host.c target/staticlib/libzincpapaya.a -o target/host && target/host
  */
 #include <inttypes.h>

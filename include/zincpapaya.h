@@ -1,6 +1,6 @@
 /*
  * Zincpapaya: the EraVM's memory. Each function here has a contract, and a proof that it keeps it.
- * Link target/staticlib/libzincpapaya.a, which `rt staticlib zincpapaya` writes for x86-64 Linux; it asks for
+ * Link target/staticlib/libzincpapaya.a, which `tools/build zincpapaya` writes for x86-64 Linux; it asks for
  * memcpy and memset, and for nothing else. examples/host.c is a small host.
  *
  * A MEMORY is four buffers that the host owns and lends to every call. Their lengths follow from the

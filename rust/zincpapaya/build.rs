@@ -1,4 +1,4 @@
-//! Links the archives that `rt staticlib` writes: `libzincpapaya.a`, with the calls that test the
+//! Links the archives that `tools/build` writes: `libzincpapaya.a`, with the calls that test the
 //! memory first, and `libowned.a`, with those of a memory that `Heaps` owns.
 
 use std::{
@@ -49,6 +49,6 @@ fn linked(folder: &Path, name: &str) -> bool {
 fn explain(folder: &Path, name: &str) {
     let archive = format!("lib{name}.a");
     eprintln!("zincpapaya: there is no {}", folder.join(&archive).display());
-    eprintln!("zincpapaya: run `rt staticlib {name}` first, in the repository's own folder,");
+    eprintln!("zincpapaya: run `tools/build {name}` first, in the repository's own folder,");
     eprintln!("zincpapaya: or let ZINCPAPAYA_LIB name the folder that has {archive}");
 }

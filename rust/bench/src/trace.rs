@@ -17,7 +17,7 @@ const PROGRAM: &str = concat!(env!("CARGO_MANIFEST_DIR"), "/../../target/bin/hea
 
 pub fn run(runs: usize) {
     if !Path::new(PROGRAM).exists() {
-        println!("\nheaptrace: not timed, since `rt check heaptrace` has not built it");
+        println!("\nheaptrace: not timed, since `tools/build heaptrace` has not built it");
         return;
     }
     let lines = lines();

@@ -1,9 +1,9 @@
 //! That a function of the library is the same wherever it is declared: its name, the names and types of
 //! its arguments, its result, and the structs among them. One argument has another name in the header.
 //!
-//! - Checked functions: the source in Rattle, `crates/zincpapaya/src`, is compared with
+//! - Checked functions: the exports in Rattle, `crates/zincpapaya_c/src`, are compared with
 //!   `include/zincpapaya.h`, and the header with `ffi.rs`.
-//! - Functions of an owned memory: the source in Rattle, `crates/owned/src`, is compared with
+//! - Functions of an owned memory: the exports in Rattle, `crates/owned_c/src`, are compared with
 //!   `memory/calls.rs`. No header has them.
 
 use std::{collections::BTreeMap, fs, mem::size_of};
@@ -16,6 +16,10 @@ const FFI: &str = include_str!("../src/ffi.rs");
 const OWNED: [&str; 2] = [
     include_str!("../../../crates/owned/src/memory.rt"),
     include_str!("../../../crates/owned/src/execute.rt"),
+];
+const EXPORTED: [&str; 2] = [
+    include_str!("../../../crates/owned_c/src/memory.rt"),
+    include_str!("../../../crates/owned_c/src/execute.rt"),
 ];
 const CALLS: &str = include_str!("../src/memory/calls.rs");
 
@@ -124,7 +128,7 @@ fn exported(name: &str) -> Functions {
     let texts = files.map(|file| fs::read_to_string(file.expect("a file").path()).expect("a text"));
     let mut functions = Functions::new();
     for text in texts {
-        let exports = declarations(&text, "#[no_mangle]\npub extern \"C\" fn ", "");
+        let exports = declarations(&text, "#[unsafe(no_mangle)]\npub extern \"C\" fn ", "");
         functions.extend(exports.into_iter().map(|[name, arguments, rest]| {
             let name = name.trim_end_matches("<'a>");
             let result = rest.trim_start().strip_prefix("->").expect("each returns something");
@@ -172,8 +176,8 @@ fn same(theirs: &Functions, ours: &Functions, least: usize) {
 }
 
 #[test]
-fn the_header_declares_what_the_crate_zincpapaya_exports() {
-    same(&exported("zincpapaya"), &header(HEADER), 34);
+fn the_header_declares_what_the_crate_zincpapaya_c_exports() {
+    same(&exported("zincpapaya_c"), &header(HEADER), 34);
 }
 
 #[test]
@@ -182,8 +186,8 @@ fn ffi_declares_what_the_header_does() {
 }
 
 #[test]
-fn calls_declares_what_the_crate_owned_exports() {
-    same(&exported("owned"), &declared(CALLS, "own_"), 24);
+fn calls_declares_what_the_crate_owned_c_exports() {
+    same(&exported("owned_c"), &declared(CALLS, "own_"), 24);
 }
 
 /// Places of the header, each with something else that a compiler of C would take.
@@ -212,7 +216,7 @@ const FAULTS: [(&str, &str); 12] = [
 
 #[test]
 fn a_fault_of_the_header_is_found() {
-    let exported = exported("zincpapaya");
+    let exported = exported("zincpapaya_c");
     for (right, wrong) in FAULTS {
         assert_eq!(HEADER.matches(right).count(), 1, "{right}");
         assert_ne!(exported, header(&HEADER.replace(right, wrong)), "{wrong}");
@@ -223,8 +227,9 @@ fn a_fault_of_the_header_is_found() {
 fn fields(text: &str, name: &str) -> Vec<Argument> {
     let begin = format!("struct {name} {{");
     let (before, rest) = text.split_once(&begin).expect("the struct is there");
-    let before = before.trim_end().trim_end_matches("pub").trim_end();
-    assert!(before.ends_with("#[repr(C)]"), "{name}");
+    let before = before.trim_end().trim_end_matches("pub");
+    let mut attributes = before.lines().rev().take_while(|line| line.starts_with("#["));
+    assert!(attributes.any(|line| line == "#[repr(C)]"), "{name}");
     let lines = rest.split_once('}').expect("the struct ends").0.lines().map(str::trim);
     let fields = lines.filter(|line| !line.is_empty() && !line.starts_with("//"));
     fields
@@ -263,9 +268,8 @@ fn registers_have_the_length_that_they_have_in_rattle() {
     let registers = include_str!("../../../crates/registers/src/lib.rt");
     assert!(registers.contains("pub const LENGTH: usize = 65;"));
     assert_eq!(size_of::<Registers>(), 65 * size_of::<u64>());
-    let [memory, execute] = OWNED;
+    let [memory, execute] = EXPORTED;
     assert!(!memory.contains("registers:"));
-    // Only the exported functions count: the others take a slice.
     let exported: Vec<&str> = execute.split("pub extern \"C\" fn ").skip(1).collect();
     assert_eq!(exported.len(), 5);
     for function in exported {

@@ -42,9 +42,9 @@ rules = record {
       lifetimes = c.lifetimes;
       args = args_v c.lifetimes ps Γ.locals ar u;
       result = c.result;
-      last = c.last;
+      last = c.new;
       asked = asked;
-      kept = c.kept;
+      kept = c.auto;
       ensures = c.ensures;
     };
     same = refl;

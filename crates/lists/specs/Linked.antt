@@ -57,7 +57,7 @@ use Rattle.zincpapaya.proofs.execute.zp_load_static.Kinds as zp_load_static_kind
 use Rattle.zincpapaya.proofs.execute.zp_load_static.Reads as zp_load_static_reads
 use Rattle.zincpapaya.proofs.execute.zp_store_static.Kinds as zp_store_static_kinds
 use Rattle.zincpapaya.proofs.execute.zp_store_static.Reads as zp_store_static_reads
-use Rattle.lists.specs.Went.{Went, lent, rest, exits}
+use Rattle.lists.specs.Went.{Went, lent, lent_words, lent_bytes_words, lent_mut, rest, exits}
 
 -- the part that a copying lookup with the status r shows: its output, or none where it is refused
 abbrev pub copied_part : ℕ → List ℕ → List ℕ
@@ -68,10 +68,10 @@ pub data LinkedStep : Mem → Call → Outcome Value → Mem → Type 0 where
   did_zp_open :
       (w : Went zp_open_kinds.ps zp_open_kinds.r zp_open_reads.Asked zp_open_reads.Learnt) →
       LinkedStep
-      (lent w.args)
+      (lent_mut w.args)
       (Open (setting_from (layout_from (rest w.args).0 (rest w.args).1.0 (rest w.args).1.1.0 (rest w.args).1.1.1.0 (rest w.args).1.1.1.1.0 (rest w.args).1.1.1.1.1.0) (rest w.args).1.1.1.1.1.1.0 (rest w.args).1.1.1.1.1.1.1.0 (rest w.args).1.1.1.1.1.1.1.1.0) (rest w.args).1.1.1.1.1.1.1.1.1.0.now)
       (answered w.result nothing)
-      (lent (exits w))
+      (lent_mut (exits w))
   did_zp_read_word :
       (w : Went zp_read_u256_kinds.ps zp_read_u256_kinds.r zp_read_u256_reads.Asked zp_read_u256_reads.Learnt) →
       length (rest w.args).1.1.0.now ≡ 4 →
@@ -139,52 +139,52 @@ pub data LinkedStep : Mem → Call → Outcome Value → Mem → Type 0 where
   did_zp_write_word :
       (w : Went zp_write_u256_kinds.ps zp_write_u256_kinds.r zp_write_u256_reads.Asked zp_write_u256_reads.Learnt) →
       LinkedStep
-      (lent w.args)
+      (lent_mut w.args)
       (WriteWord (rest w.args).0 (rest w.args).1.0 (limbs_value (rest w.args).1.1.0 (rest w.args).1.1.1.0 (rest w.args).1.1.1.1.0 (rest w.args).1.1.1.1.1.0))
       (answered w.result nothing)
-      (lent (exits w))
+      (lent_mut (exits w))
   did_zp_write_bytes :
       (w : Went zp_write_bytes_kinds.ps zp_write_bytes_kinds.r zp_write_bytes_reads.Asked zp_write_bytes_reads.Learnt) →
       LinkedStep
-      (lent w.args)
+      (lent_mut w.args)
       (WriteBytes (rest w.args).0 (rest w.args).1.0 (rest w.args).1.1.0.now)
       (answered w.result nothing)
-      (lent (exits w))
+      (lent_mut (exits w))
   did_zp_allocate :
       (w : Went zp_allocate_at_kinds.ps zp_allocate_at_kinds.r zp_allocate_at_reads.Asked zp_allocate_at_reads.Learnt) →
       LinkedStep
-      (lent w.args)
+      (lent_mut w.args)
       (Allocate (rest w.args).0 [])
       (answered w.result nothing)
-      (lent (exits w))
+      (lent_mut (exits w))
   did_zp_allocate_with :
       (w : Went zp_allocate_with_content_at_kinds.ps zp_allocate_with_content_at_kinds.r zp_allocate_with_content_at_reads.Asked zp_allocate_with_content_at_reads.Learnt) →
       LinkedStep
-      (lent w.args)
+      (lent_mut w.args)
       (Allocate (rest w.args).0 (rest w.args).1.0.now)
       (answered w.result nothing)
-      (lent (exits w))
+      (lent_mut (exits w))
   did_zp_free :
       (w : Went zp_deallocate_kinds.ps zp_deallocate_kinds.r zp_deallocate_reads.Asked zp_deallocate_reads.Learnt) →
       LinkedStep
-      (lent w.args)
+      (lent_mut w.args)
       (Free (rest w.args).0)
       (answered w.result nothing)
-      (lent (exits w))
+      (lent_mut (exits w))
   did_zp_window :
       (w : Went zp_compact_to_window_kinds.ps zp_compact_to_window_kinds.r zp_compact_to_window_reads.Asked zp_compact_to_window_reads.Learnt) →
       LinkedStep
-      (lent w.args)
+      (lent_mut w.args)
       (Window (rest w.args).0 (rest w.args).1.0 (rest w.args).1.1.0)
       (answered w.result nothing)
-      (lent (exits w))
+      (lent_mut (exits w))
   did_zp_truncate :
       (w : Went zp_truncate_dynamic_to_kinds.ps zp_truncate_dynamic_to_kinds.r zp_truncate_dynamic_to_reads.Asked zp_truncate_dynamic_to_reads.Learnt) →
       LinkedStep
-      (lent w.args)
+      (lent_mut w.args)
       (Truncate (rest w.args).0)
       (answered w.result nothing)
-      (lent (exits w))
+      (lent_mut (exits w))
   -- a comparison is lent two memories; this one is the left, the right, or both
   did_zp_compare_left :
       (w : Went zp_compare_kinds.ps zp_compare_kinds.r zp_compare_reads.Asked zp_compare_reads.Learnt) →
@@ -214,17 +214,17 @@ pub data LinkedStep : Mem → Call → Outcome Value → Mem → Type 0 where
   did_zp_rollback :
       (w : Went zp_rollback_kinds.ps zp_rollback_kinds.r zp_rollback_reads.Asked zp_rollback_reads.Learnt) →
       LinkedStep
-      (lent w.args)
+      (lent_bytes_words w.args)
       (Rollback (rest w.args).0 (rest w.args).1.0)
       (answered w.result nothing)
-      (lent (exits w))
+      (lent_bytes_words (exits w))
   did_zp_delete_history :
       (w : Went zp_delete_history_kinds.ps zp_delete_history_kinds.r zp_delete_history_reads.Asked zp_delete_history_reads.Learnt) →
       LinkedStep
-      (lent w.args)
+      (lent_words w.args)
       DeleteHistory
       (answered w.result nothing)
-      (lent (exits w))
+      (lent_words (exits w))
   -- the frame has six numbers, and registers 65
   did_zp_load :
       (w : Went zp_load_kinds.ps zp_load_kinds.r zp_load_reads.Asked zp_load_reads.Learnt) →
@@ -239,10 +239,10 @@ pub data LinkedStep : Mem → Call → Outcome Value → Mem → Type 0 where
       (w : Went zp_store_kinds.ps zp_store_kinds.r zp_store_reads.Asked zp_store_reads.Learnt) →
       (fit (rest w.args).0.now (rest w.args).1.0.now 65 && eqb (length (rest w.args).1.1.1.1.1.1.1.1.1.1.1.0.now) 1) ≡ true →
       LinkedStep
-      (lent w.args)
+      (lent_mut w.args)
       (Store (area_of (rest w.args).1.1.0) (frame_from (rest w.args).0.now) (registers_from (rest w.args).1.0.now) (store_places_from (rest w.args).1.1.1.0 (rest w.args).1.1.1.1.0 (rest w.args).1.1.1.1.1.0 (rest w.args).1.1.1.1.1.1.0 (rest w.args).1.1.1.1.1.1.1.0) (rest w.args).1.1.1.1.1.1.1.1.0 (hook_from (rest w.args).1.1.1.1.1.1.1.1.1.0 (rest w.args).1.1.1.1.1.1.1.1.1.1.0))
       (outcome_from executed w.result (get_or (rest (exits w)).1.1.1.1.1.1.1.1.1.1.1.0.now 0 0) (rest (exits w)).0.now (rest (exits w)).1.0.now)
-      (lent (exits w))
+      (lent_mut (exits w))
   did_zp_load_pointer :
       (w : Went zp_load_pointer_kinds.ps zp_load_pointer_kinds.r zp_load_pointer_reads.Asked zp_load_pointer_reads.Learnt) →
       (fit (rest w.args).0.now (rest w.args).1.0.now 65 && eqb (length (rest w.args).1.1.1.1.1.1.0.now) 1) ≡ true →
@@ -263,7 +263,7 @@ pub data LinkedStep : Mem → Call → Outcome Value → Mem → Type 0 where
       (w : Went zp_store_static_kinds.ps zp_store_static_kinds.r zp_store_static_reads.Asked zp_store_static_reads.Learnt) →
       fit (rest w.args).0.now (rest w.args).1.0.now 65 ≡ true →
       LinkedStep
-      (lent w.args)
+      (lent_mut w.args)
       (StoreStatic (frame_from (rest w.args).0.now) (registers_from (rest w.args).1.0.now) (store_places_from (rest w.args).1.1.0 (rest w.args).1.1.1.0 (rest w.args).1.1.1.1.0 (rest w.args).1.1.1.1.1.0 (rest w.args).1.1.1.1.1.1.0) (rest w.args).1.1.1.1.1.1.1.0)
       (outcome_from executed w.result 0 (rest (exits w)).0.now (rest (exits w)).1.0.now)
-      (lent (exits w))
+      (lent_mut (exits w))

@@ -63,17 +63,17 @@ use Rattle.owned.proofs.execute.own_load_static.Kinds as own_load_static_kinds
 use Rattle.owned.proofs.execute.own_load_static.Reads as own_load_static_reads
 use Rattle.owned.proofs.execute.own_store_static.Kinds as own_store_static_kinds
 use Rattle.owned.proofs.execute.own_store_static.Reads as own_store_static_reads
-use Rattle.lists.specs.Went.{Went, lent, rest, exits}
+use Rattle.lists.specs.Went.{Went, lent, lent_words, lent_bytes_words, lent_mut, rest, exits}
 
 -- THE STEPS of a host that owns its memory
 pub data OwnedStep : Mem → Call → Outcome Value → Mem → Type 0 where
   did_own_open :
       (w : Went own_open_kinds.ps own_open_kinds.r own_open_reads.Asked own_open_reads.Learnt) →
       OwnedStep
-      (lent w.args)
+      (lent_mut w.args)
       (Open (setting_from (layout_from (rest w.args).0 (rest w.args).1.0 (rest w.args).1.1.0 (rest w.args).1.1.1.0 (rest w.args).1.1.1.1.0 (rest w.args).1.1.1.1.1.0) (rest w.args).1.1.1.1.1.1.0 (rest w.args).1.1.1.1.1.1.1.0 (rest w.args).1.1.1.1.1.1.1.1.0) (rest w.args).1.1.1.1.1.1.1.1.1.0.now)
       (answered w.result nothing)
-      (lent (exits w))
+      (lent_mut (exits w))
   did_own_read_word :
       (w : Went own_read_u256_kinds.ps own_read_u256_kinds.r own_read_u256_reads.Asked own_read_u256_reads.Learnt) →
       OwnedStep
@@ -136,52 +136,52 @@ pub data OwnedStep : Mem → Call → Outcome Value → Mem → Type 0 where
   did_own_write_word :
       (w : Went own_write_u256_kinds.ps own_write_u256_kinds.r own_write_u256_reads.Asked own_write_u256_reads.Learnt) →
       OwnedStep
-      (lent w.args)
+      (lent_mut w.args)
       (WriteWord (rest w.args).0 (rest w.args).1.0 (limbs_value (rest w.args).1.1.0 (rest w.args).1.1.1.0 (rest w.args).1.1.1.1.0 (rest w.args).1.1.1.1.1.0))
       (answered w.result nothing)
-      (lent (exits w))
+      (lent_mut (exits w))
   did_own_write_bytes :
       (w : Went own_write_bytes_kinds.ps own_write_bytes_kinds.r own_write_bytes_reads.Asked own_write_bytes_reads.Learnt) →
       OwnedStep
-      (lent w.args)
+      (lent_mut w.args)
       (WriteBytes (rest w.args).0 (rest w.args).1.0 (rest w.args).1.1.0.now)
       (answered w.result nothing)
-      (lent (exits w))
+      (lent_mut (exits w))
   did_own_allocate :
       (w : Went own_allocate_at_kinds.ps own_allocate_at_kinds.r own_allocate_at_reads.Asked own_allocate_at_reads.Learnt) →
       OwnedStep
-      (lent w.args)
+      (lent_mut w.args)
       (Allocate (rest w.args).0 [])
       (answered w.result nothing)
-      (lent (exits w))
+      (lent_mut (exits w))
   did_own_allocate_with :
       (w : Went own_allocate_with_content_at_kinds.ps own_allocate_with_content_at_kinds.r own_allocate_with_content_at_reads.Asked own_allocate_with_content_at_reads.Learnt) →
       OwnedStep
-      (lent w.args)
+      (lent_mut w.args)
       (Allocate (rest w.args).0 (rest w.args).1.0.now)
       (answered w.result nothing)
-      (lent (exits w))
+      (lent_mut (exits w))
   did_own_free :
       (w : Went own_deallocate_kinds.ps own_deallocate_kinds.r own_deallocate_reads.Asked own_deallocate_reads.Learnt) →
       OwnedStep
-      (lent w.args)
+      (lent_mut w.args)
       (Free (rest w.args).0)
       (answered w.result nothing)
-      (lent (exits w))
+      (lent_mut (exits w))
   did_own_window :
       (w : Went own_compact_to_window_kinds.ps own_compact_to_window_kinds.r own_compact_to_window_reads.Asked own_compact_to_window_reads.Learnt) →
       OwnedStep
-      (lent w.args)
+      (lent_mut w.args)
       (Window (rest w.args).0 (rest w.args).1.0 (rest w.args).1.1.0)
       (answered w.result nothing)
-      (lent (exits w))
+      (lent_mut (exits w))
   did_own_truncate :
       (w : Went own_truncate_dynamic_to_kinds.ps own_truncate_dynamic_to_kinds.r own_truncate_dynamic_to_reads.Asked own_truncate_dynamic_to_reads.Learnt) →
       OwnedStep
-      (lent w.args)
+      (lent_mut w.args)
       (Truncate (rest w.args).0)
       (answered w.result nothing)
-      (lent (exits w))
+      (lent_mut (exits w))
   -- a comparison is lent two memories; this one is the left, the right, or both
   did_own_compare_left :
       (w : Went own_compare_kinds.ps own_compare_kinds.r own_compare_reads.Asked own_compare_reads.Learnt) →
@@ -208,17 +208,17 @@ pub data OwnedStep : Mem → Call → Outcome Value → Mem → Type 0 where
   did_own_rollback :
       (w : Went own_rollback_kinds.ps own_rollback_kinds.r own_rollback_reads.Asked own_rollback_reads.Learnt) →
       OwnedStep
-      (lent w.args)
+      (lent_bytes_words w.args)
       (Rollback (rest w.args).0 (rest w.args).1.0)
       (answered w.result nothing)
-      (lent (exits w))
+      (lent_bytes_words (exits w))
   did_own_delete_history :
       (w : Went own_delete_history_kinds.ps own_delete_history_kinds.r own_delete_history_reads.Asked own_delete_history_reads.Learnt) →
       OwnedStep
-      (lent w.args)
+      (lent_words w.args)
       DeleteHistory
       (answered w.result nothing)
-      (lent (exits w))
+      (lent_words (exits w))
   did_own_load :
       (w : Went own_load_kinds.ps own_load_kinds.r own_load_reads.Asked own_load_reads.Learnt) →
       OwnedStep
@@ -229,10 +229,10 @@ pub data OwnedStep : Mem → Call → Outcome Value → Mem → Type 0 where
   did_own_store :
       (w : Went own_store_kinds.ps own_store_kinds.r own_store_reads.Asked own_store_reads.Learnt) →
       OwnedStep
-      (lent w.args)
+      (lent_mut w.args)
       (Store (area_of (rest w.args).1.1.1.1.1.1.1.0) (frame_of (rest w.args).1.0 (rest w.args).1.1.0 (rest w.args).1.1.1.0 (rest w.args).1.1.1.1.0 (rest w.args).1.1.1.1.1.0 (rest w.args).1.1.1.1.1.1.0) (registers_from (rest w.args).0.now) (store_places_from (rest w.args).1.1.1.1.1.1.1.1.0 (rest w.args).1.1.1.1.1.1.1.1.1.0 (rest w.args).1.1.1.1.1.1.1.1.1.1.0 (rest w.args).1.1.1.1.1.1.1.1.1.1.1.0 (rest w.args).1.1.1.1.1.1.1.1.1.1.1.1.0) (rest w.args).1.1.1.1.1.1.1.1.1.1.1.1.1.0 (hook_from (rest w.args).1.1.1.1.1.1.1.1.1.1.1.1.1.1.0 (rest w.args).1.1.1.1.1.1.1.1.1.1.1.1.1.1.1.0))
       (executed_outcome (executed_of w.result) (rest (exits w)).0.now)
-      (lent (exits w))
+      (lent_mut (exits w))
   did_own_load_pointer :
       (w : Went own_load_pointer_kinds.ps own_load_pointer_kinds.r own_load_pointer_reads.Asked own_load_pointer_reads.Learnt) →
       OwnedStep
@@ -250,10 +250,10 @@ pub data OwnedStep : Mem → Call → Outcome Value → Mem → Type 0 where
   did_own_store_static :
       (w : Went own_store_static_kinds.ps own_store_static_kinds.r own_store_static_reads.Asked own_store_static_reads.Learnt) →
       OwnedStep
-      (lent w.args)
+      (lent_mut w.args)
       (StoreStatic (frame_of (rest w.args).1.0 (rest w.args).1.1.0 (rest w.args).1.1.1.0 (rest w.args).1.1.1.1.0 (rest w.args).1.1.1.1.1.0 (rest w.args).1.1.1.1.1.1.0) (registers_from (rest w.args).0.now) (store_places_from (rest w.args).1.1.1.1.1.1.1.0 (rest w.args).1.1.1.1.1.1.1.1.0 (rest w.args).1.1.1.1.1.1.1.1.1.0 (rest w.args).1.1.1.1.1.1.1.1.1.1.0 (rest w.args).1.1.1.1.1.1.1.1.1.1.1.0) (rest w.args).1.1.1.1.1.1.1.1.1.1.1.1.0)
       (executed_outcome (executed_of w.result) (rest (exits w)).0.now)
-      (lent (exits w))
+      (lent_mut (exits w))
 
 -- the memory m is all that an owned call requires: with any other arguments it may be called
 pub record Ready (m : Mem) : Type 0 where
@@ -264,19 +264,19 @@ pub record Ready (m : Mem) : Type 0 where
   pub own_dynamic_len : (κs : Lfts 4) (args : Dens κs own_dynamic_len_kinds.ps) → lent args ≡ m → own_dynamic_len_reads.Asked κs args
   pub own_snapshot : (κs : Lfts 4) (args : Dens κs own_snapshot_kinds.ps) → lent args ≡ m → own_snapshot_reads.Asked κs args
   pub own_chunk : (κs : Lfts 5) (args : Dens κs own_chunk_kinds.ps) → lent args ≡ m → own_chunk_reads.Asked κs args
-  pub own_write_u256 : (κs : Lfts 4) (args : Dens κs own_write_u256_kinds.ps) → lent args ≡ m → own_write_u256_reads.Asked κs args
-  pub own_write_bytes : (κs : Lfts 5) (args : Dens κs own_write_bytes_kinds.ps) → lent args ≡ m → own_write_bytes_reads.Asked κs args
-  pub own_allocate_at : (κs : Lfts 4) (args : Dens κs own_allocate_at_kinds.ps) → lent args ≡ m → own_allocate_at_reads.Asked κs args
-  pub own_allocate_with_content_at : (κs : Lfts 5) (args : Dens κs own_allocate_with_content_at_kinds.ps) → lent args ≡ m → own_allocate_with_content_at_reads.Asked κs args
-  pub own_deallocate : (κs : Lfts 4) (args : Dens κs own_deallocate_kinds.ps) → lent args ≡ m → own_deallocate_reads.Asked κs args
-  pub own_compact_to_window : (κs : Lfts 4) (args : Dens κs own_compact_to_window_kinds.ps) → lent args ≡ m → own_compact_to_window_reads.Asked κs args
-  pub own_truncate_dynamic_to : (κs : Lfts 4) (args : Dens κs own_truncate_dynamic_to_kinds.ps) → lent args ≡ m → own_truncate_dynamic_to_reads.Asked κs args
+  pub own_write_u256 : (κs : Lfts 4) (args : Dens κs own_write_u256_kinds.ps) → lent_mut args ≡ m → own_write_u256_reads.Asked κs args
+  pub own_write_bytes : (κs : Lfts 5) (args : Dens κs own_write_bytes_kinds.ps) → lent_mut args ≡ m → own_write_bytes_reads.Asked κs args
+  pub own_allocate_at : (κs : Lfts 4) (args : Dens κs own_allocate_at_kinds.ps) → lent_mut args ≡ m → own_allocate_at_reads.Asked κs args
+  pub own_allocate_with_content_at : (κs : Lfts 5) (args : Dens κs own_allocate_with_content_at_kinds.ps) → lent_mut args ≡ m → own_allocate_with_content_at_reads.Asked κs args
+  pub own_deallocate : (κs : Lfts 4) (args : Dens κs own_deallocate_kinds.ps) → lent_mut args ≡ m → own_deallocate_reads.Asked κs args
+  pub own_compact_to_window : (κs : Lfts 4) (args : Dens κs own_compact_to_window_kinds.ps) → lent_mut args ≡ m → own_compact_to_window_reads.Asked κs args
+  pub own_truncate_dynamic_to : (κs : Lfts 4) (args : Dens κs own_truncate_dynamic_to_kinds.ps) → lent_mut args ≡ m → own_truncate_dynamic_to_reads.Asked κs args
   -- beside a memory that is well formed too
   pub own_compare : (κs : Lfts 8) (args : Dens κs own_compare_kinds.ps) → lent args ≡ m → WellFormed (lent (rest args)) → own_compare_reads.Asked κs args
-  pub own_rollback : (κs : Lfts 4) (args : Dens κs own_rollback_kinds.ps) → lent args ≡ m → own_rollback_reads.Asked κs args
-  pub own_delete_history : (κs : Lfts 4) (args : Dens κs own_delete_history_kinds.ps) → lent args ≡ m → own_delete_history_reads.Asked κs args
+  pub own_rollback : (κs : Lfts 4) (args : Dens κs own_rollback_kinds.ps) → lent_bytes_words args ≡ m → own_rollback_reads.Asked κs args
+  pub own_delete_history : (κs : Lfts 4) (args : Dens κs own_delete_history_kinds.ps) → lent_words args ≡ m → own_delete_history_reads.Asked κs args
   pub own_load : (κs : Lfts 5) (args : Dens κs own_load_kinds.ps) → lent args ≡ m → own_load_reads.Asked κs args
-  pub own_store : (κs : Lfts 5) (args : Dens κs own_store_kinds.ps) → lent args ≡ m → own_store_reads.Asked κs args
+  pub own_store : (κs : Lfts 5) (args : Dens κs own_store_kinds.ps) → lent_mut args ≡ m → own_store_reads.Asked κs args
   pub own_load_pointer : (κs : Lfts 5) (args : Dens κs own_load_pointer_kinds.ps) → lent args ≡ m → own_load_pointer_reads.Asked κs args
   pub own_load_static : (κs : Lfts 5) (args : Dens κs own_load_static_kinds.ps) → lent args ≡ m → own_load_static_reads.Asked κs args
-  pub own_store_static : (κs : Lfts 5) (args : Dens κs own_store_static_kinds.ps) → lent args ≡ m → own_store_static_reads.Asked κs args
+  pub own_store_static : (κs : Lfts 5) (args : Dens κs own_store_static_kinds.ps) → lent_mut args ≡ m → own_store_static_reads.Asked κs args

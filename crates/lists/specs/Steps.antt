@@ -60,7 +60,7 @@ use Rattle.instructions.proofs.load_static.Kinds as load_static_kinds
 use Rattle.instructions.proofs.load_static.Reads as load_static_reads
 use Rattle.instructions.proofs.store_static.Kinds as store_static_kinds
 use Rattle.instructions.proofs.store_static.Reads as store_static_reads
-use Rattle.lists.specs.Went.{Went, lent, rest, exits}
+use Rattle.lists.specs.Went.{Went, lent, lent_words, lent_bytes_words, lent_mut, rest, exits}
 use Rattle.lists.specs.Linked.{LinkedStep}
 use Rattle.lists.specs.Owned.{OwnedStep}
 
@@ -69,10 +69,10 @@ pub data PublicStep : Mem → Call → Outcome Value → Mem → Type 0 where
   did_open :
       (w : Went open_kinds.ps open_kinds.r open_reads.Asked open_reads.Learnt) →
       PublicStep
-      (lent w.args)
+      (lent_mut w.args)
       (Open (setting_from (rest w.args).0 (rest w.args).1.0 (rest w.args).1.1.0 (rest w.args).1.1.1.0) (rest w.args).1.1.1.1.0.now)
       (answer_outcome nothing w.result)
-      (lent (exits w))
+      (lent_mut (exits w))
   did_read_word :
       (w : Went word_kinds.ps word_kinds.r word_reads.Asked word_reads.Learnt) →
       PublicStep
@@ -134,52 +134,52 @@ pub data PublicStep : Mem → Call → Outcome Value → Mem → Type 0 where
   did_write_word :
       (w : Went write_kinds.ps write_kinds.r write_reads.Asked write_reads.Learnt) →
       PublicStep
-      (lent w.args)
+      (lent_mut w.args)
       (WriteWord (rest w.args).0.0 (rest w.args).1.0.0 (value (rest w.args).1.1.0.limbs))
       (answer_outcome nothing w.result)
-      (lent (exits w))
+      (lent_mut (exits w))
   did_write_bytes :
       (w : Went put_kinds.ps put_kinds.r put_reads.Asked put_reads.Learnt) →
       PublicStep
-      (lent w.args)
+      (lent_mut w.args)
       (WriteBytes (rest w.args).0.0 (rest w.args).1.0.0 (rest w.args).1.1.0.now)
       (answer_outcome nothing w.result)
-      (lent (exits w))
+      (lent_mut (exits w))
   did_allocate :
       (w : Went allocate_kinds.ps allocate_kinds.r allocate_reads.Asked allocate_reads.Learnt) →
       PublicStep
-      (lent w.args)
+      (lent_mut w.args)
       (Allocate (rest w.args).0.0 [])
       (answer_outcome nothing w.result)
-      (lent (exits w))
+      (lent_mut (exits w))
   did_allocate_with :
       (w : Went fill_kinds.ps fill_kinds.r fill_reads.Asked fill_reads.Learnt) →
       PublicStep
-      (lent w.args)
+      (lent_mut w.args)
       (Allocate (rest w.args).0.0 (rest w.args).1.0.now)
       (answer_outcome nothing w.result)
-      (lent (exits w))
+      (lent_mut (exits w))
   did_free :
       (w : Went free_kinds.ps free_kinds.r free_reads.Asked free_reads.Learnt) →
       PublicStep
-      (lent w.args)
+      (lent_mut w.args)
       (Free (rest w.args).0.0)
       (answer_outcome nothing w.result)
-      (lent (exits w))
+      (lent_mut (exits w))
   did_window :
       (w : Went window_kinds.ps window_kinds.r window_reads.Asked window_reads.Learnt) →
       PublicStep
-      (lent w.args)
+      (lent_mut w.args)
       (Window (rest w.args).0.0 (rest w.args).1.0.0 (rest w.args).1.1.0)
       (answer_outcome nothing w.result)
-      (lent (exits w))
+      (lent_mut (exits w))
   did_truncate :
       (w : Went truncate_kinds.ps truncate_kinds.r truncate_reads.Asked truncate_reads.Learnt) →
       PublicStep
-      (lent w.args)
+      (lent_mut w.args)
       (Truncate (rest w.args).0)
       (answer_outcome nothing w.result)
-      (lent (exits w))
+      (lent_mut (exits w))
   -- a comparison is lent two memories; this one is the left, the right, or both
   did_compare_left :
       (w : Went compare_kinds.ps compare_kinds.r compare_reads.Asked compare_reads.Learnt) →
@@ -206,17 +206,17 @@ pub data PublicStep : Mem → Call → Outcome Value → Mem → Type 0 where
   did_rollback :
       (w : Went rollback_kinds.ps rollback_kinds.r rollback_reads.Asked rollback_reads.Learnt) →
       PublicStep
-      (lent w.args)
+      (lent_bytes_words w.args)
       (Rollback (rest w.args).0 (rest w.args).1.0)
       (answer_outcome nothing w.result)
-      (lent (exits w))
+      (lent_bytes_words (exits w))
   did_delete_history :
       (w : Went delete_kinds.ps delete_kinds.r delete_reads.Asked delete_reads.Learnt) →
       PublicStep
-      (lent w.args)
+      (lent_words w.args)
       DeleteHistory
       (answer_outcome nothing w.result)
-      (lent (exits w))
+      (lent_words (exits w))
   -- the registers are lent and the frame is an argument; both are parts of the answer
   did_load :
       (w : Went load_kinds.ps load_kinds.r load_reads.Asked load_reads.Learnt) →
@@ -228,10 +228,10 @@ pub data PublicStep : Mem → Call → Outcome Value → Mem → Type 0 where
   did_store :
       (w : Went store_kinds.ps store_kinds.r store_reads.Asked store_reads.Learnt) →
       PublicStep
-      (lent w.args)
+      (lent_mut w.args)
       (Store (rest w.args).1.1.0 (rest w.args).1.0 (registers_from (rest w.args).0.now) (rest w.args).1.1.1.0 (rest w.args).1.1.1.1.0 (hook_of (rest w.args).1.1.1.1.1.0))
       (executed_outcome w.result (rest (exits w)).0.now)
-      (lent (exits w))
+      (lent_mut (exits w))
   did_load_pointer :
       (w : Went pointer_kinds.ps pointer_kinds.r pointer_reads.Asked pointer_reads.Learnt) →
       PublicStep
@@ -249,10 +249,10 @@ pub data PublicStep : Mem → Call → Outcome Value → Mem → Type 0 where
   did_store_static :
       (w : Went store_static_kinds.ps store_static_kinds.r store_static_reads.Asked store_static_reads.Learnt) →
       PublicStep
-      (lent w.args)
+      (lent_mut w.args)
       (StoreStatic (rest w.args).1.0 (registers_from (rest w.args).0.now) (rest w.args).1.1.0 (rest w.args).1.1.1.0)
       (executed_outcome w.result (rest (exits w)).0.now)
-      (lent (exits w))
+      (lent_mut (exits w))
 
 -- THE STEPS: calls of the public functions and of those that hosts link
 pub data Step : Mem → Call → Outcome Value → Mem → Type 0 where

@@ -20,7 +20,7 @@ use Rattle.freeing.proofs.Calls.{free_refusals, free_passed, truncate_refusals, 
 use Rattle.lists.proofs.Reach.{Reached}
 use Rattle.lists.proofs.Thins.{without_there}
 use Rattle.lists.specs.Goes.{Goes}
-use Rattle.lists.proofs.Inhabited.{ref, goes}
+use Rattle.lists.proofs.Inhabited.{ref, ref_mut, goes}
 use Rattle.lists.specs.Steps.{did_free, did_window, did_truncate}
 
 -- ---- the memories that they leave
@@ -59,7 +59,7 @@ can_free p m =
     did_free
     (record {
       lifetimes = ([], ([], ([], ([], tt))));
-      args = (ref m.bytes, (ref m.keys, (ref m.order, (ref m.words, (record { 0 = p }, tt)))));
+      args = (ref_mut m.bytes, (ref_mut m.keys, (ref_mut m.order, (ref_mut m.words, (record { 0 = p }, tt)))));
       result = r;
       last = (m'.bytes, (m'.keys, (m'.order, (m'.words, (tt, tt)))));
       asked = tt;
@@ -75,7 +75,7 @@ can_window p start n m =
     did_window
     (record {
       lifetimes = ([], ([], ([], ([], tt))));
-      args = (ref m.bytes, (ref m.keys, (ref m.order, (ref m.words, (record { 0 = p }, (record { 0 = start }, (n, tt)))))));
+      args = (ref_mut m.bytes, (ref_mut m.keys, (ref_mut m.order, (ref_mut m.words, (record { 0 = p }, (record { 0 = start }, (n, tt)))))));
       result = r;
       last = (m'.bytes, (m'.keys, (m'.order, (m'.words, (tt, (tt, (tt, tt)))))));
       asked = tt;
@@ -91,7 +91,7 @@ can_truncate n m =
     did_truncate
     (record {
       lifetimes = ([], ([], ([], ([], tt))));
-      args = (ref m.bytes, (ref m.keys, (ref m.order, (ref m.words, (n, tt)))));
+      args = (ref_mut m.bytes, (ref_mut m.keys, (ref_mut m.order, (ref_mut m.words, (n, tt)))));
       result = r;
       last = (m'.bytes, (m'.keys, (m'.order, (m'.words, (tt, tt)))));
       asked = tt;

@@ -9,7 +9,7 @@ use native.Mathlib.Omega.{arith}
 use lib.Dec.{ltb, eqb}
 use lib.ListN.{length, set}
 use borrow.Author.Tests.{eqb-true}
-use denote.Ref.{Bor}
+use denote.Ref.{Bor, MutBor}
 use Rattle.view.proofs.Refused.{Refusals, end, next, ill_does, refused_does, done_does}
 use Rattle.formed.proofs.Same.{tab_long}
 use Rattle.outcome.specs.Outcome.{Outcome, refused, panicked, done, carried_out, answered, refusal_number, answer_outcome, unit_outcome}
@@ -51,6 +51,9 @@ Answers c = (m : Mem) → PublicStep m c (answer_of m c) m
 
 abbrev pub ref : List ℕ → Bor (List ℕ)
 ref l = record { ref_ptr = (0, 0); now = l }
+
+abbrev pub ref_mut : List ℕ → MutBor (List ℕ)
+ref_mut l = record { ref_ptr = (0, 0); ghost_name = 0; now = l }
 
 -- ---- answers that tell an outcome whose refusals have a number of 01's table; a read does not panic
 abbrev Right : {A : Type 0} → Outcome A → Type 0
@@ -197,7 +200,7 @@ can_read_range p x y l m =
     (did_read_range
     (record {
       lifetimes = ([], ([], ([], ([], ([], tt)))));
-      args = (ref m.bytes, (ref m.keys, (ref m.order, (ref m.words, (record { 0 = p }, (record { 0 = x }, (record { 0 = y }, (ref l, tt))))))));
+      args = (ref m.bytes, (ref m.keys, (ref m.order, (ref m.words, (record { 0 = p }, (record { 0 = x }, (record { 0 = y }, (ref_mut l, tt))))))));
       result = answer_to out;
       last = (tt, (tt, (tt, (tt, (tt, (tt, (tt, (taken out l bs, tt))))))));
       asked = tt;
@@ -371,7 +374,7 @@ module _ (heap aux : ℕ) (m : Mem) where
       did_rollback
       (record {
         lifetimes = ([], ([], ([], ([], tt))));
-        args = (ref m.bytes, (ref m.keys, (ref m.order, (ref m.words, (heap, (aux, tt))))));
+        args = (ref_mut m.bytes, (ref m.keys, (ref m.order, (ref_mut m.words, (heap, (aux, tt))))));
         result = r;
         last = (bs, (tt, (tt, (ws, (tt, (tt, tt))))));
         asked = tt;
@@ -392,7 +395,7 @@ delete m r ws lw d =
     did_delete_history
     (record {
       lifetimes = ([], ([], ([], ([], tt))));
-      args = (ref m.bytes, (ref m.keys, (ref m.order, (ref m.words, tt))));
+      args = (ref m.bytes, (ref m.keys, (ref m.order, (ref_mut m.words, tt))));
       result = r;
       last = (tt, (tt, (tt, (ws, tt))));
       asked = tt;
@@ -428,7 +431,7 @@ module _ (p a : ℕ) (page : p ≤ 4294967295) (address : a ≤ 4294967295) wher
       (did_write_word
       (record {
         lifetimes = ([], ([], ([], ([], tt))));
-        args = (ref m.bytes, (ref m.keys, (ref m.order, (ref m.words, (record { 0 = p }, (record { 0 = a }, (record { limbs = limbs n }, tt)))))));
+        args = (ref_mut m.bytes, (ref_mut m.keys, (ref_mut m.order, (ref_mut m.words, (record { 0 = p }, (record { 0 = a }, (record { limbs = limbs n }, tt)))))));
         result = r;
         last = (m'.bytes, (m'.keys, (m'.order, (m'.words, (tt, (tt, (tt, tt)))))));
         asked = tt;
@@ -444,7 +447,7 @@ module _ (p a : ℕ) (page : p ≤ 4294967295) (address : a ≤ 4294967295) wher
       did_write_bytes
       (record {
         lifetimes = ([], ([], ([], ([], ([], tt)))));
-        args = (ref m.bytes, (ref m.keys, (ref m.order, (ref m.words, (record { 0 = p }, (record { 0 = a }, (ref bs, tt)))))));
+        args = (ref_mut m.bytes, (ref_mut m.keys, (ref_mut m.order, (ref_mut m.words, (record { 0 = p }, (record { 0 = a }, (ref bs, tt)))))));
         result = r;
         last = (m'.bytes, (m'.keys, (m'.order, (m'.words, (tt, (tt, (tt, tt)))))));
         asked = tt;
@@ -461,7 +464,7 @@ module _ (p : ℕ) (page : p ≤ 4294967295) where
       did_allocate_with
       (record {
         lifetimes = ([], ([], ([], ([], ([], tt)))));
-        args = (ref m.bytes, (ref m.keys, (ref m.order, (ref m.words, (record { 0 = p }, (ref bs, tt))))));
+        args = (ref_mut m.bytes, (ref_mut m.keys, (ref_mut m.order, (ref_mut m.words, (record { 0 = p }, (ref bs, tt))))));
         result = r;
         last = (m'.bytes, (m'.keys, (m'.order, (m'.words, (tt, (tt, tt))))));
         asked = tt;
@@ -478,7 +481,7 @@ module _ (p : ℕ) (page : p ≤ 4294967295) where
       did_allocate
       (record {
         lifetimes = ([], ([], ([], ([], tt))));
-        args = (ref m.bytes, (ref m.keys, (ref m.order, (ref m.words, (record { 0 = p }, tt)))));
+        args = (ref_mut m.bytes, (ref_mut m.keys, (ref_mut m.order, (ref_mut m.words, (record { 0 = p }, tt)))));
         result = r;
         last = (m'.bytes, (m'.keys, (m'.order, (m'.words, (tt, tt)))));
         asked = tt;
@@ -509,7 +512,7 @@ module _ (s : Setting) (calldata : List ℕ) (narrow : Narrow s) (m : Mem) where
       did_open
       (record {
         lifetimes = ([], ([], ([], ([], ([], tt)))));
-        args = (ref m.bytes, (ref m.keys, (ref m.order, (ref m.words, (s.layout, (s.chunks, (s.pages, (s.journal_words, (ref calldata, tt)))))))));
+        args = (ref_mut m.bytes, (ref_mut m.keys, (ref_mut m.order, (ref_mut m.words, (s.layout, (s.chunks, (s.pages, (s.journal_words, (ref calldata, tt)))))))));
         result = r;
         last = (m'.bytes, (m'.keys, (m'.order, (m'.words, (tt, (tt, (tt, (tt, (tt, tt)))))))));
         asked = tt;

@@ -44,7 +44,7 @@ use Rattle.lists.specs.Steps.{PublicStep, did_load, did_store, did_load_pointer,
 use Rattle.lists.proofs.Reach.{Reached}
 use Rattle.lists.proofs.Writing.{word_there}
 use Rattle.lists.specs.Goes.{Goes, Numbered}
-use Rattle.lists.proofs.Inhabited.{Answers, Same, same, setting_same, ref, limbs, value_is}
+use Rattle.lists.proofs.Inhabited.{Answers, Same, same, setting_same, ref, ref_mut, limbs, value_is}
 
 -- ---- registers that are written are those of 65 numbers too
 set_numbers : (l : List ℕ) → length l ≡ 65 → (n : ℕ) → n ≤ 15 → (w : ℕ) (t : Bool) → Numbered (with_register n w t (registers_from l))
@@ -227,7 +227,7 @@ module _ (f : Frame) (l : List ℕ) (count : length l ≡ 65) (p : LoadPlaces) (
       (did_load
       (record {
         lifetimes = ([], ([], ([], ([], ([], tt)))));
-        args = (ref m.bytes, (ref m.keys, (ref m.order, (ref m.words, (ref l, (f, (area, (p, tt))))))));
+        args = (ref m.bytes, (ref m.keys, (ref m.order, (ref m.words, (ref_mut l, (f, (area, (p, tt))))))));
         result = execute f l count ran;
         last = (tt, (tt, (tt, (tt, (after f l count ran, (tt, (tt, (tt, tt))))))));
         asked = tt;
@@ -243,7 +243,7 @@ module _ (f : Frame) (l : List ℕ) (count : length l ≡ 65) (p : LoadPlaces) (
       (did_load_pointer
       (record {
         lifetimes = ([], ([], ([], ([], ([], tt)))));
-        args = (ref m.bytes, (ref m.keys, (ref m.order, (ref m.words, (ref l, (f, (p, tt)))))));
+        args = (ref m.bytes, (ref m.keys, (ref m.order, (ref m.words, (ref_mut l, (f, (p, tt)))))));
         result = pointer_execute f l count n ran;
         last = (tt, (tt, (tt, (tt, (after f l count ran, (tt, (tt, tt)))))));
         asked = tt;
@@ -258,7 +258,7 @@ module _ (f : Frame) (l : List ℕ) (count : length l ≡ 65) (p : LoadPlaces) (
       (did_load_static
       (record {
         lifetimes = ([], ([], ([], ([], ([], tt)))));
-        args = (ref m.bytes, (ref m.keys, (ref m.order, (ref m.words, (ref l, (f, (p, tt)))))));
+        args = (ref m.bytes, (ref m.keys, (ref m.order, (ref m.words, (ref_mut l, (f, (p, tt)))))));
         result = execute f l count ran;
         last = (tt, (tt, (tt, (tt, (after f l count ran, (tt, (tt, tt)))))));
         asked = tt;
@@ -375,7 +375,7 @@ module _ (f : Frame) (l : List ℕ) (count : length l ≡ 65) (p : StorePlaces) 
       did_store
       (record {
         lifetimes = ([], ([], ([], ([], ([], tt)))));
-        args = (ref m.bytes, (ref m.keys, (ref m.order, (ref m.words, (ref l, (f, (area, (p, (kernel, (h, tt))))))))));
+        args = (ref_mut m.bytes, (ref_mut m.keys, (ref_mut m.order, (ref_mut m.words, (ref_mut l, (f, (area, (p, (kernel, (h, tt))))))))));
         result = execute f l count ran;
         last = (m'.bytes, (m'.keys, (m'.order, (m'.words, (after f l count ran, (tt, (tt, (tt, (tt, (tt, tt))))))))));
         asked = tt;
@@ -392,7 +392,7 @@ module _ (f : Frame) (l : List ℕ) (count : length l ≡ 65) (p : StorePlaces) 
       did_store_static
       (record {
         lifetimes = ([], ([], ([], ([], ([], tt)))));
-        args = (ref m.bytes, (ref m.keys, (ref m.order, (ref m.words, (ref l, (f, (p, (kernel, tt))))))));
+        args = (ref_mut m.bytes, (ref_mut m.keys, (ref_mut m.order, (ref_mut m.words, (ref_mut l, (f, (p, (kernel, tt))))))));
         result = execute f l count ran;
         last = (m'.bytes, (m'.keys, (m'.order, (m'.words, (after f l count ran, (tt, (tt, (tt, tt))))))));
         asked = tt;

@@ -1,6 +1,6 @@
 -- The tests of the journals.
 -- Assumes nothing.
-use mathlib.Core.Path.{◌≡◌, refl, sym, ap, ◌∙◌}
+use mathlib.Core.Path.{◌≡◌, sym, ap, ◌∙◌}
 use mathlib.Core.Bool.{Bool, true, ◌&&◌}
 use mathlib.Core.List.{List}
 use Prim.Native.Nat.{ℕ, zero, suc, ◌+◌, ◌*◌, ◌/◌, ◌<◌, ◌≤◌}
@@ -11,12 +11,11 @@ use lib.ListN.{get_or, take, drop}
 use lib.Seq.{get_or-take, get_or-drop}
 use borrow.Author.Tests.{le-leb, eq-eqb, leb-true, eqb-true}
 use Rattle.store.specs.Keys.{key_of}
-use Rattle.index.specs.Index.{all}
 use Rattle.index.proofs.Logic.{and_left, and_right, and_both}
 use Rattle.store.specs.Mem.{Mem, journal_words, holders}
 use Rattle.formed.specs.Pages.{journal_count, journal_place}
 use Rattle.formed.specs.Parts.{note_place, note_address, note_first, note_last}
-use Rattle.formed.specs.Formed.{noted, journal_right}
+use Rattle.formed.specs.Formed.{noted}
 use Rattle.formed.specs.WellFormed.{holder, NotedRight}
 
 -- the words of a journal lie within the buffer

@@ -1,12 +1,11 @@
 -- The numbers of the journals' words.
 -- Assumes nothing.
-use mathlib.Core.Path.{◌≡◌, refl, sym, ap}
+use mathlib.Core.Path.{◌≡◌, sym, ap}
 use mathlib.Core.Logic.{⊎_elim}
-use Prim.Native.Nat.{ℕ, zero, suc, ◌+◌, ◌*◌, ◌≤◌, ◌<◌}
+use Prim.Native.Nat.{ℕ, suc, ◌+◌, ◌*◌, ◌≤◌, ◌<◌}
 use native.Mathlib.Nat.{mul-suc, mul_comm, mul-le-mul_left}
 use native.Mathlib.Omega.{arith}
 use Rattle.index.proofs.Logic.{same_or_not, lt_or_ge}
-use Rattle.formed.specs.Pages.{journal_count, journal_place}
 
 -- word i of journal j, of n journals with room for r words each
 pub number_lt : (r j i n : ℕ) → j < n → i < r → r * j + i < n * r

@@ -1,6 +1,6 @@
 -- Which pages there are in a layout.
 -- Assumes nothing.
-use Rattle.std.specs.Prelude.{◌≡◌, Bool, false, ℕ, zero, suc, ◌-◌, ◌/◌, ◌<◌, ◌≤◌, leb, ltb}
+use Rattle.std.specs.Prelude.{◌≡◌, Bool, ℕ, zero, suc, ◌-◌, ◌/◌, ◌<◌, ◌≤◌}
 use Rattle.page_ids.specs.Decode.{decoded, is_dynamic, is_fixed}
 use Rattle.page_ids.specs.declared.Layout.{Layout}
 use Rattle.store.specs.Mem.{fixed_count}

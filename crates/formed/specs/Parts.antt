@@ -4,7 +4,7 @@ use Rattle.std.specs.Prelude.{Bool, List, [], ◌∷◌, ℕ, zero, suc, ◌+◌
 use Rattle.bits.specs.Bits.{ones_of}
 use Rattle.store.specs.Find.{slot_within}
 use Rattle.index.specs.Index.{seek, free_count}
-use Rattle.store.specs.Mem.{Mem, head_length, slot_count, journal_words, journal_length, pool_words, holders, entries, chunk_bytes}
+use Rattle.store.specs.Mem.{Mem, head_length, slot_count, journal_words, journal_length, pool_words, entries, chunk_bytes}
 
 -- f 0, f 1, .., f (n - 1)
 unfoldable pub tab : {A : Type 0} → ℕ → (ℕ → A) → List A

@@ -7,10 +7,9 @@ use mathlib.Core.Logic.{⊎_elim}
 use Prim.Native.Nat.{ℕ, ◌+◌, ◌*◌, ◌/◌, ◌%◌, ◌≤◌, ◌<◌}
 use native.Mathlib.Numerals.{add-one}
 use native.Mathlib.Omega.{arith}
-use lib.ListN.{length, get_or, take}
+use lib.ListN.{length, get_or}
 use borrow.Author.Tests.{eq-eqb, ne_eqb}
 use Rattle.store.specs.Find.{slot_at_entry}
-use Rattle.index.specs.Index.{seek}
 use Rattle.index.proofs.Logic.{same_or_not, lt_or_ge}
 use Rattle.store.specs.Mem.{Mem, mem, layout_of, slot_count, journal_words, journal_length, pool_place}
 use Rattle.formed.specs.Pages.{journal_count, journal_place, journal_page}

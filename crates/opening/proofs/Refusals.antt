@@ -1,17 +1,16 @@
 -- Which refusal an opening gets, and its contract.
 -- Assumes nothing.
 use mathlib.Core.Path.{◌≡◌, refl, sym, ap, ◌∙◌, subst}
-use mathlib.Core.Bool.{Bool, true, false, not, ◌&&◌, false≢true}
+use mathlib.Core.Bool.{Bool, true, false, not, false≢true}
 use mathlib.Core.List.{List, [], ◌∷◌}
 use Prim.Native.Nat.{ℕ, zero, suc, ◌+◌, ◌*◌, ◌/◌, ◌≤◌, ◌<◌}
 use native.Mathlib.Omega.{arith}
-use lib.Dec.{leb, ltb}
+use lib.Dec.{ltb}
 use lib.ListN.{length}
 use borrow.Author.Tests.{lt-ltb, le-ltb, ltb-false, not-false}
 use Rattle.outcome.specs.Outcome.{Outcome, refused, done, first_of, carried_out, answered}
 use Rattle.page_ids.specs.Decode.{bad_layout}
 use Rattle.store.specs.Mem.{Mem}
-use Rattle.formed.specs.Buffers.{lengths_fit}
 use Rattle.formed.proofs.Sizes.{fit_are, fit_test}
 use Rattle.view.specs.View.{Setting, setting_of}
 use Rattle.view.specs.Steps.{touched_count, empty_view, opened}

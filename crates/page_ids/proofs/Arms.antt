@@ -1,6 +1,6 @@
 -- What the arms of a match on a decoded page know of it.
 -- Assumes nothing.
-use mathlib.Core.Bool.{true, false}
+use mathlib.Core.Bool.{false}
 use mathlib.Core.Path.{◌≡◌, refl}
 use Prim.Native.Nat.{ℕ}
 use Rattle.page_ids.specs.declared.DynamicPageKind.{DynamicPageKind}

@@ -1,20 +1,19 @@
 -- THE CLAIM about every list of calls, proved of each relation whose steps do what the contracts say.
 -- Assumes nothing.
 use mathlib.Core.Path.{◌≡◌, refl, sym, ap, ◌∙◌}
-use mathlib.Core.Bool.{Bool, true, false, cond, not}
-use mathlib.Core.List.{[], ◌∷◌}
+use mathlib.Core.Bool.{Bool, true, false, cond}
 use Prim.Native.Nat.{ℕ, zero, suc, ◌<◌}
 use native.Mathlib.Omega.{arith}
 use lib.Dec.{ltb}
 use lib.ListN.{length}
 use borrow.Author.Tests.{le-ltb}
-use Rattle.outcome.specs.Outcome.{Outcome, refused, done, carried_out, first_of}
+use Rattle.outcome.specs.Outcome.{Outcome, done, carried_out, first_of}
 use Rattle.store.specs.Mem.{Mem}
 use Rattle.formed.specs.Pages.{journal_count, journal_page}
 use Rattle.formed.proofs.Meaning.{well_formed_passes}
 use Rattle.view.specs.View.{View, Setting, view_of}
 use Rattle.view.specs.Steps.{alike, marks, rolled_back}
-use Rattle.view.specs.Checks.{same_layout, compare_checks}
+use Rattle.view.specs.Checks.{compare_checks}
 use Rattle.view.specs.Does.{Shows, Does}
 use Rattle.view.specs.Calls.{Call, Value, CompareLeft, CompareRight, Snapshot, Rollback, nothing, lengths, verdict, outcome_of}
 use Rattle.plain.specs.Plain.{Plain, follow, feed, seen}

@@ -1,6 +1,6 @@
 -- THE PLAIN MAP of 01. It is fed each call's arguments, but no lent memory, and whether the call was carried out.
 -- Assumes nothing.
-use Rattle.std.specs.Prelude.{Bool, false, cond, not, ◌&&◌, ◌||◌, List, [], ◌∷◌, ◌++◌, ℕ, zero, suc, ◌+◌, ◌*◌, ◌-◌, ◌/◌, max, leb, eqb, length}
+use Rattle.std.specs.Prelude.{Bool, false, cond, not, ◌&&◌, ◌||◌, List, [], ◌∷◌, ◌++◌, ℕ, zero, suc, ◌+◌, ◌*◌, ◌-◌, ◌/◌, max, eqb, length}
 use Rattle.outcome.specs.Outcome.{Outcome, carried_out}
 use Rattle.word.specs.Value.{word_bytes}
 use Rattle.formed.specs.Pages.{fixed, dynamic, group}

@@ -9,7 +9,7 @@ use native.Mathlib.Nat.{div-div-eq-div-mul, mul_assoc}
 use lib.Dec.{eqb, leb}
 use lib.ListN.{get_or, set, length, length-set}
 use lib.Seq.{get_or-set_same, get_or-set_other}
-use borrow.Author.Tests.{eqb-true, eqb-false, leb-true, leb-false, le-leb, not-true, not-false}
+use borrow.Author.Tests.{eqb-true, eqb-false, leb-true, leb-false, le-leb}
 use Rattle.word.specs.Value.{value, limbs_value}
 use Rattle.registers.specs.Registers.{Registers, registers_from, flag_of, with_register, put_flag, erased}
 use Rattle.registers.proofs.Flags.{flag_put}

@@ -6,7 +6,6 @@ use Prim.Native.Nat.{ℕ, ◌+◌, ◌-◌, ◌/◌, ◌^◌, ◌≤◌, ◌<◌
 use native.Mathlib.Omega.{arith}
 use borrow.Author.Tests.{lt-ltb, eq-eqb}
 use Rattle.store.specs.Mem.{Mem, layout_of, slot_count, page_count}
-use Rattle.store.specs.Find.{slot_for}
 use Rattle.formed.specs.Parts.{entry_of, slot_of_chunk, holds}
 use Rattle.formed.specs.WellFormed.{WellFormed}
 use Rattle.formed.proofs.Hints.{slot_found}

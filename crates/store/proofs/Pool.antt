@@ -1,6 +1,6 @@
 -- The pool's words: what its bits say, and what keeps them.
 -- Assumes nothing.
-use Rattle.std.proofs.Common.{◌≡◌, ℕ, ◌+◌, ◌-◌, ◌*◌, ◌/◌, ◌%◌, ◌^◌, ◌<◌, ◌≤◌, List, length, get_or, take, drop, sym, ap, ◌∙◌, ⊎_elim, arith, length-drop, length-take-le, get_or-drop, ext_get_or}
+use Rattle.std.proofs.Common.{◌≡◌, ℕ, ◌+◌, ◌*◌, ◌/◌, ◌%◌, ◌^◌, ◌<◌, ◌≤◌, List, length, get_or, take, sym, ap, ◌∙◌, ⊎_elim, arith, length-drop, length-take-le, get_or-drop, ext_get_or}
 use native.Mathlib.Nat.{zero-div}
 use lib.ListN.{get_or-eq_default}
 use Rattle.index.specs.Index.{free_count}

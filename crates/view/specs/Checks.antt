@@ -1,6 +1,6 @@
 -- Which refusal a call gets. Each list names the conditions that concern a call, in the order of 01's table; `first_of` decides.
 -- Assumes nothing.
-use Rattle.std.specs.Prelude.{Bool, true, false, not, ◌&&◌, ◌||◌, List, [], ◌∷◌, ℕ, zero, suc, ◌+◌, ◌-◌, ◌/◌, ◌^◌, ltb, leb, eqb, length}
+use Rattle.std.specs.Prelude.{Bool, false, not, ◌&&◌, ◌||◌, List, [], ◌∷◌, ℕ, zero, suc, ◌+◌, ◌-◌, ◌/◌, ◌^◌, ltb, eqb, length}
 use Rattle.outcome.specs.Outcome.{Outcome, refused, done, first_of}
 use Rattle.page_ids.specs.Decode.{bad_layout, decoded, is_none}
 use Rattle.page_ids.specs.declared.Layout.{Layout}

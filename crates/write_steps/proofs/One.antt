@@ -14,7 +14,7 @@ use Rattle.formed.specs.Parts.{entry_of, slot_of_chunk}
 use Rattle.formed.proofs.Sense.{slot_near}
 use Rattle.formed.specs.WellFormed.{WellFormed}
 use Rattle.view.specs.View.{View, Setting, setting_of, view_of}
-use Rattle.view.specs.Steps.{touched_count, word_notes}
+use Rattle.view.specs.Steps.{word_notes}
 use Rattle.view.specs.Checks.{word_write_checks}
 use Rattle.view.specs.Calls.{WriteWord, nothing, first_refusal, CallDoes}
 use Rattle.view.specs.Does.{Shows}

@@ -1,4 +1,3 @@
-use Prim.Native.Nat.{◌-◌}
 use borrow.Author.Rules.{rules}
 use Rattle.bits.proofs.Loops.{word_start, word_more, word_fails, word_done}
 use Rattle.bits.proofs.each_bit_ok.Goals as goal

@@ -1,5 +1,5 @@
 use mathlib.Core.Path.{refl, ◌∙◌}
-use Prim.Native.Nat.{◌+◌, ◌-◌, ◌/◌}
+use Prim.Native.Nat.{◌+◌, ◌/◌}
 use native.Mathlib.Omega.{arith}
 use Rattle.formed.proofs.Hints.{find_asked}
 use Rattle.bodies.proofs.Puts.{put_none, put_slot, put_in, put_more, put_done}

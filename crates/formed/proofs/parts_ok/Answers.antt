@@ -2,7 +2,6 @@ use mathlib.Core.Path.{sym, ap, ◌∙◌}
 use Prim.Native.Nat.{ℕ}
 use native.Mathlib.Omega.{arith}
 use lib.ListN.{length, take}
-use borrow.Author.Tests.{not-true, not-false}
 use Rattle.index.specs.Index.{used_count}
 use Rattle.store.specs.Mem.{mem, slot_count}
 use Rattle.store.proofs.Parts.{sub_zero}

@@ -1,7 +1,6 @@
 use mathlib.Core.Path.{sym, ap, ◌∙◌}
 use Prim.Native.Nat.{ℕ}
 use lib.ListN.{take}
-use borrow.Author.Tests.{not-true, not-false}
 use Rattle.index.specs.Index.{indexed}
 use Rattle.store.proofs.Parts.{sub_zero, rest_part}
 use Rattle.formed.proofs.Bools.{and_stop, and_pass}

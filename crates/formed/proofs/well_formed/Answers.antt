@@ -1,6 +1,5 @@
 use mathlib.Core.Path.{sym, ◌∙◌}
 use native.Mathlib.Omega.{arith}
-use borrow.Author.Tests.{not-true, not-false}
 use Rattle.store.specs.Mem.{mem}
 use Rattle.formed.proofs.Sizes.{lengths_are_lem}
 use Rattle.formed.proofs.Stages.{head_narrow, stop_sizes, stop_head, at_parts}

@@ -1,5 +1,4 @@
 use Rattle.free_steps.proofs.Groups.{long_kept, freeing_none, visit_asked, visited, emptied_shows}
-use Prim.Native.Nat.{◌-◌}
 use mathlib.Core.Path.{refl}
 use Rattle.store.specs.Mem.{mem}
 use borrow.Author.Rules.{rules}

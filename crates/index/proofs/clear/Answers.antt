@@ -1,7 +1,6 @@
 use Rattle.index.proofs.Removes.{clear_end}
 use Rattle.index.proofs.Removes.{clear_none, clear_more}
 use borrow.Author.Rules.{rules}
-use Prim.Native.Nat.{◌-◌}
 use native.Mathlib.Omega.{arith}
 use Rattle.index.proofs.clear.Goals as goal
 

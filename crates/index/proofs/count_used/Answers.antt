@@ -1,4 +1,3 @@
-use Prim.Native.Nat.{◌-◌}
 use native.Mathlib.Omega.{arith}
 use Rattle.index.proofs.Counts.{count_zero, count_held, count_done}
 use Rattle.index.proofs.count_used.Goals as goal

@@ -1,6 +1,5 @@
 use Rattle.index.proofs.Removes.{down_end}
 use Rattle.index.proofs.Removes.{down_more, down_rest}
-use Prim.Native.Nat.{◌-◌}
 use mathlib.Core.Path.{refl}
 use native.Mathlib.Omega.{arith}
 use Rattle.index.proofs.move_down.Goals as goal

@@ -1,5 +1,4 @@
 use Rattle.index.proofs.Counts.{count_held}
-use Prim.Native.Nat.{◌-◌}
 use native.Mathlib.Omega.{arith}
 use Rattle.pages.proofs.free_place.Goals as goal
 

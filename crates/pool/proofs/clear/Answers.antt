@@ -1,6 +1,5 @@
 use Rattle.pool.proofs.Gives.{zero_none, zero_more, zero_end}
 use borrow.Author.Rules.{rules}
-use Prim.Native.Nat.{◌-◌}
 use native.Mathlib.Omega.{arith}
 use Rattle.pool.proofs.clear.Goals as goal
 

@@ -1,5 +1,4 @@
 use Rattle.pool.proofs.Gives.{run_one, run_more, run_last}
-use Prim.Native.Nat.{◌-◌}
 use native.Mathlib.Omega.{arith}
 use Rattle.pool.proofs.run_end.Goals as goal
 

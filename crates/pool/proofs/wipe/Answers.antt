@@ -1,6 +1,5 @@
 use Rattle.pool.proofs.Gives.{wipe_none, run_in, wipe_more, wipe_end}
 use borrow.Author.Rules.{rules}
-use Prim.Native.Nat.{◌-◌}
 use native.Mathlib.Omega.{arith}
 use Rattle.pool.proofs.wipe.Goals as goal
 

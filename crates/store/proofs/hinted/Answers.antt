@@ -1,5 +1,5 @@
 use Rattle.store.proofs.Finds.{named}
-use Rattle.std.proofs.Common.{◌-◌, arith}
+use Rattle.std.proofs.Common.{arith}
 use Rattle.store.proofs.hinted.Goals as goal
 
 pub returns-then-is_place : goal.returns-then-is_place

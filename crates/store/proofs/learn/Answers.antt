@@ -1,5 +1,5 @@
 use Rattle.store.proofs.Finds.{learnt_mask, learnt_hint}
-use Rattle.std.proofs.Common.{◌-◌, arith, length-set}
+use Rattle.std.proofs.Common.{arith, length-set}
 use Rattle.store.proofs.learn.Goals as goal
 
 pub returns-then-h-n : goal.returns-then-h-n

@@ -1,7 +1,7 @@
 use Rattle.trace_text.specs.Text.{numeral}
 use Rattle.word.specs.Value.{value}
 use mathlib.Core.List.{◌++◌}
-use Prim.Native.Nat.{◌-◌, ◌≤◌}
+use Prim.Native.Nat.{◌≤◌}
 use mathlib.Core.Path.{◌≡◌}
 use lib.ListN.{length, drop}
 use Rattle.trace_text.proofs.hexadecimal_numeral.Given as goal

@@ -1,5 +1,4 @@
 use Rattle.trace_text.proofs.Numerals.{put_more, put_done, put_start}
-use Prim.Native.Nat.{◌-◌}
 use mathlib.Core.Path.{refl}
 use native.Mathlib.Omega.{arith}
 use lib.ListN.{length-set}

@@ -1,6 +1,5 @@
 use mathlib.Core.Bool.{not}
 use mathlib.Core.Path.{sym, ap, ◌∙◌}
-use borrow.Author.Tests.{not-true, not-false}
 use Rattle.page_ids.specs.Decode.{bad_layout}
 use Rattle.formed.specs.Formed.{narrow, head_right}
 use Rattle.formed.proofs.Bools.{and_stop, and_pass}

@@ -1,6 +1,6 @@
 use mathlib.Core.Path.{sym, ◌∙◌}
 use lib.Dec.{leb}
-use borrow.Author.Tests.{lt-leb, le-leb, not-true, not-false}
+use borrow.Author.Tests.{lt-leb, le-leb}
 use Rattle.formed.proofs.Bools.{and_stop, and_pass}
 use Rattle.formed.proofs.journals.note_ok.Goals as goal
 

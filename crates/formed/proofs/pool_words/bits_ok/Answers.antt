@@ -1,10 +1,9 @@
 use mathlib.Core.Bool.{◌||◌}
 use mathlib.Core.Path.{sym, ap, ◌∙◌}
-use Prim.Native.Nat.{ℕ, ◌-◌}
+use Prim.Native.Nat.{ℕ}
 use native.Mathlib.Omega.{arith}
 use lib.Dec.{eqb}
 use lib.ListN.{length, get_or}
-use borrow.Author.Tests.{not-true, not-false}
 use borrow.Author.Rules.{rules}
 use Rattle.index.proofs.All.{all_none, all_more, all_fails, all_done}
 use Rattle.bits.specs.Bits.{free_word}

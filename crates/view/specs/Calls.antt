@@ -55,10 +55,10 @@ pub data Value : Type 0 where
   -- by an instruction, except a pointer load that was carried out
   executed : (result : Executed) → Value
   -- by such a pointer load, with how many bytes of the pointer's range lead the word
-  pointer_loaded : (result : Executed) (bytes_read_of : ℕ) → Value
+  pointer_loaded : (result : Executed) (bytes_read : ℕ) → Value
   number : (n : ℕ) → Value
   -- by a partial read: the word, and how many bytes of the range lead it
-  partial_word : (word bytes_read_of : ℕ) → Value
+  partial_word : (word bytes_read : ℕ) → Value
   -- of the journals of the bootloader heap and of the bootloader aux heap
   lengths : (heap aux : ℕ) → Value
   bytes : (bs : List ℕ) → Value

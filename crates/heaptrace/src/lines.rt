@@ -202,10 +202,9 @@ fn finish(
 }
 
 // Reads a block of the input, and gives the number of its bytes: 0 where the input ends or cannot be read.
-fn read_block(from: Stdin, input: &mut [u8]) -> usize
+fn read_block(mut from: Stdin, input: &mut [u8]) -> usize
     ensures { IsPrefixLen result input.new }
 {
-    let mut from = from;
     from.read(input).unwrap_or(0)
 }
 

@@ -48,8 +48,7 @@ fn taken(block: &[u8; BLOCK], at: usize, end: usize) -> Cursor {
 }
 
 // Reads a block, and gives the number of its bytes: 0 where the input ends or cannot be read.
-fn read_block(from: Stdin, block: &mut [u8; BLOCK]) -> usize {
-    let mut from = from;
+fn read_block(mut from: Stdin, block: &mut [u8; BLOCK]) -> usize {
     from.read(block).unwrap_or(0)
 }
 

@@ -1,5 +1,5 @@
 -- Well formed, as the test that the code computes.
--- It is 01's sentence, the record WellFormed, both ways: `well-formed` of lists/specs/Rules.antt says so, and proofs/Meaning proves it.
+-- It is 01's sentence, the record WellFormed, both ways: `well_formed_lem` of lists/specs/Rules.antt says so, and proofs/Meaning proves it.
 -- Assumes nothing.
 use Rattle.std.specs.Prelude.{Bool, true, cond, not, ◌&&◌, ◌||◌, List, [], ◌∷◌, ℕ, ◌+◌, ◌*◌, ◌-◌, ◌/◌, ltb, leb, eqb, length, get_or, take, drop}
 use Rattle.store.specs.Keys.{last_chunk, key_of, key_entry, key_chunk}

@@ -60,7 +60,7 @@ unfoldable pub addresses : Area → List Charge → List ℕ
 addresses area [] = []
 addresses area (c ∷ charges) = cond (same_area area c.area) (c.address ∷ addresses area charges) (addresses area charges)
 
--- the highest of them; `lastBound` takes it only where there is one
+-- the highest of them; `last_bound` takes it only where there is one
 unfoldable pub highest : List ℕ → ℕ
 highest [] = 0
 highest (a ∷ list) = max a (highest list)

@@ -28,7 +28,7 @@ pub record Went {n : ℕ} (ps : List (ParamKind n)) (r : ResultKind n) (P : In n
   pub ensures : Q lifetimes args result (at_exit (ended_of n ps r) lifetimes args last)
 
 -- the call c of the logic as a `Went`: it has the lifetimes, arguments, result and last values of c
--- `calls-are-steps` of Rules says that each call has one
+-- `calls_are_steps` of Rules says that each call has one
 pub record WentBy {n : ℕ} {ps : List (ParamKind n)} {r : ResultKind n} {Q : Out n ps r} {Γ : Cx} {ar : ArgsT ps Γ.locals} {u : Mo Γ} (P : In n ps) (c : Called ps r Q Γ ar u) : Type 0 where
   pub went : Went ps r P Q
   pub same :

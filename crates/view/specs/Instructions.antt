@@ -63,7 +63,7 @@ abbrev pub panic : Frame → InstructionResult
 panic f = frame_alone (with_panicked f)
 
 -- the whole word plus 32, in 256 bits
--- It never leaves them where the operand is within the limit: `no-carry` of proofs/Operands.antt, a field of lists/specs/Rules.antt
+-- It never leaves them where the operand is within the limit: `no_carry` of proofs/Operands.antt, a field of lists/specs/Rules.antt
 abbrev pub incremented : ℕ → ℕ
 incremented x = (x + 32) % 2 ^ 256
 

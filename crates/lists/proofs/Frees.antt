@@ -20,7 +20,7 @@ use Rattle.freeing.proofs.Calls.{free_refusals, free_passed, truncate_refusals, 
 use Rattle.lists.proofs.Reach.{Reached}
 use Rattle.lists.proofs.Thins.{without_there}
 use Rattle.lists.specs.Goes.{Goes}
-use Rattle.lists.proofs.Inhabited.{ref, ref_mut, goes}
+use Rattle.lists.proofs.Inhabited.{ref_mut, goes}
 use Rattle.lists.specs.Steps.{did_free, did_window, did_truncate}
 
 -- ---- the memories that they leave

@@ -1,12 +1,11 @@
 -- Loads and stores that are carried out have steps.
 -- Assumes nothing.
-use mathlib.Core.Path.{◌≡◌, refl, sym, ap, ◌∙◌, subst}
+use mathlib.Core.Path.{◌≡◌, refl, ap, ◌∙◌, subst}
 use mathlib.Core.Bool.{Bool, true, false, cond, not}
 use mathlib.Core.List.{List, ◌∷◌, ◌++◌}
 use Prim.Native.Nat.{ℕ, ◌≤◌}
 use native.Mathlib.Omega.{arith}
 use Rattle.outcome.specs.Outcome.{Outcome, refused, panicked, done, carried_out}
-use Rattle.registers.specs.declared.LoadPlaces.{LoadPlaces}
 use Rattle.registers.specs.declared.StorePlaces.{StorePlaces}
 use Rattle.registers.specs.declared.Place.TheVariants.{Register}
 use Rattle.registers.specs.Registers.{Registers, Operand, register_number, source_of, value_of, store_takes}

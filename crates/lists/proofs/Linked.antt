@@ -1,6 +1,6 @@
 -- What the calls of the functions that a host links do is what their contracts say.
 -- Assumes nothing.
-use mathlib.Core.Path.{◌≡◌, refl}
+use mathlib.Core.Path.{refl}
 use lib.ListN.{length}
 use Rattle.outcome.specs.Outcome.{Outcome}
 use Rattle.store.specs.Mem.{Mem}

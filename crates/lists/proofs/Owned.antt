@@ -1,6 +1,6 @@
 -- What the owned calls do is what their contracts say, and a well-formed memory is all that they require.
 -- Assumes nothing.
-use mathlib.Core.Path.{◌≡◌, refl, sym, subst}
+use mathlib.Core.Path.{refl, sym, subst}
 use lib.ListN.{length}
 use Rattle.outcome.specs.Outcome.{Outcome}
 use Rattle.store.specs.Mem.{Mem}

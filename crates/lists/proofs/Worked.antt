@@ -21,7 +21,7 @@ use Rattle.view.specs.Does.{Shows}
 use Rattle.registers.specs.declared.Place.TheVariants.{Register}
 use Rattle.registers.specs.Registers.{source_of, value_of}
 use Rattle.view.specs.Instructions.{Hook, Executed, heap_of, stored, stored_into}
-use Rattle.view.specs.Calls.{Call, Load, Store, executed, outcome_of, answer_of}
+use Rattle.view.specs.Calls.{Call, Load, Store, executed, outcome_of}
 use Rattle.plain.specs.Plain.{Plain, has, hold, member, fresh_plain, follow, seen}
 use Rattle.plain.specs.Claim.{Run, Any, none, more}
 use Rattle.plain.proofs.Good.{never}

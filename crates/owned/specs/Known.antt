@@ -11,7 +11,7 @@ use Rattle.state.specs.declared.Area.{Area}
 use Rattle.state.specs.Access.{bound_of}
 use Rattle.store.specs.Mem.{Mem}
 use Rattle.view.specs.Instructions.{Hook, heap_of}
-use Rattle.view.specs.Calls.{Call, Load, Store, WriteWord, nothing, CallDoes}
+use Rattle.view.specs.Calls.{Load, Store, WriteWord, nothing, CallDoes}
 use Rattle.execution.specs.declared.ExecutionStatus.TheVariants.{Running}
 use Rattle.write_back.specs.declared.Executed.{Executed}
 use Rattle.write_back.specs.Runs.{Runs}

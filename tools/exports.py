@@ -54,9 +54,16 @@ def split(params):
 
 def functions(text, prefix):
     """Each exported function: its name, its lifetimes, parameters and result, and its clauses."""
+    named_so = re.findall(rf"^pub fn ({prefix}\w+)", text, re.M)
+    read = 0
     for found in re.finditer(rf"^pub fn ({prefix}\w+)(<[^>]*>)?\((.*?)\) -> (\w+)\n(.*?)^{{$", text, re.M | re.S):
         name, lifetimes, params, result, clauses = found.groups()
+        if name != named_so[read]:
+            break
+        read += 1
         yield name, lifetimes or "", split(params), result, clauses
+    if read != len(named_so):
+        sys.exit(f"exports: {named_so[read]} has no result or no clause, or is written in a form that is not read")
 
 
 def module(text, library, name, prefix):

@@ -20,7 +20,8 @@ use crate::{
 /// first, and is refused with [`Error::NotFormed`] where it is not well formed: then nothing has
 /// changed. Only [`open`](Self::open), [`of`](Self::of), [`reopen`](Self::reopen) and
 /// [`buffers`](Self::buffers) make no test. It takes time in the memory's size, and less where more
-/// chunks are held: 0.25 to 0.45 microseconds at 128 chunks, 0.1 to 0.75 milliseconds at 65,536.
+/// chunks are held: 0.25 to 0.45 microseconds at 128 chunks, 0.1 to 0.75 milliseconds at 65,536,
+/// measured with archives of an older Rattle.
 /// [`Heaps`](crate::Heaps) owns its buffers and needs no test.
 ///
 /// The calls are those of [`Heaps`](crate::Heaps), and so are their examples. On a memory that is well

@@ -40,6 +40,8 @@
 //! | a call | makes no test, since the library proves that every call leaves the memory well formed | tests the whole memory first, and may be refused with [`Error::NotFormed`] |
 //! | a word read or write takes | some nanoseconds | 0.25 to 0.45 microseconds in a memory of 128 chunks, 0.1 to 0.75 milliseconds in one of 65,536 |
 //!
+//! The times were measured with archives of an older Rattle.
+//!
 //! Code elsewhere in the process can damage even a memory that is owned, if it is `unsafe` and wrong.
 //! So the test can be had for [`Heaps`] as well:
 //!

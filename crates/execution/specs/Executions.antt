@@ -36,7 +36,7 @@ stop_of (Refused n) = running
 abbrev pub result_of : Execution → InstructionResult
 result_of r = record { word = value r.word.limbs; operand = operand_of r.operand; frame = r.frame; stop = stop_of r.status }
 
--- A step knows no registers. What its instruction gives of a result depends on them: `onPanic` after a panic, `onDone` where it is carried out
+-- A step knows no registers. What its instruction gives of a result depends on them: `on_panic` after a panic, `on_done` where it is carried out
 abbrev pub status_outcome : (on_panic on_done : InstructionResult → Value) → ExecutionStatus → InstructionResult → Outcome Value
 status_outcome on_panic on_done Running g = done (on_done g)
 status_outcome on_panic on_done (SuspendedOnHook n) g = done (on_done g)

@@ -18,7 +18,7 @@ use Rattle.reads.proofs.read_u256_partially.Reads as partial_reads
 use Rattle.reads.proofs.read_range_big_endian.Kinds as range_kinds
 use Rattle.reads.proofs.read_range_big_endian.Reads as range_reads
 use Rattle.reads.proofs.read_byte.Kinds as byte_kinds
-use Rattle.reads.proofs.read_byte.Reads as byte_Reads
+use Rattle.reads.proofs.read_byte.Reads as byte_reads
 use Rattle.reads.proofs.dynamic_len.Kinds as length_kinds
 use Rattle.reads.proofs.dynamic_len.Reads as length_reads
 use Rattle.reads.proofs.snapshot.Kinds as snapshot_kinds
@@ -96,7 +96,7 @@ pub data PublicStep : Mem → Call → Outcome Value → Mem → Type 0 where
       (mapped (λ _. bytes (rest (exits w)).1.1.1.0.now) (unit_outcome w.result))
       (lent (exits w))
   did_read_byte :
-      (w : Went byte_kinds.ps byte_kinds.r byte_Reads.Asked byte_Reads.Learnt) →
+      (w : Went byte_kinds.ps byte_kinds.r byte_reads.Asked byte_reads.Learnt) →
       PublicStep
       (lent w.args)
       (ReadByte (rest w.args).0.0 (rest w.args).1.0.0)

@@ -5,7 +5,7 @@ ghost use Rattle.std.specs.Prelude.{◌≡◌, [], ◌∷◌, ◌+◌, ◌*◌, 
 ghost use Rattle.std.proofs.Math.Option.{none};
 ghost use Rattle.word.specs.Value.{value, limbs_value};
 ghost use Rattle.trace.specs.Language as language;
-ghost use Rattle.trace.specs.Language.{line_kind, led_well, meaning, command_of, line_if, numbers, hexadecimal as hexadecimalOf};
+ghost use Rattle.trace.specs.Language.{line_kind, led_well, meaning, command_of, line_if, numbers, hexadecimal as hexadecimal_of};
 ghost use Rattle.trace.specs.Reading.{space_at, fields_from, parsed_number, parsed_word, ahead, Decimals, count_of};
 
 use word::Word;
@@ -205,7 +205,7 @@ fn no_word() -> WordNumber
 
 // A field as a hexadecimal number of 256 bits.
 fn hexadecimal(field: &[u8]) -> WordNumber
-    ensures { parsed_word result ≡ hexadecimalOf field.now }
+    ensures { parsed_word result ≡ hexadecimal_of field.now }
 {
     let no = no_word();
     if !led_well(field) {
@@ -293,7 +293,7 @@ fn unread() -> Command
 
 // A write whose two decimals are read, and whose word stands from place `at` to the end.
 fn write_of(line: &[u8], values: [u32; 9], at: usize) -> Command
-    ensures { command_of result ≡ line_if Kind.Write (ahead (take 2 values) (numbers (hexadecimalOf ∷ []) (fields_from line.now at))) }
+    ensures { command_of result ≡ line_if Kind.Write (ahead (take 2 values) (numbers (hexadecimal_of ∷ []) (fields_from line.now at))) }
 {
     if line.len() < at {
         return unread();

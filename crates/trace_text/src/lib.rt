@@ -3,7 +3,7 @@
 
 ghost use Rattle.std.specs.Prelude.{◌≡◌, [], ◌∷◌, ◌++◌, ◌+◌, ◌/◌, ◌%◌, ◌≤◌, ◌<◌, eqb, length, drop};
 ghost use Rattle.word.specs.Value.{value, limbs_value};
-ghost use Rattle.trace_text.specs.Text.{glyph as glyphOf, numeral, Reported, reply_of, text_of, Wrote};
+ghost use Rattle.trace_text.specs.Text.{glyph as glyph_of, numeral, Reported, reply_of, text_of, Wrote};
 
 use word::Word;
 
@@ -87,7 +87,7 @@ pub struct Numeral {
 // The byte of a digit below 16.
 fn glyph(digit: u64) -> u8
     requires { digit < 16 }
-    ensures { result ≡ glyphOf digit }
+    ensures { result ≡ glyph_of digit }
 {
     if digit < 10 {
         return 48 + digit as u8;

@@ -1,8 +1,8 @@
 -- What a call answers, and the order of its checks.
 -- Assumes nothing.
-use Rattle.std.specs.Prelude.{Bool, true, false, cond, List, [], ◌∷◌, ℕ, zero, suc}
-use Rattle.outcome.specs.declared.Answer.{Answer}
-use Rattle.outcome.specs.declared.Answer.TheVariants.{Done, Refused}
+use Rattle.std.specs.Prelude.{Bool, true, false, cond, List, [], ◌∷◌, ℕ, zero, suc, Result, Ok, Err, ⊤}
+use Rattle.outcome.specs.declared.Refusal.{Refusal}
+use Rattle.outcome.specs.declared.Refusal.TheVariants.{Layout, Sizes, NotFormed, Undecodable, Fixed, Allocated, NotAllocated, Range, NoPage, NoChunk, NoJournal, BadMark, BadLength, Pointer, HookValue, Operand}
 
 -- A call is refused with a number of 01's table, or carried out with an answer. An EraVM panic is no refusal: it is an outcome of an instruction,
 -- which answers too (with its frame), and is not carried out.
@@ -38,16 +38,39 @@ abbrev pub first_of : {A : Type 0} → List (Bool × A) → A → A
 first_of [] otherwise = otherwise
 first_of ((holds, value) ∷ rest) otherwise = cond holds value (first_of rest otherwise)
 
--- the outcome that an answer reports: 01's number of a refusal, or the value a where the call was carried out
-abbrev pub answer_outcome : {A : Type 0} → A → Answer → Outcome A
-answer_outcome a Done = done a
-answer_outcome a (Refused n) = refused n
+-- 01's number of a refusal
+abbrev pub number_of : Refusal → ℕ
+number_of Layout = 1
+number_of Sizes = 2
+number_of NotFormed = 3
+number_of Undecodable = 4
+number_of Fixed = 5
+number_of Allocated = 6
+number_of NotAllocated = 7
+number_of Range = 8
+number_of NoPage = 9
+number_of NoChunk = 10
+number_of NoJournal = 11
+number_of BadMark = 12
+number_of BadLength = 13
+number_of Pointer = 14
+number_of HookValue = 15
+number_of Operand = 16
+
+-- the outcome that a result reports: the value, read by f, or the number of the refusal
+abbrev pub result_outcome : {A B : Type 0} → (A → B) → Result A Refusal → Outcome B
+result_outcome f (Ok x) = done (f x)
+result_outcome f (Err e) = refused (number_of e)
+
+-- .. where the call was carried out with the value a
+abbrev pub answer_outcome : {A : Type 0} → A → Result ⊤ Refusal → Outcome A
+answer_outcome a r = result_outcome (λ _. a) r
 
 -- that of a call whose value lies in an output, or that has none
-abbrev pub unit_outcome : Answer → Outcome (Unit {0})
-unit_outcome a = answer_outcome tt a
+abbrev pub unit_outcome : Result ⊤ Refusal → Outcome ⊤
+unit_outcome r = answer_outcome tt r
 
 -- the status of an answer: 0, or the number of the refusal
-abbrev pub status_of : Answer → ℕ
-status_of Done = 0
-status_of (Refused n) = n
+abbrev pub status_of : Result ⊤ Refusal → ℕ
+status_of (Ok _) = 0
+status_of (Err e) = number_of e

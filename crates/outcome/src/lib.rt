@@ -1,22 +1,78 @@
-// What a call answers. specs/Outcome.antt says what the contracts of every crate mean by an outcome, and by the order of checks.
+// What a call answers: a value, or the refusal that it gets. specs/Outcome.antt says what the contracts of every crate mean by an outcome, and by the order of checks.
 #![tactic(auto)]
 
 ghost use Rattle.std.specs.Prelude.{◌≡◌};
-ghost use Rattle.outcome.specs.Outcome.{status_of};
+ghost use Rattle.outcome.specs.Outcome.{number_of, status_of};
 
-// The answer of a call that returns no value.
-#[derive(Clone, Copy)]
-pub enum Answer {
-    Done,
-    Refused(u32),
+use std::fmt;
+
+// Why a call is refused. The variants are in the order of their numbers.
+#[derive(Clone, Copy, Debug, PartialEq, Eq)]
+pub enum Refusal {
+    // The four fixed page ids are not distinct, the stride is below 4, or two layouts differ.
+    Layout,
+    // A count is out of its bounds, or a lent buffer has another length than the counts ask for.
+    Sizes,
+    NotFormed,
+    Undecodable,
+    Fixed,
+    Allocated,
+    NotAllocated,
+    // A range or a list is too long, or what is lent for it has another length.
+    Range,
+    NoPage,
+    NoChunk,
+    NoJournal,
+    // A rollback goes back to more than a journal has.
+    BadMark,
+    // A truncation goes above the dynamic length.
+    BadLength,
+    // Start and length of a fat pointer leave 32 bits.
+    Pointer,
+    // A hook is hit by a value of more than 32 bits.
+    HookValue,
+    // An instruction does not take a place.
+    Operand,
 }
 
-// 0 for a call that was carried out, else the number of the refusal.
-pub fn status(answer: Answer) -> u32
+impl From<Refusal> for u32 {
+    ghost from_gives = { λ r n. n ≡ number_of r };
+
+    fn from(refusal: Refusal) -> u32 {
+        match refusal {
+            Refusal::Layout => 1,
+            Refusal::Sizes => 2,
+            Refusal::NotFormed => 3,
+            Refusal::Undecodable => 4,
+            Refusal::Fixed => 5,
+            Refusal::Allocated => 6,
+            Refusal::NotAllocated => 7,
+            Refusal::Range => 8,
+            Refusal::NoPage => 9,
+            Refusal::NoChunk => 10,
+            Refusal::NoJournal => 11,
+            Refusal::BadMark => 12,
+            Refusal::BadLength => 13,
+            Refusal::Pointer => 14,
+            Refusal::HookValue => 15,
+            Refusal::Operand => 16,
+        }
+    }
+}
+
+impl fmt::Display for Refusal {
+    fn fmt<W: fmt::Write>(&self, f: &mut fmt::Formatter<W>) -> fmt::Result {
+        let number = u32::from(*self);
+        write!(f, "refused {number}")
+    }
+}
+
+// The number of a refusal, 0 where the call was carried out.
+pub fn status(answer: Result<(), Refusal>) -> u32
     ensures { result ≡ status_of answer }
 {
     match answer {
-        Answer::Done => 0,
-        Answer::Refused(n) => n,
+        Ok(()) => 0,
+        Err(refusal) => u32::from(refusal),
     }
 }

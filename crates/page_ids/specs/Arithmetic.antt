@@ -1,22 +1,19 @@
 -- Page arithmetic: a number that leaves 32 bits, either way, is refused with 4.
 -- Assumes nothing.
-use Rattle.std.specs.Prelude.{[], ◌∷◌, ℕ, ◌+◌, ◌-◌, ◌^◌, leb, ltb}
-use Rattle.outcome.specs.Outcome.{Outcome, refused, done, first_of}
+use Rattle.std.specs.Prelude.{[], ◌∷◌, ℕ, ◌+◌, ◌-◌, ◌^◌, leb, ltb, Result}
+use Rattle.outcome.specs.Outcome.{Outcome, refused, done, first_of, result_outcome}
+use Rattle.outcome.specs.declared.Refusal.{Refusal}
 use Rattle.page_ids.specs.declared.Layout.{Layout}
-use Rattle.page_ids.specs.declared.PageAnswer.{PageAnswer}
-use Rattle.page_ids.specs.declared.PageAnswer.TheVariants as page
-use Rattle.page_ids.specs.declared.BaseAnswer.{BaseAnswer}
-use Rattle.page_ids.specs.declared.BaseAnswer.TheVariants as base
+use Rattle.page_ids.specs.declared.PageId.{PageId}
+use Rattle.page_ids.specs.declared.BasePage.{BasePage}
 
 -- 01's number, or the page id, of an answer
-abbrev pub page_outcome : PageAnswer → Outcome ℕ
-page_outcome (page.Refused n) = refused n
-page_outcome (page.Page p) = done p.0
+abbrev pub page_outcome : Result PageId Refusal → Outcome ℕ
+page_outcome r = result_outcome (λ p. p.0) r
 
 -- 01's number, or the base page, of an answer
-abbrev pub base_outcome : BaseAnswer → Outcome ℕ
-base_outcome (base.Refused n) = refused n
-base_outcome (base.Base b) = done b.0
+abbrev pub base_outcome : Result BasePage Refusal → Outcome ℕ
+base_outcome r = result_outcome (λ b. b.0) r
 
 -- the code page of a base page has the base's own number
 abbrev pub code_page : ℕ → ℕ

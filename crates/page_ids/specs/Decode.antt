@@ -1,13 +1,12 @@
 -- The rule of a layout, and what a page id stands for in it.
 -- Assumes nothing.
-use Rattle.std.specs.Prelude.{Bool, true, false, ◌||◌, [], ◌∷◌, ℕ, ◌-◌, ◌/◌, ◌%◌, eqb, ltb, leb}
-use Rattle.outcome.specs.Outcome.{Outcome, refused, done, first_of}
+use Rattle.std.specs.Prelude.{Bool, true, false, ◌||◌, [], ◌∷◌, ℕ, ◌-◌, ◌/◌, ◌%◌, eqb, ltb, leb, Option, Some, None, Result}
+use Rattle.outcome.specs.Outcome.{Outcome, refused, done, first_of, result_outcome}
+use Rattle.outcome.specs.declared.Refusal.{Refusal}
 use Rattle.page_ids.specs.declared.Layout.{Layout}
 use Rattle.page_ids.specs.declared.DynamicPageKind.TheVariants.{Code, Heap, Aux}
 use Rattle.page_ids.specs.declared.DecodedPage.{DecodedPage}
-use Rattle.page_ids.specs.declared.DecodedPage.TheVariants.{Static, BootloaderCalldata, BootloaderHeap, BootloaderAuxHeap, Dynamic, Undecodable}
-use Rattle.page_ids.specs.declared.Decoding.{Decoding}
-use Rattle.page_ids.specs.declared.Decoding.TheVariants.{Refused, Decoded}
+use Rattle.page_ids.specs.declared.DecodedPage.TheVariants.{Static, BootloaderCalldata, BootloaderHeap, BootloaderAuxHeap, Dynamic}
 
 -- the layout of six numbers
 abbrev pub layout_from : (static calldata heap aux base stride : ℕ) → Layout
@@ -38,15 +37,15 @@ pub data Page : Type 0 where
   page : (kind group : ℕ) → Page
 
 -- the kind's number and the group of a decoded page
-abbrev pub page_of : DecodedPage → Page
-page_of (Dynamic Code group) = page 0 group
-page_of (Dynamic Heap group) = page 1 group
-page_of (Dynamic Aux group) = page 2 group
-page_of Static = page 3 0
-page_of BootloaderCalldata = page 4 0
-page_of BootloaderHeap = page 5 0
-page_of BootloaderAuxHeap = page 6 0
-page_of Undecodable = none
+abbrev pub page_of : Option DecodedPage → Page
+page_of (Some (Dynamic Code group)) = page 0 group
+page_of (Some (Dynamic Heap group)) = page 1 group
+page_of (Some (Dynamic Aux group)) = page 2 group
+page_of (Some Static) = page 3 0
+page_of (Some BootloaderCalldata) = page 4 0
+page_of (Some BootloaderHeap) = page 5 0
+page_of (Some BootloaderAuxHeap) = page 6 0
+page_of None = none
 
 -- the number of a page's kind, 7 where it is undecodable
 abbrev pub kind_number : Page → ℕ
@@ -72,9 +71,8 @@ is_fixed none = false
 is_fixed (page kind group) = leb 3 kind
 
 -- 01's number, or the page, of a decoding
-abbrev pub decoding_outcome : Decoding → Outcome Page
-decoding_outcome (Refused n) = refused n
-decoding_outcome (Decoded p) = done (page_of p)
+abbrev pub decoding_outcome : Result (Option DecodedPage) Refusal → Outcome Page
+decoding_outcome r = result_outcome page_of r
 
 -- remainder 0 means code, 2 heap, 3 aux, any other is undecodable
 abbrev pub by_remainder : ℕ → ℕ → Page

@@ -1,9 +1,10 @@
-// Which refusal a write to a well-formed memory or an allocation in it gets, or 0: the tests in the order of 01's table.
+// Which refusal a write to a well-formed memory or an allocation in it gets, if any: the tests in the order of 01's table.
 // How much of a range of chunks is known to be held, and the rank of the next one.
 #![tactic(auto)]
 
 ghost use Rattle.std.specs.Prelude.{◌≡◌, true, false, ℕ, ◌+◌, ◌/◌, ◌%◌, ◌<◌, ◌≤◌, ◌^◌, ltb, length, drop};
 ghost use Rattle.index.specs.Index.{seek};
+ghost use Rattle.outcome.specs.Outcome.{status_of};
 ghost use Rattle.view.specs.Calls.{first_refusal};
 ghost use Rattle.page_ids.specs.Decode.{page_of, decoded};
 ghost use Rattle.store.specs.Mem.{mem, head_length, layout_of, slot_count};
@@ -18,6 +19,7 @@ ghost use Rattle.view.specs.Steps.{missing, touched_count, aligned_count};
 ghost use Rattle.view.specs.Checks.{overfull, capacity_checks, word_write_checks, allocate_checks};
 ghost use Rattle.checks.specs.Located.{Locates};
 
+use outcome::Refusal;
 use page_ids::{Address, DecodedPage, PageId};
 use store::head;
 
@@ -224,17 +226,17 @@ pub fn unallocated_refusal(
     words: &[u64],
     page: PageId,
     count: u64,
-) -> u32
+) -> Result<(), Refusal>
     requires { (WellFormed (mem bytes.now keys.now order.now words.now)) × ((view_of (mem bytes.now keys.now order.now words.now)).allocated page.0 ≡ false) }
-    ensures { (first w : ℕ) → result ≡ first_refusal (capacity_checks (setting_of (mem bytes.now keys.now order.now words.now)) (view_of (mem bytes.now keys.now order.now words.now)) page.0 first count w) }
+    ensures { (first w : ℕ) → status_of result ≡ first_refusal (capacity_checks (setting_of (mem bytes.now keys.now order.now words.now)) (view_of (mem bytes.now keys.now order.now words.now)) page.0 first count w) }
 {
     if words[head::ENTRIES] == words[head::PAGES] + head::FIXED_PAGES {
-        return 9;
+        return Err(Refusal::NoPage);
     }
     if !pool::has_pooled(words, count) {
-        return 10;
+        return Err(Refusal::NoChunk);
     }
-    0
+    Ok(())
 }
 
 // 10 and 11 of an allocated page. Its entry is e, and `located` says what is known of its chunks first, .., first + count - 1.
@@ -249,29 +251,29 @@ pub fn allocated_refusal(
     first: u32,
     count: u32,
     w: u64,
-) -> u32
+) -> Result<(), Refusal>
     requires well_formed { (WellFormed (mem bytes.now keys.now order.now words.now)) × (e ≡ entry_of (mem bytes.now keys.now order.now words.now) page.0) × (first + count ≤ last_chunk + 1) }
     requires locates { (Locates keys.now order.now words.now page.0 first count located.chunk located.rank) × ((view_of (mem bytes.now keys.now order.now words.now)).allocated page.0 ≡ true) × (w ≤ 2 ^ 60) }
-    ensures { result ≡ first_refusal (capacity_checks (setting_of (mem bytes.now keys.now order.now words.now)) (view_of (mem bytes.now keys.now order.now words.now)) page.0 first count w) }
+    ensures { status_of result ≡ first_refusal (capacity_checks (setting_of (mem bytes.now keys.now order.now words.now)) (view_of (mem bytes.now keys.now order.now words.now)) page.0 first count w) }
 {
     if short_of_chunks(bytes, keys, order, words, page, e, located, first, count) {
-        return 10;
+        return Err(Refusal::NoChunk);
     }
     if short_of_words(bytes, keys, order, words, page, w) {
-        return 11;
+        return Err(Refusal::NoJournal);
     }
-    0
+    Ok(())
 }
 
 // What a page id stands for in the memory's layout.
-pub fn decode(words: &[u64], page: PageId) -> DecodedPage
+pub fn decode(words: &[u64], page: PageId) -> Option<DecodedPage>
     requires { (head_length ≤ length words.now) × (narrow words.now ≡ true) }
     ensures { page_of result ≡ decoded (layout_of words.now) page.0 }
 {
     page_ids::decode_page(formed::head::layout_of(words), page)
 }
 
-// The refusal that a word write would get, or 0. Nothing is written: a store whose value is too wide for the hook is refused with this number, or with 15 where it is 0.
+// The refusal that a word write would get. Nothing is written: a store whose value is too wide for the hook gets this refusal, or else 15.
 pub fn word_refusal(
     bytes: &[u8],
     keys: &[u64],
@@ -279,12 +281,12 @@ pub fn word_refusal(
     words: &[u64],
     page: PageId,
     address: Address,
-) -> u32
+) -> Result<(), Refusal>
     requires { WellFormed (mem bytes.now keys.now order.now words.now) }
-    ensures { result ≡ first_refusal (word_write_checks (setting_of (mem bytes.now keys.now order.now words.now)) (view_of (mem bytes.now keys.now order.now words.now)) page.0 address.0) }
+    ensures { status_of result ≡ first_refusal (word_write_checks (setting_of (mem bytes.now keys.now order.now words.now)) (view_of (mem bytes.now keys.now order.now words.now)) page.0 address.0) }
 {
-    if page_ids::is_undecodable(decode(words, page)) {
-        return 4;
+    if decode(words, page).is_none() {
+        return Err(Refusal::Undecodable);
     }
     let first = address.0 / 256;
     let count = touched(address, 32);
@@ -316,18 +318,18 @@ pub fn one_chunk_refusal(
     page: PageId,
     address: Address,
     s: usize,
-) -> u32
+) -> Result<(), Refusal>
     requires well_formed { (WellFormed (mem bytes.now keys.now order.now words.now)) × (s ≡ slot_of_chunk (mem bytes.now keys.now order.now words.now) page.0 (address.0 / 256)) }
     requires page_value { ((view_of (mem bytes.now keys.now order.now words.now)).allocated page.0 ≡ true) × (address.0 % 256 ≤ 224) }
-    ensures { result ≡ first_refusal (word_write_checks (setting_of (mem bytes.now keys.now order.now words.now)) (view_of (mem bytes.now keys.now order.now words.now)) page.0 address.0) }
+    ensures { status_of result ≡ first_refusal (word_write_checks (setting_of (mem bytes.now keys.now order.now words.now)) (view_of (mem bytes.now keys.now order.now words.now)) page.0 address.0) }
 {
     if short_of_chunk(bytes, keys, order, words, page, address.0 / 256, s) {
-        return 10;
+        return Err(Refusal::NoChunk);
     }
     if short_of_words(bytes, keys, order, words, page, 1) {
-        return 11;
+        return Err(Refusal::NoJournal);
     }
-    0
+    Ok(())
 }
 
 // An allocation with n bytes of contents.
@@ -338,19 +340,18 @@ pub fn allocate_refusal(
     words: &[u64],
     page: PageId,
     n: usize,
-) -> u32
+) -> Result<(), Refusal>
     requires { WellFormed (mem bytes.now keys.now order.now words.now) }
-    ensures { result ≡ first_refusal (allocate_checks (setting_of (mem bytes.now keys.now order.now words.now)) (view_of (mem bytes.now keys.now order.now words.now)) page.0 n) }
+    ensures { status_of result ≡ first_refusal (allocate_checks (setting_of (mem bytes.now keys.now order.now words.now)) (view_of (mem bytes.now keys.now order.now words.now)) page.0 n) }
 {
-    let decoded = decode(words, page);
-    if page_ids::is_undecodable(decoded) {
-        return 4;
-    }
+    let Some(decoded) = decode(words, page) else {
+        return Err(Refusal::Undecodable);
+    };
     if page_ids::is_fixed(decoded) {
-        return 5;
+        return Err(Refusal::Fixed);
     }
     if is_allocated(bytes, keys, order, words, page) {
-        return 6;
+        return Err(Refusal::Allocated);
     }
     let count = touched(Address(0), n);
     unallocated_refusal(bytes, keys, order, words, page, count)

@@ -8,12 +8,13 @@ use Prim.Native.Nat.{ℕ, zero, suc, ◌+◌, ◌-◌, ◌%◌, ◌≤◌, ◌<�
 use native.Mathlib.Omega.{arith}
 use lib.Dec.{ltb, leb, eqb}
 use lib.ListN.{get_or}
+use Rattle.std.specs.Prelude.{Option, Some, None}
 use borrow.Author.Tests.{lt-ltb, le-ltb, le-leb, eq-eqb, ne_eqb, leb-true, ltb-true, ltb-false, eqb-true, eqb-false}
 use Rattle.page_ids.specs.declared.Layout.{Layout}
 use Rattle.page_ids.specs.declared.DynamicPageKind.{DynamicPageKind}
 use Rattle.page_ids.specs.declared.DynamicPageKind.TheVariants.{Code, Heap, Aux}
 use Rattle.page_ids.specs.declared.DecodedPage.{DecodedPage}
-use Rattle.page_ids.specs.declared.DecodedPage.TheVariants.{Dynamic}
+use Rattle.page_ids.specs.declared.DecodedPage.TheVariants.{Static, BootloaderCalldata, BootloaderHeap, BootloaderAuxHeap, Dynamic}
 use Rattle.page_ids.specs.Decode.{bad_layout, Page, none, page, page_of, by_remainder, decoded, is_dynamic, is_fixed}
 use Rattle.index.proofs.Logic.{and_left, and_right, and_both, same_or_not}
 use Rattle.store.specs.Mem.{layout_of}
@@ -146,23 +147,34 @@ module _ (l : Layout) (p : ℕ) where
       go false false false false y h e = h e
 
   -- what `decode_page` answers, of a page id
-  pub told_dynamic : (k : DynamicPageKind) (g : ℕ) → page_of (Dynamic k g) ≡ decoded l p → (dynamic l p ≡ true) × (group l p ≡ g)
+  pub told_dynamic : (k : DynamicPageKind) (g : ℕ) → page_of (Some (Dynamic k g)) ≡ decoded l p → (dynamic l p ≡ true) × (group l p ≡ g)
   unfolding dynamic
   told_dynamic k g e = let y : dynamic l p ≡ true = sym (ap is_dynamic e) ∙ kind k in (y, sym (dynamic_group y) ∙ sym (ap group_of e) ∙ its k)
     where
-      kind : (k : DynamicPageKind) → is_dynamic (page_of (Dynamic k g)) ≡ true
+      kind : (k : DynamicPageKind) → is_dynamic (page_of (Some (Dynamic k g))) ≡ true
       kind Code = refl
       kind Heap = refl
       kind Aux = refl
 
-      its : (k : DynamicPageKind) → group_of (page_of (Dynamic k g)) ≡ g
+      its : (k : DynamicPageKind) → group_of (page_of (Some (Dynamic k g))) ≡ g
       its Code = refl
       its Heap = refl
       its Aux = refl
 
-  pub told_other : (r : DecodedPage) → page_of r ≡ decoded l p → is_dynamic (page_of r) ≡ false → dynamic l p ≡ false
+  pub told_other : (r : DecodedPage) → ((k : DynamicPageKind) (g : ℕ) → r ≡ Dynamic k g → ⊥) → page_of (Some r) ≡ decoded l p → dynamic l p ≡ false
   unfolding dynamic
-  told_other r e d = sym (ap is_dynamic e) ∙ d
+  told_other r n e = sym (ap is_dynamic e) ∙ go r n
+    where
+      go : (r : DecodedPage) → ((k : DynamicPageKind) (g : ℕ) → r ≡ Dynamic k g → ⊥) → is_dynamic (page_of (Some r)) ≡ false
+      go Static n = refl
+      go BootloaderCalldata n = refl
+      go BootloaderHeap n = refl
+      go BootloaderAuxHeap n = refl
+      go (Dynamic k g) n = absurd (n k g refl)
+
+  pub told_none : page_of None ≡ decoded l p → dynamic l p ≡ false
+  unfolding dynamic
+  told_none e = sym (ap is_dynamic e)
 
   pub is_fixed_lem : (e : ℕ) → e < 4 → p ≡ fixed_id l e → fixed l p ≡ true
   is_fixed_lem zero h q = fixed_is ∙ or_left (eqb p l.static_memory.0) _ (eq-eqb p l.static_memory.0 q)

@@ -12,7 +12,10 @@ use store::head;
 fn page_ok(layout: Layout, n: u64, page: PageId) -> bool
     ensures { result ≡ (dynamic layout page.0 && ltb (group layout page.0) n) }
 {
-    match page_ids::decode_page(layout, page) {
+    let Some(decoded) = page_ids::decode_page(layout, page) else {
+        return false;
+    };
+    match decoded {
         DecodedPage::Dynamic(_, group) => (group as u64) < n,
         _ => false,
     }

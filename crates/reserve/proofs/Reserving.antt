@@ -24,6 +24,10 @@ use Rattle.checks.proofs.Chosen.{touched_top}
 use Rattle.checks.proofs.Tables.{allocated_by}
 use Rattle.pages.proofs.Listing.{listed_already}
 use Rattle.chunks.proofs.Ranges.{holding_none, missing_rest, holding_rest}
+use Rattle.std.specs.Prelude.{Ok, Err}
+use Rattle.outcome.specs.declared.Refusal.{Refusal}
+use Rattle.outcome.specs.Outcome.{number_of}
+use Rattle.outcome.proofs.Numbers.{number_nonzero}
 use Rattle.reserve.specs.Asks.{PrepareAsks, ReserveAsks, Reserved}
 
 -- the page has an entry, so it is allocated
@@ -65,11 +69,11 @@ reserve_asks m f p a n k w page known end e small = record {
 
 -- what it leaves, refused or done
 module _ (m : Mem) (p k n w : ℕ) where
-  pub reserve_refused : (r : ℕ) → r ≡ first_refusal (capacity_checks (setting_of m) (view_of m) p k n w) → (r ≡ 0 → ⊥) → Reserved m p k n w r m
-  reserve_refused r e z = record { number = e; held = λ h. absurd (z h); kept = λ _. refl }
+  pub reserve_refused : (e : Refusal) → number_of e ≡ first_refusal (capacity_checks (setting_of m) (view_of m) p k n w) → Reserved m p k n w (Err e) m
+  reserve_refused e is = record { number = is; held = λ h. absurd (number_nonzero e h); kept = λ _. refl }
 
   module _ (free : first_refusal (capacity_checks (setting_of m) (view_of m) p k n w) ≡ 0) where
-    pub reserve_done : (m' : Mem) → Shows (setting_of m) (holding p k n (listing m p)) m' → Reserved m p k n w 0 m'
+    pub reserve_done : (m' : Mem) → Shows (setting_of m) (holding p k n (listing m p)) m' → Reserved m p k n w (Ok tt) m'
     reserve_done m' shown = record { number = sym free; held = λ _. shown; kept = λ z. absurd (z refl) }
 
     pub reserve_prepare : ReserveAsks m p k n w → PrepareAsks m p k n

@@ -1,6 +1,8 @@
 -- What a reservation requires and ensures.
 -- Assumes nothing.
-use Rattle.std.specs.Prelude.{◌≡◌, true, false, ◌||◌, ℕ, ◌+◌, ◌^◌, ◌<◌, ◌≤◌}
+use Rattle.std.specs.Prelude.{◌≡◌, true, false, ◌||◌, ℕ, ◌+◌, ◌^◌, ◌<◌, ◌≤◌, Result, ⊤}
+use Rattle.outcome.specs.Outcome.{status_of}
+use Rattle.outcome.specs.declared.Refusal.{Refusal}
 use Rattle.store.specs.Keys.{last_chunk}
 use Rattle.store.specs.Mem.{Mem, layout_of}
 use Rattle.formed.specs.Pages.{fixed, dynamic}
@@ -29,8 +31,8 @@ pub record ReserveAsks (m : Mem) (p k n w : ℕ) : Type 0 where
   pub top : k + n ≤ last_chunk + 1
   pub words : w ≤ 2 ^ 60
 
--- r is the first refusal of 9, 10 and 11 that page p gets for the n chunks from k on and w journal words; where it gets none, it is allocated and holds them, and else the memory is as it was
-pub record Reserved (m : Mem) (p k n w r : ℕ) (m' : Mem) : Type 0 where
-  pub number : r ≡ first_refusal (capacity_checks (setting_of m) (view_of m) p k n w)
-  pub held : r ≡ 0 → Shows (setting_of m) (holding p k n (listing m p)) m'
-  pub kept : (r ≡ 0 → ⊥) → m' ≡ m
+-- r has the first refusal of 9, 10 and 11 that page p gets for the n chunks from k on and w journal words; where it gets none, it is allocated and holds them, and else the memory is as it was
+pub record Reserved (m : Mem) (p k n w : ℕ) (r : Result ⊤ Refusal) (m' : Mem) : Type 0 where
+  pub number : status_of r ≡ first_refusal (capacity_checks (setting_of m) (view_of m) p k n w)
+  pub held : status_of r ≡ 0 → Shows (setting_of m) (holding p k n (listing m p)) m'
+  pub kept : (status_of r ≡ 0 → ⊥) → m' ≡ m

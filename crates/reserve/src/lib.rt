@@ -11,6 +11,7 @@ ghost use Rattle.checks.specs.Located.{Locates};
 ghost use Rattle.reserve.specs.Asks.{PrepareAsks, ReserveAsks, Reserved};
 
 use checks::Located;
+use outcome::Refusal;
 use page_ids::PageId;
 use store::head;
 
@@ -77,16 +78,13 @@ fn reserve_unallocated(
     page: PageId,
     first: u32,
     count: u32,
-) -> u32
+) -> Result<(), Refusal>
     requires { (ReserveAsks (mem bytes.now keys.old order.old words.old) page.0 first count 0) × ((view_of (mem bytes.now keys.old order.old words.old)).allocated page.0 ≡ false) }
     ensures { (w : ℕ) → Reserved (mem bytes.now keys.old order.old words.old) page.0 first count w result (mem bytes.now keys.new order.new words.new) }
 {
-    let number = checks::unallocated_refusal(bytes, keys, order, words, page, count as u64);
-    if number != 0 {
-        return number;
-    }
+    checks::unallocated_refusal(bytes, keys, order, words, page, count as u64)?;
     prepare_unallocated(bytes, keys, order, words, page, first, count);
-    0
+    Ok(())
 }
 
 // `reserve` for an allocated page. Its chunks are located once: the refusals and the step are given what was found.
@@ -100,19 +98,16 @@ fn reserve_allocated(
     first: u32,
     count: u32,
     w: u64,
-) -> u32
+) -> Result<(), Refusal>
     requires { (ReserveAsks (mem bytes.now keys.old order.old words.old) page.0 first count w) × (e ≡ entry_of (mem bytes.now keys.old order.old words.old) page.0) × (e < page_count words.old + fixed_count) }
     ensures { Reserved (mem bytes.now keys.old order.old words.old) page.0 first count w result (mem bytes.now keys.new order.new words.new) }
 {
     let located = checks::locate(keys, order, words, page, e, first, count);
-    let number = checks::allocated_refusal(
+    checks::allocated_refusal(
         bytes, keys, order, words, page, e, located, first, count, w,
-    );
-    if number != 0 {
-        return number;
-    }
+    )?;
     prepare_allocated(bytes, keys, order, words, page, e, located, first, count);
-    0
+    Ok(())
 }
 
 // Refuses with 9, 10 or 11, or allocates the page, if it is not, and makes it hold the chunks first, .., first + count - 1. Refusal 11 is about w words in the page's journal.
@@ -127,7 +122,7 @@ pub fn reserve(
     first: u32,
     count: u32,
     w: u64,
-) -> u32
+) -> Result<(), Refusal>
     requires { (ReserveAsks (mem bytes.now keys.old order.old words.old) page.0 first count w) × (e ≡ entry_of (mem bytes.now keys.old order.old words.old) page.0) }
     ensures { Reserved (mem bytes.now keys.old order.old words.old) page.0 first count w result (mem bytes.now keys.new order.new words.new) }
 {

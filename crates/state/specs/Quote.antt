@@ -1,11 +1,10 @@
 -- What the quote answers.
 -- Assumes nothing.
-use Rattle.std.specs.Prelude.{ℕ, suc, ◌-◌, cond, List, [], ◌∷◌, length, nat_lt}
-use Rattle.outcome.specs.Outcome.{Outcome, refused, done, first_of}
+use Rattle.std.specs.Prelude.{ℕ, suc, ◌-◌, cond, List, [], ◌∷◌, length, nat_lt, Result}
+use Rattle.outcome.specs.Outcome.{Outcome, refused, done, first_of, result_outcome}
+use Rattle.outcome.specs.declared.Refusal.{Refusal}
 use Rattle.state.specs.Access.{accessed}
 use Rattle.state.specs.declared.quote.RunEnd.{RunEnd}
-use Rattle.state.specs.declared.quote.Quoted.{Quoted}
-use Rattle.state.specs.declared.quote.Quoted.TheVariants.{Refused, Ended}
 
 -- where a run ends: `left` of the gas that it was given is left
 abbrev pub end_of : (given left bound position : ℕ) → RunEnd
@@ -20,9 +19,8 @@ walked given (x ∷ list) gas bound position =
     cond g.paid (walked given list g.gas g.bound (suc position)) (end_of given g.gas g.bound position)
 
 -- 01's number of an answer, or where the run ends
-abbrev pub quote_outcome : Quoted → Outcome RunEnd
-quote_outcome (Refused n) = refused n
-quote_outcome (Ended end) = done end
+abbrev pub quote_outcome : Result RunEnd Refusal → Outcome RunEnd
+quote_outcome r = result_outcome (λ end. end) r
 
 -- a list over 4,096 is refused with 8
 abbrev pub quoted : List ℕ → (gas bound : ℕ) → Outcome RunEnd

@@ -3,6 +3,7 @@ ghost use Rattle.std.specs.Prelude.{◌≡◌, ◌≤◌, length};
 ghost use Rattle.state.specs.Quote.{walked, quote_outcome, quoted};
 
 use crate::access;
+use outcome::Refusal;
 use page_ids::Address;
 
 // A longer list is refused.
@@ -14,12 +15,6 @@ pub struct RunEnd {
     pub spent: u32,
     pub bound: u32,
     pub position: u32,
-}
-
-#[derive(Clone, Copy)]
-pub enum Quoted {
-    Refused(u32),
-    Ended(RunEnd),
 }
 
 // The accesses of the list, up to the first that panics.
@@ -51,11 +46,11 @@ fn walk(list: &[u32], gas: u32, bound: u32) -> RunEnd
 }
 
 // What loads at these addresses, one after another, spend of the gas, which bound they reach, and where they end.
-pub fn quote(list: &[u32], gas: u32, bound: u32) -> Quoted
+pub fn quote(list: &[u32], gas: u32, bound: u32) -> Result<RunEnd, Refusal>
     ensures { quote_outcome result ≡ quoted list.now gas bound }
 {
     if list.len() > MOST_ADDRESSES {
-        return Quoted::Refused(8);
+        return Err(Refusal::Range);
     }
-    Quoted::Ended(walk(list, gas, bound))
+    Ok(walk(list, gas, bound))
 }

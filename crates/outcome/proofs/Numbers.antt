@@ -1,0 +1,47 @@
+-- No refusal has the number 0, so the status of an answer tells whether the call was carried out, and which refusal it got.
+-- Assumes nothing.
+use mathlib.Core.Path.{◌≡◌, refl}
+use Prim.Native.Nat.{ℕ}
+use native.Mathlib.Omega.{arith}
+use Rattle.std.specs.Prelude.{Result, Ok, Err, ⊤}
+use Rattle.outcome.specs.declared.Refusal.{Refusal}
+use Rattle.outcome.specs.declared.Refusal.TheVariants.{Layout, Sizes, NotFormed, Undecodable, Fixed, Allocated, NotAllocated, Range, NoPage, NoChunk, NoJournal, BadMark, BadLength, Pointer, HookValue, Operand}
+use Rattle.outcome.specs.Outcome.{number_of, status_of, answered, answer_outcome}
+
+pub number_nonzero : (e : Refusal) → number_of e ≡ 0 → ⊥
+number_nonzero Layout e = omega arith
+number_nonzero Sizes e = omega arith
+number_nonzero NotFormed e = omega arith
+number_nonzero Undecodable e = omega arith
+number_nonzero Fixed e = omega arith
+number_nonzero Allocated e = omega arith
+number_nonzero NotAllocated e = omega arith
+number_nonzero Range e = omega arith
+number_nonzero NoPage e = omega arith
+number_nonzero NoChunk e = omega arith
+number_nonzero NoJournal e = omega arith
+number_nonzero BadMark e = omega arith
+number_nonzero BadLength e = omega arith
+number_nonzero Pointer e = omega arith
+number_nonzero HookValue e = omega arith
+number_nonzero Operand e = omega arith
+
+-- the status of an answer, beside a value, is the outcome that the answer reports
+pub status_answered : {A : Type 0} (a : A) (r : Result ⊤ Refusal) → answered (status_of r) a ≡ answer_outcome a r
+status_answered a (Ok u) = refl
+status_answered a (Err Layout) = refl
+status_answered a (Err Sizes) = refl
+status_answered a (Err NotFormed) = refl
+status_answered a (Err Undecodable) = refl
+status_answered a (Err Fixed) = refl
+status_answered a (Err Allocated) = refl
+status_answered a (Err NotAllocated) = refl
+status_answered a (Err Range) = refl
+status_answered a (Err NoPage) = refl
+status_answered a (Err NoChunk) = refl
+status_answered a (Err NoJournal) = refl
+status_answered a (Err BadMark) = refl
+status_answered a (Err BadLength) = refl
+status_answered a (Err Pointer) = refl
+status_answered a (Err HookValue) = refl
+status_answered a (Err Operand) = refl

@@ -1,4 +1,5 @@
-use mathlib.Core.Path.{sym, ◌∙◌}
+use mathlib.Core.Path.{sym, ap, ◌∙◌}
+use Rattle.outcome.specs.Outcome.{status_of}
 use native.Mathlib.Omega.{arith}
 use Rattle.store.specs.Mem.{mem}
 use Rattle.formed.proofs.Asks.{entry_few}
@@ -10,16 +11,12 @@ pub locate-located-requires : goal.locate-located-requires
 locate-located-requires c =
     (find_asked (mem c.args.bytes.now c.args.keys.now c.args.order.now c.args.words.now) c.requires.0.formed, c.requires.1, omega (arith, entry_few (mem c.args.bytes.now c.args.keys.now c.args.order.now c.args.words.now) c.requires.0.formed c.args.page.0, c.requires.1), c.requires.0.top)
 
-pub allocated_refusal-number-requires : goal.allocated_refusal-number-requires
-allocated_refusal-number-requires c = record { well_formed = (c.requires.0.formed, c.requires.1, c.requires.0.top); locates = (c.locate-located.ensures, entry_listed (mem c.args.bytes.now c.args.keys.now c.args.order.now c.args.words.now) c.requires.0.formed c.args.page.0 c.args.e c.requires.1 c.requires.2, c.requires.0.words) }
-
-pub returns-then-number-ne0 : goal.returns-then-number-ne0
-returns-then-number-ne0 c =
-    reserve_refused (mem c.args.bytes.now c.args.keys.now c.args.order.now c.args.words.now) c.args.page.0 c.args.first c.args.count c.args.w _ c.allocated_refusal-number.ensures c.if-number-ne0.true
+pub allocated_refusal-requires : goal.allocated_refusal-requires
+allocated_refusal-requires c = record { well_formed = (c.requires.0.formed, c.requires.1, c.requires.0.top); locates = (c.locate-located.ensures, entry_listed (mem c.args.bytes.now c.args.keys.now c.args.order.now c.args.words.now) c.requires.0.formed c.args.page.0 c.args.e c.requires.1 c.requires.2, c.requires.0.words) }
 
 pub prepare_allocated-requires : goal.prepare_allocated-requires
-prepare_allocated-requires c = record { prepare_asks = (reserve_prepare (mem c.args.bytes.now c.args.keys.now c.args.order.now c.args.words.now) c.args.page.0 c.args.first c.args.count c.args.w (sym c.allocated_refusal-number.ensures ∙ c.if-number-ne0.false) c.requires.0, c.requires.1, c.requires.2); locates = c.locate-located.ensures }
+prepare_allocated-requires c = record { prepare_asks = (reserve_prepare (mem c.args.bytes.now c.args.keys.now c.args.order.now c.args.words.now) c.args.page.0 c.args.first c.args.count c.args.w (sym c.allocated_refusal.ensures ∙ ap status_of c.in_ok-allocated_refusal.was) c.requires.0, c.requires.1, c.requires.2); locates = c.locate-located.ensures }
 
 pub returns : goal.returns
 returns c =
-    reserve_done (mem c.args.bytes.now c.args.keys.now c.args.order.now c.args.words.now) c.args.page.0 c.args.first c.args.count c.args.w (sym c.allocated_refusal-number.ensures ∙ c.if-number-ne0.false) _ c.prepare_allocated.ensures
+    reserve_done (mem c.args.bytes.now c.args.keys.now c.args.order.now c.args.words.now) c.args.page.0 c.args.first c.args.count c.args.w (sym c.allocated_refusal.ensures ∙ ap status_of c.in_ok-allocated_refusal.was) _ c.prepare_allocated.ensures

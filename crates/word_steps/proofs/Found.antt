@@ -1,6 +1,6 @@
 -- A word whose chunks are held already: nothing is left to do before it is journalled and put, and of its refusals only 11 is left.
 -- Assumes nothing.
-use mathlib.Core.Path.{◌≡◌, refl, sym, ap, ◌∙◌}
+use mathlib.Core.Path.{◌≡◌, refl, sym, ap, ◌∙◌, subst}
 use mathlib.Core.Bool.{Bool, true, false, not, ◌&&◌, ◌||◌, false≢true}
 use mathlib.Core.List.{List, [], ◌∷◌}
 use mathlib.Core.Logic.{⊎_elim}
@@ -9,7 +9,9 @@ use native.Mathlib.Omega.{arith}
 use lib.Dec.{leb, ltb, eqb}
 use lib.ListN.{length}
 use borrow.Author.Tests.{le-leb, lt-leb, lt-ltb, le-ltb, eq-eqb, ne_eqb}
-use Rattle.outcome.specs.Outcome.{Outcome, refused, answered, carried_out}
+use Rattle.std.specs.Prelude.{Option, Some, None, is_some, Result, ⊤}
+use Rattle.outcome.specs.declared.Refusal.{Refusal}
+use Rattle.outcome.specs.Outcome.{Outcome, refused, answered, answer_outcome}
 use Rattle.word.specs.Value.{word_bytes}
 use Rattle.word.proofs.Digits.{digits_long}
 use Rattle.page_ids.specs.Decode.{Page, none, page, decoded, is_none, is_fixed, is_dynamic}
@@ -39,7 +41,7 @@ use Rattle.checks.proofs.Passed.{decodable, room_refusals}
 use Rattle.pages.proofs.Listing.{listed_already}
 use Rattle.bodies.proofs.Pieces.{held_here}
 use Rattle.bodies.proofs.Puts.{shows_view}
-use Rattle.word_steps.specs.Asks.{WordFound, WordAsks, word_put, WrittenOrLeft, left_number}
+use Rattle.word_steps.specs.Asks.{WordFound, WordAsks, word_put, WrittenOrLeft}
 use Rattle.word_steps.proofs.Chains.{Cleared, word_cleared, word_notes_same, write_done}
 
 -- chunks that are held already
@@ -172,9 +174,16 @@ module _ (m : Mem) (p a s t : ℕ) (w : WordFound m p a s t) (page : p ≤ 42949
 
 -- ---- a write that hints may know
 module _ (m : Mem) (p a n : ℕ) where
-  pub known_left : WrittenOrLeft m p a n left_number m
-  known_left = record { left = λ e. refl; written = λ e. absurd (e refl) }
+  pub known_left : WrittenOrLeft m p a n None m
+  known_left = record { left = λ e. refl; written = λ x e. absurd (false≢true (ap is_some e)) }
 
-  -- the number that says so is that of no write that was carried out
-  pub known_done : (r : ℕ) (m' : Mem) → CallDoes m (WriteWord p a n) (answered r nothing) m' → WrittenOrLeft m p a n r m'
-  known_done r m' d = record { left = λ e. d.kept (sym (ap carried_out (sym (ap (λ (x : ℕ). answered x nothing) e) ∙ d.answer))); written = λ _. d }
+  -- a write that was refused or carried out
+  pub known_done : (r : Result ⊤ Refusal) (m' : Mem) → CallDoes m (WriteWord p a n) (answer_outcome nothing r) m' → WrittenOrLeft m p a n (Some r) m'
+  known_done r m' d = record {
+    left = λ e. absurd (false≢true (sym (ap is_some e)));
+    written = λ x e. subst (λ (y : Result ⊤ Refusal). CallDoes m (WriteWord p a n) (answer_outcome nothing y) m') (ap (inside r) e) d;
+  }
+    where
+      inside : Result ⊤ Refusal → Option (Result ⊤ Refusal) → Result ⊤ Refusal
+      inside d None = d
+      inside d (Some x) = x

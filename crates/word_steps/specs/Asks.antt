@@ -1,12 +1,13 @@
 -- What the steps of a word write ask, and what one that may do nothing leaves.
 -- Assumes nothing.
-use Rattle.std.specs.Prelude.{◌≡◌, true, List, ℕ, ◌+◌, ◌/◌, ◌<◌, ◌≤◌, length}
+use Rattle.std.specs.Prelude.{◌≡◌, true, List, ℕ, ◌+◌, ◌/◌, ◌<◌, ◌≤◌, length, Option, Some, None, Result, ⊤}
 use Rattle.page_ids.specs.declared.Layout.{Layout}
 use Rattle.store.specs.Mem.{Mem, layout_of, slot_count, journal_words}
 use Rattle.formed.specs.Pages.{journal_count, journal_page}
 use Rattle.formed.specs.Parts.{slot_of_chunk}
 use Rattle.formed.specs.WellFormed.{WellFormed}
-use Rattle.outcome.specs.Outcome.{answered}
+use Rattle.outcome.specs.Outcome.{answer_outcome}
+use Rattle.outcome.specs.declared.Refusal.{Refusal}
 use Rattle.view.specs.View.{View, view_of}
 use Rattle.view.specs.Steps.{word_notes}
 use Rattle.view.specs.Inner.{journalling, putting}
@@ -35,11 +36,7 @@ pub record WordAsks (m : Mem) (p a s t : ℕ) : Type 0 where
 abbrev pub word_put : Layout → ℕ → ℕ → List ℕ → View → View
 word_put l p a ws v = putting p a ws (journalling l p (word_notes v p a) v)
 
--- what a write answers that did nothing, since hints do not know the chunks: no refusal of a word write has this number
-abbrev pub left_number : ℕ
-left_number = 1
-
--- the whole call that writes the word n to address a of page p, with the answer r; or the memory is as it was, and r says so
-pub record WrittenOrLeft (m : Mem) (p a n r : ℕ) (m' : Mem) : Type 0 where
-  pub left : r ≡ left_number → m' ≡ m
-  pub written : (r ≡ left_number → ⊥) → CallDoes m (WriteWord p a n) (answered r nothing) m'
+-- the whole call that writes the word n to address a of page p, with the answer that r has; or hints do not know the chunks, r is none and the memory is as it was
+pub record WrittenOrLeft (m : Mem) (p a n : ℕ) (r : Option (Result ⊤ Refusal)) (m' : Mem) : Type 0 where
+  pub left : r ≡ None → m' ≡ m
+  pub written : (x : Result ⊤ Refusal) → r ≡ Some x → CallDoes m (WriteWord p a n) (answer_outcome nothing x) m'

@@ -1,7 +1,7 @@
 // A word write whose chunks' slots are known: the word is journalled, and another put in its place, or the write is refused.
 #![tactic(auto)]
 
-ghost use Rattle.outcome.specs.Outcome.{answered};
+ghost use Rattle.outcome.specs.Outcome.{answer_outcome};
 ghost use Rattle.word.specs.Value.{value, word_bytes};
 ghost use Rattle.view.specs.Calls.{Call, CallDoes, nothing};
 ghost use Rattle.store.specs.Mem.{mem, layout_of};
@@ -12,6 +12,7 @@ ghost use Rattle.view.specs.Does.{Shows};
 ghost use Rattle.view.specs.Inner.{journalling};
 ghost use Rattle.word_steps.specs.Asks.{WordFound, WordAsks, word_put, WrittenOrLeft};
 
+use outcome::Refusal;
 use page_ids::{Address, PageId};
 use store::head;
 use word::Word;
@@ -72,21 +73,18 @@ pub fn write_found(
     s: usize,
     t: usize,
     word: Word,
-) -> u32
+) -> Result<(), Refusal>
     requires { WordFound (mem bytes.old keys.now order.now words.old) page.0 address.0 s t }
-    ensures { CallDoes (mem bytes.old keys.now order.now words.old) (Call.WriteWord page.0 address.0 (value word.limbs)) (answered result nothing) (mem bytes.new keys.now order.now words.new) }
+    ensures { CallDoes (mem bytes.old keys.now order.now words.old) (Call.WriteWord page.0 address.0 (value word.limbs)) (answer_outcome nothing result) (mem bytes.new keys.now order.now words.new) }
 {
     if checks::short_of_words(bytes, keys, order, words, page, 1) {
-        return 11;
+        return Err(Refusal::NoJournal);
     }
     write_at(bytes, keys, order, words, page, address, s, t, word);
-    0
+    Ok(())
 }
 
-// What `write_known` answers where it does nothing. No refusal of a word write has this number.
-pub const LEFT: u32 = 1;
-
-// Writes a word whose chunks hints know. LEFT says that they do not, and that nothing was done.
+// Writes a word whose chunks hints know. `None` says that they do not, and that nothing was done.
 pub fn write_known(
     bytes: &mut [u8],
     keys: &[u64],
@@ -95,18 +93,18 @@ pub fn write_known(
     page: PageId,
     address: Address,
     word: Word,
-) -> u32
+) -> Option<Result<(), Refusal>>
     requires { WellFormed (mem bytes.old keys.now order.now words.old) }
     ensures { WrittenOrLeft (mem bytes.old keys.now order.now words.old) page.0 address.0 (value word.limbs) result (mem bytes.new keys.now order.now words.new) }
 {
     let c = words[head::CHUNKS] as usize;
     let s = store::hinted(keys, order, words, page, address.0 / 256);
     if s >= c {
-        return LEFT;
+        return None;
     }
     let t = store::hinted_last(keys, order, words, page, address, s);
     if t >= c {
-        return LEFT;
+        return None;
     }
-    write_found(bytes, keys, order, words, page, address, s, t, word)
+    Some(write_found(bytes, keys, order, words, page, address, s, t, word))
 }

@@ -3,7 +3,7 @@
 #![tactic(auto)]
 
 ghost use Rattle.std.specs.Prelude.{◌≡◌, ◌+◌, ◌%◌, ◌<◌, ◌≤◌, ◌^◌, length};
-ghost use Rattle.outcome.specs.Outcome.{answered};
+ghost use Rattle.outcome.specs.Outcome.{answer_outcome};
 ghost use Rattle.word.specs.Value.{value, word_bytes};
 ghost use Rattle.view.specs.Calls.{Call, CallDoes, nothing, first_refusal};
 ghost use Rattle.store.specs.Mem.{mem, layout_of, page_count, fixed_count};
@@ -16,6 +16,7 @@ ghost use Rattle.view.specs.Does.{Shows};
 ghost use Rattle.view.specs.Inner.{journalling};
 ghost use Rattle.word_steps.specs.Asks.{JournalAsks, word_put};
 
+use outcome::Refusal;
 use page_ids::{Address, PageId};
 use store::head;
 use word::Word;
@@ -71,15 +72,15 @@ fn write_any(
     address: Address,
     e: usize,
     word: Word,
-) -> u32
+) -> Result<(), Refusal>
     requires { (WellFormed (mem bytes.old keys.old order.old words.old)) × (e ≡ entry_of (mem bytes.old keys.old order.old words.old) page.0) }
-    ensures { CallDoes (mem bytes.old keys.old order.old words.old) (Call.WriteWord page.0 address.0 (value word.limbs)) (answered result nothing) (mem bytes.new keys.new order.new words.new) }
+    ensures { CallDoes (mem bytes.old keys.old order.old words.old) (Call.WriteWord page.0 address.0 (value word.limbs)) (answer_outcome nothing result) (mem bytes.new keys.new order.new words.new) }
 {
-    if page_ids::is_undecodable(checks::decode(words, page)) {
-        return 4;
+    if checks::decode(words, page).is_none() {
+        return Err(Refusal::Undecodable);
     }
     let count = checks::touched(address, 32) as u32;
-    let number = reserve::reserve(
+    reserve::reserve(
         bytes,
         keys,
         order,
@@ -89,12 +90,9 @@ fn write_any(
         address.0 / 256,
         count,
         1,
-    );
-    if number != 0 {
-        return number;
-    }
+    )?;
     write_held(bytes, keys, order, words, page, address, word);
-    0
+    Ok(())
 }
 
 // Writes a word in one chunk of the allocated page at entry e. The rank of the chunk is found once: it tells whether the chunk is held, and where it comes in the order if it has to be taken.
@@ -107,22 +105,19 @@ fn write_one(
     address: Address,
     e: usize,
     word: Word,
-) -> u32
+) -> Result<(), Refusal>
     requires well_formed { (WellFormed (mem bytes.old keys.old order.old words.old)) × (address.0 % 256 ≤ 224) }
     requires e_value { (e ≡ entry_of (mem bytes.old keys.old order.old words.old) page.0) × (e < page_count words.old + fixed_count) }
-    ensures { CallDoes (mem bytes.old keys.old order.old words.old) (Call.WriteWord page.0 address.0 (value word.limbs)) (answered result nothing) (mem bytes.new keys.new order.new words.new) }
+    ensures { CallDoes (mem bytes.old keys.old order.old words.old) (Call.WriteWord page.0 address.0 (value word.limbs)) (answer_outcome nothing result) (mem bytes.new keys.new order.new words.new) }
 {
     let chunk = address.0 / 256;
     let k = store::key_of(e, chunk as u64);
     let at = store::rank_of(keys, order, words, k);
     let s = store::slot_at_rank(keys, order, words, at, k);
-    let number = checks::one_chunk_refusal(bytes, keys, order, words, page, address, s);
-    if number != 0 {
-        return number;
-    }
+    checks::one_chunk_refusal(bytes, keys, order, words, page, address, s)?;
     let held = chunks::hold_at(bytes, keys, order, words, page, chunk, at, k);
     word_steps::write_at(bytes, keys, order, words, page, address, held, held, word);
-    0
+    Ok(())
 }
 
 // Writes a word by searches. The page's entry is found once.
@@ -134,9 +129,9 @@ pub fn write_searched(
     page: PageId,
     address: Address,
     word: Word,
-) -> u32
+) -> Result<(), Refusal>
     requires { WellFormed (mem bytes.old keys.old order.old words.old) }
-    ensures { CallDoes (mem bytes.old keys.old order.old words.old) (Call.WriteWord page.0 address.0 (value word.limbs)) (answered result nothing) (mem bytes.new keys.new order.new words.new) }
+    ensures { CallDoes (mem bytes.old keys.old order.old words.old) (Call.WriteWord page.0 address.0 (value word.limbs)) (answer_outcome nothing result) (mem bytes.new keys.new order.new words.new) }
 {
     let e = store::entry_of(keys, order, words, page);
     if address.0 % 256 > 224 {
@@ -157,15 +152,14 @@ pub fn write_word(
     page: PageId,
     address: Address,
     word: Word,
-) -> u32
+) -> Result<(), Refusal>
     requires { WellFormed (mem bytes.old keys.old order.old words.old) }
-    ensures { CallDoes (mem bytes.old keys.old order.old words.old) (Call.WriteWord page.0 address.0 (value word.limbs)) (answered result nothing) (mem bytes.new keys.new order.new words.new) }
+    ensures { CallDoes (mem bytes.old keys.old order.old words.old) (Call.WriteWord page.0 address.0 (value word.limbs)) (answer_outcome nothing result) (mem bytes.new keys.new order.new words.new) }
 {
-    let known = word_steps::write_known(bytes, keys, order, words, page, address, word);
-    if known != word_steps::LEFT {
-        return known;
+    match word_steps::write_known(bytes, keys, order, words, page, address, word) {
+        Some(written) => written,
+        None => write_searched(bytes, keys, order, words, page, address, word),
     }
-    write_searched(bytes, keys, order, words, page, address, word)
 }
 
 // Writes bytes.
@@ -177,20 +171,20 @@ pub fn write_range(
     page: PageId,
     start: Address,
     src: &[u8],
-) -> u32
+) -> Result<(), Refusal>
     requires { WellFormed (mem bytes.old keys.old order.old words.old) }
-    ensures { CallDoes (mem bytes.old keys.old order.old words.old) (Call.WriteBytes page.0 start.0 src.now) (answered result nothing) (mem bytes.new keys.new order.new words.new) }
+    ensures { CallDoes (mem bytes.old keys.old order.old words.old) (Call.WriteBytes page.0 start.0 src.now) (answer_outcome nothing result) (mem bytes.new keys.new order.new words.new) }
 {
-    if page_ids::is_undecodable(checks::decode(words, page)) {
-        return 4;
+    if checks::decode(words, page).is_none() {
+        return Err(Refusal::Undecodable);
     }
     if (src.len() as u64) > ADDRESSES - (start.0 as u64) {
-        return 8;
+        return Err(Refusal::Range);
     }
     let count = checks::touched(start, src.len()) as u32;
     let notes = checks::aligned(start, src.len());
     let e = store::entry_of(keys, order, words, page);
-    let number = reserve::reserve(
+    reserve::reserve(
         bytes,
         keys,
         order,
@@ -200,13 +194,10 @@ pub fn write_range(
         start.0 / 256,
         count,
         notes,
-    );
-    if number != 0 {
-        return number;
-    }
+    )?;
     journal_range(bytes, keys, order, words, page, start, src.len());
     bodies::write_from(bytes, keys, order, words, page, start, src);
-    0
+    Ok(())
 }
 
 // The page is allocated with contents from address 0.

@@ -1,9 +1,9 @@
 -- No refusal has the number 0, so the status of an answer tells whether the call was carried out, and which refusal it got.
 -- Assumes nothing.
-use mathlib.Core.Path.{◌≡◌, refl}
+use mathlib.Core.Path.{◌≡◌, refl, ap}
 use Prim.Native.Nat.{ℕ}
 use native.Mathlib.Omega.{arith}
-use Rattle.std.specs.Prelude.{Result, Ok, Err, ⊤}
+use Rattle.std.specs.Prelude.{Result, Ok, Err, ⊤, IsErrAnd}
 use Rattle.outcome.specs.declared.Refusal.{Refusal}
 use Rattle.outcome.specs.declared.Refusal.TheVariants.{Layout, Sizes, NotFormed, Undecodable, Fixed, Allocated, NotAllocated, Range, NoPage, NoChunk, NoJournal, BadMark, BadLength, Pointer, HookValue, Operand}
 use Rattle.outcome.specs.Outcome.{number_of, status_of, answered, answer_outcome}
@@ -45,3 +45,8 @@ status_answered a (Err BadLength) = refl
 status_answered a (Err Pointer) = refl
 status_answered a (Err HookValue) = refl
 status_answered a (Err Operand) = refl
+
+-- what `?` returns of a refusal
+pub handed_on : {A : Type 0} (r : Result A Refusal) {e : Refusal} → IsErrAnd r (λ y. y ≡ e) → r ≡ Err e
+handed_on (Ok x) h = absurd h
+handed_on (Err y) h = ap Err h

@@ -7,7 +7,10 @@ use Prim.Native.Nat.{ℕ, zero, suc, ◌+◌, ◌/◌, ◌≤◌, ◌<◌}
 use native.Mathlib.Omega.{arith}
 use lib.ListN.{length}
 use borrow.Author.Tests.{ltb-true}
-use Rattle.outcome.specs.Outcome.{refused, done, answered}
+use Rattle.std.specs.Prelude.{Result, Err, ⊤, IsErrAnd}
+use Rattle.outcome.specs.declared.Refusal.{Refusal}
+use Rattle.outcome.specs.Outcome.{Outcome, answered, answer_outcome, number_of, status_of}
+use Rattle.outcome.proofs.Numbers.{number_nonzero, handed_on}
 use Rattle.word.specs.Value.{word_bytes}
 use Rattle.store.specs.Mem.{Mem, layout_of, slot_count}
 use Rattle.store.specs.Find.{slot_for}
@@ -17,7 +20,7 @@ use Rattle.formed.proofs.Hints.{slot_found}
 use Rattle.view.specs.View.{setting_of, view_of}
 use Rattle.view.specs.Steps.{aligned_count, word_written, bytes_written}
 use Rattle.view.specs.Checks.{word_write_checks, byte_write_checks}
-use Rattle.view.specs.Calls.{Call, WriteWord, WriteBytes, nothing, next_of, first_refusal, CallDoes}
+use Rattle.view.specs.Calls.{Value, WriteWord, WriteBytes, nothing, next_of, first_refusal, CallDoes}
 use Rattle.view.specs.Does.{Shows}
 use Rattle.view.proofs.Refused.{next, refused_does, done_does}
 use Rattle.checks.proofs.Passed.{room_refusals}
@@ -47,32 +50,32 @@ held_word m p a s t small asks es et =
 
 -- ---- a write that hints did not know
 module _ (m : Mem) (p a n : ℕ) where
-  pub left_does : (m₁ : Mem) → m₁ ≡ m → (r : ℕ) (m' : Mem) → CallDoes m₁ (WriteWord p a n) (answered r nothing) m' → CallDoes m (WriteWord p a n) (answered r nothing) m'
-  left_does m₁ e r m' d = subst (λ (x : Mem). CallDoes x (WriteWord p a n) (answered r nothing) m') e d
+  pub left_does : (m₁ : Mem) → m₁ ≡ m → (o : Outcome Value) (m' : Mem) → CallDoes m₁ (WriteWord p a n) o m' → CallDoes m (WriteWord p a n) o m'
+  left_does m₁ e o m' d = subst (λ (x : Mem). CallDoes x (WriteWord p a n) o m') e d
 
   -- ---- and one by searches
   module _ (f : WellFormed m) where
-    pub searched_refused : (r : ℕ) → r ≡ first_refusal (word_write_checks (setting_of m) (view_of m) p a) → (r ≡ 0 → ⊥) → CallDoes m (WriteWord p a n) (answered r nothing) m
-    searched_refused zero e z = absurd (z refl)
-    searched_refused (suc r) e z = refused_does m f (word_write_checks (setting_of m) (view_of m) p a) (setting_of m) (next_of (setting_of m) (WriteWord p a n) (view_of m)) (suc r) e z
+    pub searched_refused : (e : Refusal) → number_of e ≡ first_refusal (word_write_checks (setting_of m) (view_of m) p a) → CallDoes m (WriteWord p a n) (answer_outcome nothing (Err e)) m
+    searched_refused e is = refused_does m f (word_write_checks (setting_of m) (view_of m) p a) (setting_of m) (next_of (setting_of m) (WriteWord p a n) (view_of m)) (number_of e) is (number_nonzero e)
+
+    -- a refusal r that a step gave is handed on as r'; the step left the memory as it was
+    pub searched_left : (r : Result ⊤ Refusal) {e : Refusal} → r ≡ Err e → status_of r ≡ first_refusal (word_write_checks (setting_of m) (view_of m) p a) → (m' : Mem) → m' ≡ m → (r' : Result ⊤ Refusal) → IsErrAnd r' (λ y. y ≡ e) → CallDoes m (WriteWord p a n) (answer_outcome nothing r') m'
+    searched_left r {e} was number m' same r' on =
+        subst (λ (x : Mem). CallDoes m (WriteWord p a n) (answer_outcome nothing r') x) (sym same)
+        (subst (λ (x : Result ⊤ Refusal). CallDoes m (WriteWord p a n) (answer_outcome nothing x) m) (sym (handed_on r' on)) (searched_refused e (sym (ap status_of was) ∙ number)))
 
     pub searched_done : first_refusal (word_write_checks (setting_of m) (view_of m) p a) ≡ 0 → (m' : Mem) → Shows (setting_of m) (word_written (layout_of m.words) p a (word_bytes n) (view_of m)) m' → CallDoes m (WriteWord p a n) (answered 0 nothing) m'
     searched_done e m' shown = done_does m f (word_write_checks (setting_of m) (view_of m) p a) (setting_of m) (next_of (setting_of m) (WriteWord p a n) (view_of m)) (next (room_refusals (setting_of m) (view_of m) p a 32 1)) e shown
 
 -- ---- bytes
 module _ (m : Mem) (p a : ℕ) (bs : List ℕ) (f : WellFormed m) where
-  pub range_refused : (r : ℕ) → r ≡ first_refusal (byte_write_checks (setting_of m) (view_of m) p a (length bs)) → (r ≡ 0 → ⊥) → CallDoes m (WriteBytes p a bs) (answered r nothing) m
-  range_refused zero e z = absurd (z refl)
-  range_refused (suc r) e z = refused_does m f (byte_write_checks (setting_of m) (view_of m) p a (length bs)) (setting_of m) (next_of (setting_of m) (WriteBytes p a bs) (view_of m)) (suc r) e z
+  pub range_refused : (e : Refusal) → number_of e ≡ first_refusal (byte_write_checks (setting_of m) (view_of m) p a (length bs)) → CallDoes m (WriteBytes p a bs) (answer_outcome nothing (Err e)) m
+  range_refused e is = refused_does m f (byte_write_checks (setting_of m) (view_of m) p a (length bs)) (setting_of m) (next_of (setting_of m) (WriteBytes p a bs) (view_of m)) (number_of e) is (number_nonzero e)
+
+  pub range_left : (r : Result ⊤ Refusal) {e : Refusal} → r ≡ Err e → status_of r ≡ first_refusal (byte_write_checks (setting_of m) (view_of m) p a (length bs)) → (m' : Mem) → m' ≡ m → (r' : Result ⊤ Refusal) → IsErrAnd r' (λ y. y ≡ e) → CallDoes m (WriteBytes p a bs) (answer_outcome nothing r') m'
+  range_left r {e} was number m' same r' on =
+      subst (λ (x : Mem). CallDoes m (WriteBytes p a bs) (answer_outcome nothing r') x) (sym same)
+      (subst (λ (x : Result ⊤ Refusal). CallDoes m (WriteBytes p a bs) (answer_outcome nothing x) m) (sym (handed_on r' on)) (range_refused e (sym (ap status_of was) ∙ number)))
 
   pub range_done : first_refusal (byte_write_checks (setting_of m) (view_of m) p a (length bs)) ≡ 0 → (m' : Mem) → Shows (setting_of m) (bytes_written (layout_of m.words) p a bs (view_of m)) m' → CallDoes m (WriteBytes p a bs) (answered 0 nothing) m'
   range_done e m' shown = done_does m f (byte_write_checks (setting_of m) (view_of m) p a (length bs)) (setting_of m) (next_of (setting_of m) (WriteBytes p a bs) (view_of m)) (next (next (room_refusals (setting_of m) (view_of m) p a (length bs) (aligned_count a (length bs))))) e shown
-
--- ---- the outcome, from its number
-pub number_refused : (m : Mem) (c : Call) (r : ℕ) (m' : Mem) → (r ≡ 0 → ⊥) → CallDoes m c (answered r nothing) m' → CallDoes m c (refused r) m'
-number_refused m c zero m' z d = absurd (z refl)
-number_refused m c (suc r) m' z d = d
-
-pub number_done : (m : Mem) (c : Call) (r : ℕ) (m' : Mem) → r ≡ 0 → CallDoes m c (answered r nothing) m' → CallDoes m c (done nothing) m'
-number_done m c zero m' z d = d
-number_done m c (suc r) m' z d = absurd (omega arith)

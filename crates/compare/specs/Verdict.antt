@@ -1,13 +1,10 @@
 -- What a comparison answers.
 -- Assumes nothing.
-use Rattle.std.specs.Prelude.{true, false}
-use Rattle.outcome.specs.Outcome.{Outcome, refused, done}
+use Rattle.std.specs.Prelude.{Bool, Result}
+use Rattle.outcome.specs.Outcome.{Outcome, result_outcome}
+use Rattle.outcome.specs.declared.Refusal.{Refusal}
 use Rattle.view.specs.Calls.{Value, verdict}
-use Rattle.compare.specs.declared.Comparison.{Comparison}
-use Rattle.compare.specs.declared.Comparison.TheVariants.{Equal, Different, Refused}
 
--- 01's number or value of each case
-abbrev pub comparison_outcome : Comparison → Outcome Value
-comparison_outcome Equal = done (verdict true)
-comparison_outcome Different = done (verdict false)
-comparison_outcome (Refused n) = refused n
+-- 01's number, or whether the memories are equal
+abbrev pub comparison_outcome : Result Bool Refusal → Outcome Value
+comparison_outcome r = result_outcome verdict r

@@ -7,14 +7,9 @@ ghost use Rattle.store.specs.Mem.{mem};
 ghost use Rattle.view.specs.Calls.{comparison_of};
 ghost use Rattle.compare.specs.Verdict.{comparison_outcome};
 
-pub mod on_formed;
+use outcome::Refusal;
 
-#[derive(Clone, Copy)]
-pub enum Comparison {
-    Equal,
-    Different,
-    Refused(u32),
-}
+pub mod on_formed;
 
 // Compares two memories. vm2: `eq` of `Heaps`.
 pub fn compare(
@@ -26,14 +21,14 @@ pub fn compare(
     right_keys: &[u64],
     right_order: &[u32],
     right_words: &[u64],
-) -> Comparison
+) -> Result<bool, Refusal>
     ensures { comparison_outcome result ≡ comparison_of (mem left_bytes.now left_keys.now left_order.now left_words.now) (mem right_bytes.now right_keys.now right_order.now right_words.now) }
 {
     if !formed::well_formed(left_bytes, left_keys, left_order, left_words) {
-        return Comparison::Refused(3);
+        return Err(Refusal::NotFormed);
     }
     if !formed::well_formed(right_bytes, right_keys, right_order, right_words) {
-        return Comparison::Refused(3);
+        return Err(Refusal::NotFormed);
     }
     on_formed::compare(
         left_bytes,

@@ -12,7 +12,7 @@ ghost use Rattle.view.specs.Calls.{comparison_of};
 ghost use Rattle.compare.specs.Verdict.{comparison_outcome};
 ghost use Rattle.compare.specs.Covers.{covers};
 
-use crate::Comparison;
+use outcome::Refusal;
 use page_ids::PageId;
 use store::head;
 
@@ -155,15 +155,15 @@ pub fn compare(
     right_keys: &[u64],
     right_order: &[u32],
     right_words: &[u64],
-) -> Comparison
+) -> Result<bool, Refusal>
     requires well_formed { WellFormed (mem left_bytes.now left_keys.now left_order.now left_words.now) }
     requires well_formed_2 { WellFormed (mem right_bytes.now right_keys.now right_order.now right_words.now) }
     ensures { comparison_outcome result ≡ comparison_of (mem left_bytes.now left_keys.now left_order.now left_words.now) (mem right_bytes.now right_keys.now right_order.now right_words.now) }
 {
     if !same_layout(left_words, right_words) {
-        return Comparison::Refused(1);
+        return Err(Refusal::Layout);
     }
-    if equal(
+    Ok(equal(
         left_bytes,
         left_keys,
         left_order,
@@ -172,8 +172,5 @@ pub fn compare(
         right_keys,
         right_order,
         right_words,
-    ) {
-        return Comparison::Equal;
-    }
-    Comparison::Different
+    ))
 }

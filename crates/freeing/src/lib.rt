@@ -5,7 +5,7 @@ ghost use Rattle.outcome.specs.Outcome.{answer_outcome};
 ghost use Rattle.store.specs.Mem.{mem};
 ghost use Rattle.view.specs.Calls.{Call, nothing, CallDoes};
 
-use outcome::Answer;
+use outcome::Refusal;
 use page_ids::{Address, PageId};
 
 pub mod on_formed;
@@ -17,11 +17,11 @@ pub fn deallocate(
     order: &mut [u32],
     words: &mut [u64],
     page: PageId,
-) -> Answer
+) -> Result<(), Refusal>
     ensures { CallDoes (mem bytes.old keys.old order.old words.old) (Call.Free page.0) (answer_outcome nothing result) (mem bytes.new keys.new order.new words.new) }
 {
     if !formed::well_formed(bytes, keys, order, words) {
-        return Answer::Refused(3);
+        return Err(Refusal::NotFormed);
     }
     on_formed::deallocate(bytes, keys, order, words, page)
 }
@@ -35,11 +35,11 @@ pub fn compact_to_window(
     page: PageId,
     start: Address,
     length: u32,
-) -> Answer
+) -> Result<(), Refusal>
     ensures { CallDoes (mem bytes.old keys.old order.old words.old) (Call.Window page.0 start.0 length) (answer_outcome nothing result) (mem bytes.new keys.new order.new words.new) }
 {
     if !formed::well_formed(bytes, keys, order, words) {
-        return Answer::Refused(3);
+        return Err(Refusal::NotFormed);
     }
     on_formed::compact_to_window(bytes, keys, order, words, page, start, length)
 }
@@ -51,11 +51,11 @@ pub fn truncate_dynamic_to(
     order: &mut [u32],
     words: &mut [u64],
     len: u64,
-) -> Answer
+) -> Result<(), Refusal>
     ensures { CallDoes (mem bytes.old keys.old order.old words.old) (Call.Truncate len) (answer_outcome nothing result) (mem bytes.new keys.new order.new words.new) }
 {
     if !formed::well_formed(bytes, keys, order, words) {
-        return Answer::Refused(3);
+        return Err(Refusal::NotFormed);
     }
     on_formed::truncate_dynamic_to(bytes, keys, order, words, len)
 }

@@ -1,6 +1,6 @@
 // Frees, windows and truncations of a memory that is known to be well formed: what is left of each call after the test.
 ghost use Rattle.std.specs.Prelude.{◌≡◌, ◌&&◌};
-ghost use Rattle.outcome.specs.Outcome.{answer_outcome};
+ghost use Rattle.outcome.specs.Outcome.{answer_outcome, status_of};
 ghost use Rattle.store.specs.Mem.{mem, layout_of};
 ghost use Rattle.formed.specs.Pages.{dynamic};
 ghost use Rattle.formed.specs.WellFormed.{WellFormed};
@@ -8,26 +8,25 @@ ghost use Rattle.view.specs.View.{setting_of, view_of};
 ghost use Rattle.view.specs.Checks.{free_checks, truncate_checks};
 ghost use Rattle.view.specs.Calls.{Call, nothing, first_refusal, CallDoes};
 
-use outcome::Answer;
+use outcome::Refusal;
 use page_ids::{Address, PageId};
 use store::head;
 
-// The number with which a free is refused, or 0.
-fn free_refusal(bytes: &[u8], keys: &[u64], order: &[u32], words: &[u64], page: PageId) -> u32
+// The refusal that a free gets, if any.
+fn free_refusal(bytes: &[u8], keys: &[u64], order: &[u32], words: &[u64], page: PageId) -> Result<(), Refusal>
     requires { WellFormed (mem bytes.now keys.now order.now words.now) }
-    ensures { let m = mem bytes.now keys.now order.now words.now in result ≡ first_refusal (free_checks (setting_of m) (view_of m) page.0) }
+    ensures { let m = mem bytes.now keys.now order.now words.now in status_of result ≡ first_refusal (free_checks (setting_of m) (view_of m) page.0) }
 {
-    let decoded = checks::decode(words, page);
-    if page_ids::is_undecodable(decoded) {
-        return 4;
-    }
+    let Some(decoded) = checks::decode(words, page) else {
+        return Err(Refusal::Undecodable);
+    };
     if page_ids::is_fixed(decoded) {
-        return 5;
+        return Err(Refusal::Fixed);
     }
     if !checks::is_allocated(bytes, keys, order, words, page) {
-        return 7;
+        return Err(Refusal::NotAllocated);
     }
-    0
+    Ok(())
 }
 
 pub fn deallocate(
@@ -36,16 +35,13 @@ pub fn deallocate(
     order: &mut [u32],
     words: &mut [u64],
     page: PageId,
-) -> Answer
+) -> Result<(), Refusal>
     requires { WellFormed (mem bytes.old keys.old order.old words.old) }
     ensures { CallDoes (mem bytes.old keys.old order.old words.old) (Call.Free page.0) (answer_outcome nothing result) (mem bytes.new keys.new order.new words.new) }
 {
-    let refusal = free_refusal(bytes, keys, order, words, page);
-    if refusal != 0 {
-        return Answer::Refused(refusal);
-    }
+    free_refusal(bytes, keys, order, words, page)?;
     drops::free_page(bytes, keys, order, words, page);
-    Answer::Done
+    Ok(())
 }
 
 // Whether a page is dynamic and allocated.
@@ -53,14 +49,10 @@ fn is_dynamic(bytes: &[u8], keys: &[u64], order: &[u32], words: &[u64], page: Pa
     requires { WellFormed (mem bytes.now keys.now order.now words.now) }
     ensures { let m = mem bytes.now keys.now order.now words.now in result ≡ (dynamic (layout_of words.now) page.0 && (view_of m).allocated page.0) }
 {
-    let decoded = checks::decode(words, page);
-    if page_ids::is_undecodable(decoded) {
+    let Some(decoded) = checks::decode(words, page) else {
         return false;
-    }
-    if page_ids::is_fixed(decoded) {
-        return false;
-    }
-    checks::is_allocated(bytes, keys, order, words, page)
+    };
+    !page_ids::is_fixed(decoded) && checks::is_allocated(bytes, keys, order, words, page)
 }
 
 pub fn compact_to_window(
@@ -71,26 +63,26 @@ pub fn compact_to_window(
     page: PageId,
     start: Address,
     length: u32,
-) -> Answer
+) -> Result<(), Refusal>
     requires { WellFormed (mem bytes.old keys.old order.old words.old) }
     ensures { CallDoes (mem bytes.old keys.old order.old words.old) (Call.Window page.0 start.0 length) (answer_outcome nothing result) (mem bytes.new keys.new order.new words.new) }
 {
     if !is_dynamic(bytes, keys, order, words, page) {
-        return Answer::Done;
+        return Ok(());
     }
     free_steps::retain_window(bytes, keys, order, words, page, start, length);
-    Answer::Done
+    Ok(())
 }
 
-// The number with which a truncation is refused, or 0.
-fn truncate_refusal(bytes: &[u8], keys: &[u64], order: &[u32], words: &[u64], len: u64) -> u32
+// The refusal that a truncation gets, if any.
+fn truncate_refusal(bytes: &[u8], keys: &[u64], order: &[u32], words: &[u64], len: u64) -> Result<(), Refusal>
     requires { WellFormed (mem bytes.now keys.now order.now words.now) }
-    ensures { let m = mem bytes.now keys.now order.now words.now in result ≡ first_refusal (truncate_checks (view_of m) len) }
+    ensures { let m = mem bytes.now keys.now order.now words.now in status_of result ≡ first_refusal (truncate_checks (view_of m) len) }
 {
     if words[head::DYNAMIC_LENGTH] < len {
-        return 13;
+        return Err(Refusal::BadLength);
     }
-    0
+    Ok(())
 }
 
 pub fn truncate_dynamic_to(
@@ -99,15 +91,12 @@ pub fn truncate_dynamic_to(
     order: &mut [u32],
     words: &mut [u64],
     len: u64,
-) -> Answer
+) -> Result<(), Refusal>
     requires { WellFormed (mem bytes.old keys.old order.old words.old) }
     ensures { CallDoes (mem bytes.old keys.old order.old words.old) (Call.Truncate len) (answer_outcome nothing result) (mem bytes.new keys.new order.new words.new) }
 {
-    let refusal = truncate_refusal(bytes, keys, order, words, len);
-    if refusal != 0 {
-        return Answer::Refused(refusal);
-    }
+    truncate_refusal(bytes, keys, order, words, len)?;
     free_steps::free_groups(bytes, keys, order, words, len);
     free_steps::shorten(bytes, keys, order, words, len);
-    Answer::Done
+    Ok(())
 }

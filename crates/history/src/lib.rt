@@ -5,7 +5,7 @@ ghost use Rattle.outcome.specs.Outcome.{answer_outcome};
 ghost use Rattle.store.specs.Mem.{mem};
 ghost use Rattle.view.specs.Calls.{Rollback, DeleteHistory, CallDoes, nothing};
 
-use outcome::Answer;
+use outcome::Refusal;
 
 pub mod on_formed;
 
@@ -17,21 +17,21 @@ pub fn rollback(
     words: &mut [u64],
     heap: u64,
     aux: u64,
-) -> Answer
+) -> Result<(), Refusal>
     ensures { let m = mem bytes.old keys.now order.now words.old in CallDoes m (Rollback heap aux) (answer_outcome nothing result) (mem bytes.new keys.now order.now words.new) }
 {
     if !formed::well_formed(bytes, keys, order, words) {
-        return Answer::Refused(3);
+        return Err(Refusal::NotFormed);
     }
     on_formed::rollback(bytes, keys, order, words, heap, aux)
 }
 
 // Empties the journals: no earlier snapshot can be rolled back to. vm2: `delete_history`.
-pub fn delete_history(bytes: &[u8], keys: &[u64], order: &[u32], words: &mut [u64]) -> Answer
+pub fn delete_history(bytes: &[u8], keys: &[u64], order: &[u32], words: &mut [u64]) -> Result<(), Refusal>
     ensures { let m = mem bytes.now keys.now order.now words.old in CallDoes m DeleteHistory (answer_outcome nothing result) (mem bytes.now keys.now order.now words.new) }
 {
     if !formed::well_formed(bytes, keys, order, words) {
-        return Answer::Refused(3);
+        return Err(Refusal::NotFormed);
     }
     on_formed::delete_history(bytes, keys, order, words)
 }

@@ -2,7 +2,7 @@
 #![tactic(auto)]
 
 ghost use Rattle.std.specs.Prelude.{◌≡◌, ◌≤◌, length, replicate};
-ghost use Rattle.outcome.specs.Outcome.{answered, answer_outcome};
+ghost use Rattle.outcome.specs.Outcome.{answer_outcome};
 ghost use Rattle.store.specs.Mem.{mem, head_length, fixed_count, pool_length};
 ghost use Rattle.view.specs.View.{setting_of};
 ghost use Rattle.view.specs.Steps.{empty_view, opened};
@@ -12,7 +12,7 @@ ghost use Rattle.page_ids.specs.declared.Layout.{Layout};
 ghost use Rattle.page_ids.specs.Decode.{layout_from};
 ghost use Rattle.opening.specs.Opening.{setting_from, PoolFull, headed, sizes_right, OpenAsks, FixedAsks, FirstPages, opening_outcome, CalldataAsks};
 
-use outcome::Answer;
+use outcome::Refusal;
 use page_ids::{Address, BasePage, Layout, PageId};
 use store::head;
 
@@ -191,7 +191,7 @@ fn sizes_right(
     )
 }
 
-// The number with which an opening is refused, or 0.
+// The refusal that an opening gets, if any.
 fn open_refusal(
     bytes: &[u8],
     keys: &[u64],
@@ -202,20 +202,20 @@ fn open_refusal(
     pages: u32,
     journal_words: u32,
     calldata: &[u8],
-) -> u32
-    ensures { let s = setting_from layout chunks pages journal_words in answered result nothing ≡ opening_outcome s (mem bytes.now keys.now order.now words.now) (length calldata.now) }
+) -> Result<(), Refusal>
+    ensures { let s = setting_from layout chunks pages journal_words in answer_outcome nothing result ≡ opening_outcome s (mem bytes.now keys.now order.now words.now) (length calldata.now) }
 {
     if page_ids::bad_layout(layout) {
-        return 1;
+        return Err(Refusal::Layout);
     }
     if !sizes_right(bytes, keys, order, words, chunks, pages, journal_words) {
-        return 2;
+        return Err(Refusal::Sizes);
     }
     let c = chunks as usize;
     if 256 * c < calldata.len() {
-        return 10;
+        return Err(Refusal::NoChunk);
     }
-    0
+    Ok(())
 }
 
 // Puts calldata on its page, in a memory just started.
@@ -249,10 +249,10 @@ pub fn open(
     pages: u32,
     journal_words: u32,
     calldata: &[u8],
-) -> Answer
+) -> Result<(), Refusal>
     ensures { let s = setting_from layout chunks pages journal_words in let m = mem bytes.old keys.old order.old words.old in OpenDoes m s calldata.now (answer_outcome nothing result) (mem bytes.new keys.new order.new words.new) }
 {
-    let n = open_refusal(
+    open_refusal(
         bytes,
         keys,
         order,
@@ -262,10 +262,7 @@ pub fn open(
         pages,
         journal_words,
         calldata,
-    );
-    if n != 0 {
-        return Answer::Refused(n);
-    }
+    )?;
     start(
         bytes,
         keys,
@@ -278,5 +275,5 @@ pub fn open(
     );
     let page = layout.calldata;
     put_calldata(bytes, keys, order, words, page, calldata);
-    Answer::Done
+    Ok(())
 }

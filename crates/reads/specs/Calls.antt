@@ -1,41 +1,35 @@
 -- What the reads answer.
 -- Assumes nothing.
-use Rattle.std.specs.Prelude.{◌≡◌, true, false, List, ℕ}
-use Rattle.outcome.specs.Outcome.{Outcome, carried_out, answered}
+use Rattle.std.specs.Prelude.{◌≡◌, true, false, List, ℕ, Result}
+use Rattle.outcome.specs.Outcome.{Outcome, carried_out, result_outcome}
+use Rattle.outcome.specs.declared.Refusal.{Refusal}
 use Rattle.word.specs.Value.{value}
+use Rattle.word.specs.declared.Word.{Word}
 use Rattle.view.specs.Calls.{Value, lengths, partial_word}
-use Rattle.reads.specs.declared.WordRead.{WordRead}
-use Rattle.reads.specs.declared.PartialRead.{PartialRead}
-use Rattle.reads.specs.declared.ByteRead.{ByteRead}
-use Rattle.reads.specs.declared.LengthRead.{LengthRead}
+use Rattle.reads.specs.declared.PartialWord.{PartialWord}
 use Rattle.reads.specs.declared.Marks.{Marks}
 
--- A read gives a number of 01's table beside its value; 0 is none, and says that it was carried out
+-- A read answers a value, or is refused with a number of 01's table
 -- the number of the word
-abbrev pub word_outcome : WordRead → Outcome ℕ
-word_outcome r = answered r.refusal (value r.word.limbs)
+abbrev pub word_outcome : Result Word Refusal → Outcome ℕ
+word_outcome r = result_outcome (λ w. value w.limbs) r
 
 -- .. and how many bytes of the range lead it
-abbrev pub word_and_count : PartialRead → ℕ × ℕ
+abbrev pub word_and_count : PartialWord → ℕ × ℕ
 word_and_count r = (value r.word.limbs, r.bytes_read)
 
-abbrev pub partial_outcome : PartialRead → Outcome (ℕ × ℕ)
-partial_outcome r = answered r.refusal (word_and_count r)
+abbrev pub partial_outcome : Result PartialWord Refusal → Outcome (ℕ × ℕ)
+partial_outcome r = result_outcome word_and_count r
 
-abbrev pub byte_outcome : ByteRead → Outcome ℕ
-byte_outcome r = answered r.refusal r.byte
+abbrev pub byte_outcome : Result ℕ Refusal → Outcome ℕ
+byte_outcome r = result_outcome (λ b. b) r
 
-abbrev pub length_outcome : LengthRead → Outcome ℕ
-length_outcome r = answered r.refusal r.length
+abbrev pub length_outcome : Result ℕ Refusal → Outcome ℕ
+length_outcome r = result_outcome (λ n. n) r
 
 -- the lengths of the two journals
-abbrev pub snapshot_outcome : Marks → Outcome (ℕ × ℕ)
-snapshot_outcome r = answered r.refusal (r.heap, r.aux)
-
--- a read that tells its outcome and gives a value, which is `none` where it is refused
-pub record ReadDoes {A : Type 0} (outcome reported : Outcome A) (value none : A) : Type 0 where
-  pub answer : reported ≡ outcome
-  pub zero : carried_out outcome ≡ false → value ≡ none
+abbrev pub snapshot_outcome : Result Marks Refusal → Outcome (ℕ × ℕ)
+snapshot_outcome r = result_outcome (λ k. (k.heap, k.aux)) r
 
 -- a read into an output: it is d after the call, and was o; `bytes` are those of the range
 pub record RangeDoes {A : Type 0} (outcome reported : Outcome A) (bytes o d : List ℕ) : Type 0 where

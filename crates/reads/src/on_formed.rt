@@ -9,31 +9,26 @@ ghost use Rattle.view.specs.View.{view_of};
 ghost use Rattle.view.specs.Steps.{run, padded};
 ghost use Rattle.view.specs.Checks.{on_memory, partial_checks, range_checks, lookup_checks};
 ghost use Rattle.view.specs.Calls.{shown_of};
-ghost use Rattle.reads.specs.Calls.{word_outcome, word_and_count, partial_outcome, byte_outcome, length_outcome, snapshot_outcome, ReadDoes, RangeDoes};
+ghost use Rattle.reads.specs.Calls.{word_outcome, partial_outcome, byte_outcome, length_outcome, snapshot_outcome, RangeDoes};
 
-use crate::{ByteRead, LengthRead, Marks, PartialRead, WordRead, no_partial};
-use outcome::Answer;
+use crate::{Marks, PartialWord};
+use outcome::Refusal;
 use page_ids::{Address, PageId};
+use word::Word;
 use store::head;
 
 // How far `end` lies past `start`: 0 where it does not.
 fn span(start: Address, end: Address) -> u32
     ensures { result ≡ end.0 - start.0 }
 {
-    if end.0 < start.0 {
-        return 0;
-    }
-    end.0 - start.0
+    end.0.saturating_sub(start.0)
 }
 
 // Whether a block is 256 zero bytes.
 fn is_zero_block(block: &[u8]) -> bool
     ensures { result ≡ (eqb (length block.now) 256 && zeros block.now) }
 {
-    if block.len() != 256 {
-        return false;
-    }
-    formed::slot::all_zero(block)
+    block.len() == 256 && formed::slot::all_zero(block)
 }
 
 // ---- the calls
@@ -45,14 +40,11 @@ pub fn read_u256(
     words: &[u64],
     page: PageId,
     address: Address,
-) -> WordRead
+) -> Result<Word, Refusal>
     requires { WellFormed (mem bytes.now keys.now order.now words.now) }
-    ensures { let m = mem bytes.now keys.now order.now words.now in ReadDoes (on_memory m [] (big_endian (run (view_of m) page.0 address.0 32))) (word_outcome result) (value result.word.limbs) 0 }
+    ensures { let m = mem bytes.now keys.now order.now words.now in word_outcome result ≡ on_memory m [] (big_endian (run (view_of m) page.0 address.0 32)) }
 {
-    WordRead {
-        refusal: 0,
-        word: read_steps::read_word(bytes, keys, order, words, page, address),
-    }
+    Ok(read_steps::read_word(bytes, keys, order, words, page, address))
 }
 
 pub fn read_u256_partially(
@@ -63,20 +55,19 @@ pub fn read_u256_partially(
     page: PageId,
     start: Address,
     end: Address,
-) -> PartialRead
+) -> Result<PartialWord, Refusal>
     requires { WellFormed (mem bytes.now keys.now order.now words.now) }
-    ensures { let m = mem bytes.now keys.now order.now words.now in ReadDoes (on_memory m (partial_checks start.0 end.0) (big_endian (padded (run (view_of m) page.0 start.0 (end.0 - start.0))), end.0 - start.0)) (partial_outcome result) (word_and_count result) (0, 0) }
+    ensures { let m = mem bytes.now keys.now order.now words.now in partial_outcome result ≡ on_memory m (partial_checks start.0 end.0) (big_endian (padded (run (view_of m) page.0 start.0 (end.0 - start.0))), end.0 - start.0)) (partial_outcome result }
 {
     let n = span(start, end);
     if n > 32 {
-        return no_partial(8);
+        return Err(Refusal::Range);
     }
     let read = read_steps::read_padded(bytes, keys, order, words, page, start, n as usize);
-    PartialRead {
-        refusal: 0,
+    Ok(PartialWord {
         word: word::from_big_endian(read),
         bytes_read: n,
-    }
+    })
 }
 
 pub fn read_range_big_endian(
@@ -88,16 +79,16 @@ pub fn read_range_big_endian(
     start: Address,
     end: Address,
     output: &mut [u8],
-) -> Answer
+) -> Result<(), Refusal>
     requires { WellFormed (mem bytes.now keys.now order.now words.now) }
     ensures { let m = mem bytes.now keys.now order.now words.now in RangeDoes (on_memory m (range_checks start.0 end.0 (length output.old)) tt) (unit_outcome result) (run (view_of m) page.0 start.0 (end.0 - start.0)) output.old output.new }
 {
     let n = span(start, end);
     if output.len() != n as usize {
-        return Answer::Refused(8);
+        return Err(Refusal::Range);
     }
     read_steps::read_into(bytes, keys, order, words, page, start, output);
-    Answer::Done
+    Ok(())
 }
 
 pub fn read_byte(
@@ -107,35 +98,28 @@ pub fn read_byte(
     words: &[u64],
     page: PageId,
     address: Address,
-) -> ByteRead
+) -> Result<u8, Refusal>
     requires { WellFormed (mem bytes.now keys.now order.now words.now) }
-    ensures { let m = mem bytes.now keys.now order.now words.now in ReadDoes (on_memory m [] ((view_of m).bytes page.0 address.0)) (byte_outcome result) result.byte 0 }
+    ensures { let m = mem bytes.now keys.now order.now words.now in byte_outcome result ≡ on_memory m [] ((view_of m).bytes page.0 address.0) }
 {
-    ByteRead {
-        refusal: 0,
-        byte: read_steps::byte_at(bytes, keys, order, words, page, address),
-    }
+    Ok(read_steps::byte_at(bytes, keys, order, words, page, address))
 }
 
-pub fn dynamic_len(bytes: &[u8], keys: &[u64], order: &[u32], words: &[u64]) -> LengthRead
+pub fn dynamic_len(bytes: &[u8], keys: &[u64], order: &[u32], words: &[u64]) -> Result<u32, Refusal>
     requires { WellFormed (mem bytes.now keys.now order.now words.now) }
-    ensures { let m = mem bytes.now keys.now order.now words.now in ReadDoes (on_memory m [] (view_of m).dynamic_length) (length_outcome result) result.length 0 }
+    ensures { let m = mem bytes.now keys.now order.now words.now in length_outcome result ≡ on_memory m [] (view_of m).dynamic_length }
 {
-    LengthRead {
-        refusal: 0,
-        length: words[head::DYNAMIC_LENGTH] as u32,
-    }
+    Ok(words[head::DYNAMIC_LENGTH] as u32)
 }
 
-pub fn snapshot(bytes: &[u8], keys: &[u64], order: &[u32], words: &[u64]) -> Marks
+pub fn snapshot(bytes: &[u8], keys: &[u64], order: &[u32], words: &[u64]) -> Result<Marks, Refusal>
     requires { WellFormed (mem bytes.now keys.now order.now words.now) }
-    ensures { let m = mem bytes.now keys.now order.now words.now in ReadDoes (on_memory m [] (length ((view_of m).journal 0), length ((view_of m).journal 1))) (snapshot_outcome result) (result.heap, result.aux) (0, 0) }
+    ensures { let m = mem bytes.now keys.now order.now words.now in snapshot_outcome result ≡ on_memory m [] (length ((view_of m).journal 0), length ((view_of m).journal 1)) }
 {
-    Marks {
-        refusal: 0,
+    Ok(Marks {
         heap: words[head::HEAP_JOURNAL] as u32,
         aux: words[head::AUX_JOURNAL] as u32,
-    }
+    })
 }
 
 pub fn chunk<'a>(
@@ -164,12 +148,12 @@ pub fn chunk_check(
     page: PageId,
     number: u32,
     block: &[u8],
-) -> Answer
+) -> Result<(), Refusal>
     requires { WellFormed (mem bytes.now keys.now order.now words.now) }
     ensures { let m = mem bytes.now keys.now order.now words.now in unit_outcome result ≡ on_memory m (lookup_checks block.now) tt }
 {
     if !is_zero_block(block) {
-        return Answer::Refused(8);
+        return Err(Refusal::Range);
     }
-    Answer::Done
+    Ok(())
 }

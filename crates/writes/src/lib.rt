@@ -8,7 +8,7 @@ ghost use Rattle.word.specs.Value.{value};
 ghost use Rattle.store.specs.Mem.{mem};
 ghost use Rattle.view.specs.Calls.{Call, CallDoes, nothing};
 
-use outcome::Answer;
+use outcome::Refusal;
 use page_ids::{Address, PageId};
 use word::Word;
 
@@ -23,11 +23,11 @@ pub fn write_u256(
     page: PageId,
     address: Address,
     word: Word,
-) -> Answer
+) -> Result<(), Refusal>
     ensures { CallDoes (mem bytes.old keys.old order.old words.old) (Call.WriteWord page.0 address.0 (value word.limbs)) (answer_outcome nothing result) (mem bytes.new keys.new order.new words.new) }
 {
     if !formed::well_formed(bytes, keys, order, words) {
-        return Answer::Refused(3);
+        return Err(Refusal::NotFormed);
     }
     on_formed::write_u256(bytes, keys, order, words, page, address, word)
 }
@@ -41,11 +41,11 @@ pub fn write_bytes(
     page: PageId,
     start: Address,
     src: &[u8],
-) -> Answer
+) -> Result<(), Refusal>
     ensures { CallDoes (mem bytes.old keys.old order.old words.old) (Call.WriteBytes page.0 start.0 src.now) (answer_outcome nothing result) (mem bytes.new keys.new order.new words.new) }
 {
     if !formed::well_formed(bytes, keys, order, words) {
-        return Answer::Refused(3);
+        return Err(Refusal::NotFormed);
     }
     on_formed::write_bytes(bytes, keys, order, words, page, start, src)
 }
@@ -58,11 +58,11 @@ pub fn allocate_with_content_at(
     words: &mut [u64],
     page: PageId,
     contents: &[u8],
-) -> Answer
+) -> Result<(), Refusal>
     ensures { CallDoes (mem bytes.old keys.old order.old words.old) (Call.Allocate page.0 contents.now) (answer_outcome nothing result) (mem bytes.new keys.new order.new words.new) }
 {
     if !formed::well_formed(bytes, keys, order, words) {
-        return Answer::Refused(3);
+        return Err(Refusal::NotFormed);
     }
     on_formed::allocate_with_content_at(bytes, keys, order, words, page, contents)
 }
@@ -74,11 +74,11 @@ pub fn allocate_at(
     order: &mut [u32],
     words: &mut [u64],
     page: PageId,
-) -> Answer
+) -> Result<(), Refusal>
     ensures { CallDoes (mem bytes.old keys.old order.old words.old) (Call.Allocate page.0 []) (answer_outcome nothing result) (mem bytes.new keys.new order.new words.new) }
 {
     if !formed::well_formed(bytes, keys, order, words) {
-        return Answer::Refused(3);
+        return Err(Refusal::NotFormed);
     }
     on_formed::allocate_at(bytes, keys, order, words, page)
 }

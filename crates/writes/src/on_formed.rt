@@ -6,7 +6,7 @@ ghost use Rattle.store.specs.Mem.{mem};
 ghost use Rattle.formed.specs.WellFormed.{WellFormed};
 ghost use Rattle.view.specs.Calls.{Call, CallDoes, nothing};
 
-use outcome::Answer;
+use outcome::Refusal;
 use page_ids::{Address, PageId};
 use word::Word;
 
@@ -18,15 +18,11 @@ pub fn write_u256(
     page: PageId,
     address: Address,
     word: Word,
-) -> Answer
+) -> Result<(), Refusal>
     requires { WellFormed (mem bytes.old keys.old order.old words.old) }
     ensures { CallDoes (mem bytes.old keys.old order.old words.old) (Call.WriteWord page.0 address.0 (value word.limbs)) (answer_outcome nothing result) (mem bytes.new keys.new order.new words.new) }
 {
-    let refusal = write_steps::write_word(bytes, keys, order, words, page, address, word);
-    if refusal != 0 {
-        return Answer::Refused(refusal);
-    }
-    Answer::Done
+    write_steps::write_word(bytes, keys, order, words, page, address, word)
 }
 
 pub fn write_bytes(
@@ -37,15 +33,11 @@ pub fn write_bytes(
     page: PageId,
     start: Address,
     src: &[u8],
-) -> Answer
+) -> Result<(), Refusal>
     requires { WellFormed (mem bytes.old keys.old order.old words.old) }
     ensures { CallDoes (mem bytes.old keys.old order.old words.old) (Call.WriteBytes page.0 start.0 src.now) (answer_outcome nothing result) (mem bytes.new keys.new order.new words.new) }
 {
-    let refusal = write_steps::write_range(bytes, keys, order, words, page, start, src);
-    if refusal != 0 {
-        return Answer::Refused(refusal);
-    }
-    Answer::Done
+    write_steps::write_range(bytes, keys, order, words, page, start, src)
 }
 
 pub fn allocate_with_content_at(
@@ -55,16 +47,13 @@ pub fn allocate_with_content_at(
     words: &mut [u64],
     page: PageId,
     contents: &[u8],
-) -> Answer
+) -> Result<(), Refusal>
     requires { WellFormed (mem bytes.old keys.old order.old words.old) }
     ensures { CallDoes (mem bytes.old keys.old order.old words.old) (Call.Allocate page.0 contents.now) (answer_outcome nothing result) (mem bytes.new keys.new order.new words.new) }
 {
-    let refusal = checks::allocate_refusal(bytes, keys, order, words, page, contents.len());
-    if refusal != 0 {
-        return Answer::Refused(refusal);
-    }
+    checks::allocate_refusal(bytes, keys, order, words, page, contents.len())?;
     write_steps::fill(bytes, keys, order, words, page, contents);
-    Answer::Done
+    Ok(())
 }
 
 pub fn allocate_at(
@@ -73,14 +62,11 @@ pub fn allocate_at(
     order: &mut [u32],
     words: &mut [u64],
     page: PageId,
-) -> Answer
+) -> Result<(), Refusal>
     requires { WellFormed (mem bytes.old keys.old order.old words.old) }
     ensures { CallDoes (mem bytes.old keys.old order.old words.old) (Call.Allocate page.0 []) (answer_outcome nothing result) (mem bytes.new keys.new order.new words.new) }
 {
-    let refusal = checks::allocate_refusal(bytes, keys, order, words, page, 0);
-    if refusal != 0 {
-        return Answer::Refused(refusal);
-    }
+    checks::allocate_refusal(bytes, keys, order, words, page, 0)?;
     pages::list_page(bytes, keys, order, words, page);
-    Answer::Done
+    Ok(())
 }

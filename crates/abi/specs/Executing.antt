@@ -1,7 +1,7 @@
 -- What the numbers of an instruction mean, and its contract.
 -- Assumes nothing.
 use Rattle.std.specs.Prelude.{◌≡◌, Bool, true, false, ◌&&◌, List, [], ◌∷◌, ◌⊎◌, ℕ, eqb, length, get_or}
-use Rattle.outcome.specs.Outcome.{Outcome, refused, panicked, done, first_of}
+use Rattle.outcome.specs.Outcome.{Outcome, refused, panicked, done, first_of, number_of}
 use Rattle.registers.specs.Registers.{registers_from}
 use Rattle.store.specs.Mem.{Mem}
 use Rattle.view.specs.Instructions.{Hook, Stop, Executed, running, on_hook}
@@ -64,27 +64,27 @@ abbrev pub executed_status : ExecutionStatus → ℕ
 executed_status Running = 0
 executed_status (SuspendedOnHook h) = 101
 executed_status Panicked = 100
-executed_status (Refused n) = n
+executed_status (Refused e) = number_of e
 
 abbrev pub frame_after : ExecutionStatus → code.Executed → List ℕ → List ℕ
 frame_after Running x frame = frame_numbers x.frame
 frame_after (SuspendedOnHook h) x frame = frame_numbers x.frame
 frame_after Panicked x frame = frame_numbers x.frame
-frame_after (Refused n) x frame = frame
+frame_after (Refused e) x frame = frame
 
 -- a stop's output is the hook's value
 abbrev pub stop_value : ExecutionStatus → List ℕ → List ℕ
 stop_value Running out = out
 stop_value (SuspendedOnHook h) out = h ∷ []
 stop_value Panicked out = out
-stop_value (Refused n) out = out
+stop_value (Refused e) out = out
 
 -- a pointer load's output is how many bytes it read, where it is carried out
 abbrev pub read_value : ExecutionStatus → ℕ → List ℕ → List ℕ
 read_value Running n out = n ∷ []
 read_value (SuspendedOnHook h) n out = out
 read_value Panicked n out = out
-read_value (Refused k) n out = out
+read_value (Refused e) n out = out
 
 -- r is the status of what an instruction returned, and frame' is written after it
 pub record ReportsExecuted (x : code.Executed) (frame : List ℕ) (r : ℕ) (frame' : List ℕ) : Type 0 where

@@ -36,7 +36,7 @@ pub fn report(run: Executed, frame: &mut [u32]) -> u32
 {
     let status = run.status;
     match status {
-        ExecutionStatus::Refused(number) => number,
+        ExecutionStatus::Refused(refusal) => u32::from(refusal),
         ExecutionStatus::Panicked => {
             frames::put_frame(frame, run.frame);
             PANICKED

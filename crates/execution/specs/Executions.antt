@@ -1,7 +1,7 @@
 -- What the answers of an instruction's step on an operand mean, and the contracts of the five steps.
 -- Assumes nothing.
 use Rattle.std.specs.Prelude.{◌≡◌, Bool, not, List, [], ◌∷◌, ◌++◌, ℕ, ltb}
-use Rattle.outcome.specs.Outcome.{Outcome, refused, panicked, done, first_of}
+use Rattle.outcome.specs.Outcome.{Outcome, refused, panicked, done, first_of, number_of}
 use Rattle.word.specs.Value.{value, word_bytes, last_address}
 use Rattle.registers.specs.Registers.{Operand, operand_of}
 use Rattle.fat_pointer.specs.declared.FatPointer.{FatPointer}
@@ -31,7 +31,7 @@ abbrev pub stop_of : ExecutionStatus → Stop
 stop_of Running = running
 stop_of (SuspendedOnHook n) = on_hook n
 stop_of Panicked = running
-stop_of (Refused n) = running
+stop_of (Refused e) = running
 
 abbrev pub result_of : Execution → InstructionResult
 result_of r = record { word = value r.word.limbs; operand = operand_of r.operand; frame = r.frame; stop = stop_of r.status }
@@ -41,7 +41,7 @@ abbrev pub status_outcome : (on_panic on_done : InstructionResult → Value) →
 status_outcome on_panic on_done Running g = done (on_done g)
 status_outcome on_panic on_done (SuspendedOnHook n) g = done (on_done g)
 status_outcome on_panic on_done Panicked g = panicked (on_panic g)
-status_outcome on_panic on_done (Refused n) g = refused n
+status_outcome on_panic on_done (Refused e) g = refused (number_of e)
 
 -- 01's number of a refusal, or what a panic or an instruction that was carried out gives
 abbrev pub execution_outcome : (on_panic on_done : InstructionResult → Value) → Execution → Outcome Value
@@ -59,7 +59,7 @@ abbrev pub bytes_read_of : ExecutionStatus → FatPointer → ℕ
 bytes_read_of Running p = read_count p
 bytes_read_of (SuspendedOnHook n) p = read_count p
 bytes_read_of Panicked p = 0
-bytes_read_of (Refused n) p = 0
+bytes_read_of (Refused e) p = 0
 
 -- ---- THE CONTRACTS of the five steps on a well-formed memory m, which answer r: the checks after 16, whatever registers are written
 abbrev pub LoadStep : Mem → Area → Frame → Operand → Execution → Type 0

@@ -4,6 +4,7 @@
 ghost use Rattle.std.specs.Prelude.{◌≡◌, true, false, cond, ◌&&◌, [], ◌∷◌, ◌++◌, ◌-◌, ◌%◌, ◌^◌, ◌≤◌, min, ltb, length};
 ghost use Rattle.view.specs.Calls.{first_refusal};
 ghost use Rattle.outcome.specs.Outcome as outcome;
+ghost use Rattle.outcome.specs.Outcome.{number_of};
 ghost use Rattle.word.specs.Value.{value, last_address};
 ghost use Rattle.registers.specs.Registers.{operand_of};
 ghost use Rattle.state.specs.Access.{frame_accessed};
@@ -15,6 +16,7 @@ ghost use Rattle.view.specs.Checks.{word_write_checks};
 ghost use Rattle.view.specs.Instructions.{heap_of, static_of, frame_alone, panic, hooked, incremented};
 ghost use Rattle.execution.specs.Executions.{hook_of, result_of, carried, static_step, Loads, Stores};
 
+use outcome::Refusal;
 use page_ids::{Address, PageId};
 use registers::Operand;
 use state::{Area, Frame, FrameStep};
@@ -33,7 +35,7 @@ pub enum ExecutionStatus {
     Running,
     SuspendedOnHook(u32),
     Panicked,
-    Refused(u32),
+    Refused(Refusal),
 }
 
 // What a step returns: the word that it read, the operand plus 32, and the frame. A panic returns the frame alone, and a refusal the frame as it was.
@@ -103,20 +105,14 @@ pub fn reach_static(frame: Frame, operand: Word) -> FrameStep
 pub fn hits(hook: Hook, address: Address) -> bool
     ensures { result ≡ hooked (hook_of hook) address.0 }
 {
-    if !hook.on {
-        return false;
-    }
-    address.0 == hook.address.0
+    hook.on && address.0 == hook.address.0
 }
 
 // 15: the hook is hit by a value of more than 32 bits.
 fn stops_wide(hook: Hook, address: Address, word: Word) -> bool
     ensures { result ≡ (hooked (hook_of hook) address.0 && ltb 4294967295 (value word.limbs)) }
 {
-    if !hits(hook, address) {
-        return false;
-    }
-    !word::fits_u32(word)
+    hits(hook, address) && !word::fits_u32(word)
 }
 
 // Which refusal such a store gets: that of a word write, or else 15.
@@ -127,15 +123,14 @@ fn wide_refusal(
     words: &[u64],
     page: PageId,
     address: Address,
-) -> u32
+) -> Refusal
     requires { WellFormed (mem bytes.now keys.now order.now words.now) }
-    ensures { result ≡ first_refusal (word_write_checks (setting_of (mem bytes.now keys.now order.now words.now)) (view_of (mem bytes.now keys.now order.now words.now)) page.0 address.0 ++ ((true, outcome.refused 15) ∷ [])) }
+    ensures { number_of result ≡ first_refusal (word_write_checks (setting_of (mem bytes.now keys.now order.now words.now)) (view_of (mem bytes.now keys.now order.now words.now)) page.0 address.0 ++ ((true, outcome.refused 15) ∷ [])) }
 {
-    let refusal = checks::word_refusal(bytes, keys, order, words, page, address);
-    if refusal != 0 {
-        return refusal;
+    match checks::word_refusal(bytes, keys, order, words, page, address) {
+        Err(refusal) => refusal,
+        Ok(()) => Refusal::HookValue,
     }
-    15
 }
 
 fn stop_of(hook: Hook, address: Address, word: Word) -> ExecutionStatus
@@ -172,10 +167,10 @@ fn alone(status: ExecutionStatus, frame: Frame) -> Execution
     }
 }
 
-pub fn refused(number: u32, frame: Frame) -> Execution
-    ensures { (result.status ≡ ExecutionStatus.Refused number) × (result_of result ≡ frame_alone frame) }
+pub fn refused(refusal: Refusal, frame: Frame) -> Execution
+    ensures { (result.status ≡ ExecutionStatus.Refused refusal) × (result_of result ≡ frame_alone frame) }
 {
-    alone(ExecutionStatus::Refused(number), frame)
+    alone(ExecutionStatus::Refused(refusal), frame)
 }
 
 // A panic sets the mark.
@@ -276,9 +271,8 @@ pub fn store_at(
         let refusal = wide_refusal(bytes, keys, order, words, page, address);
         return refused(refusal, before);
     }
-    let number = write_steps::write_word(bytes, keys, order, words, page, address, word);
-    if number != 0 {
-        return refused(number, before);
+    if let Err(refusal) = write_steps::write_word(bytes, keys, order, words, page, address, word) {
+        return refused(refusal, before);
     }
     let status = stop_of(hook, address, word);
     carried_out(status, no_word(), operand, false, after)
@@ -289,10 +283,7 @@ pub fn store_at(
 pub fn lesser(a: u32, b: u32) -> u32
     ensures { result ≡ min a b }
 {
-    if a <= b {
-        return a;
-    }
-    b
+    a.min(b)
 }
 
 // How many bytes are read from `first` on: at most 32, and none past `end`.
@@ -300,9 +291,5 @@ pub fn count(first: u32, end: u32) -> u32
     requires { first ≤ end }
     ensures { result ≡ min 32 (end - first) }
 {
-    let left = end - first;
-    if left < 32 {
-        return left;
-    }
-    32
+    (end - first).min(32)
 }

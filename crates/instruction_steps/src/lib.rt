@@ -9,6 +9,7 @@ ghost use Rattle.registers.specs.Registers.{operand_of};
 ghost use Rattle.execution.specs.Executions.{hook_of, LoadStep, StoreStep, PointerStep, StaticLoadStep, StaticStoreStep};
 
 use execution::{Execution, ExecutionStatus, Hook, PointerExecution};
+use outcome::Refusal;
 use page_ids::Address;
 use registers::Operand;
 use state::{Area, Frame};
@@ -71,7 +72,7 @@ pub fn load_pointer(
         return execution::unread(execution::panicked(frame));
     }
     if pointer.length > 4294967295 - pointer.start {
-        return execution::unread(execution::refused(14, frame));
+        return execution::unread(execution::refused(Refusal::Pointer, frame));
     }
     let end = pointer.start + pointer.length;
     let first = pointer.start + execution::lesser(pointer.offset, pointer.length);

@@ -9,6 +9,7 @@ ghost use Rattle.execution.specs.Executions.{hook_of};
 ghost use Rattle.write_back.specs.Runs.{Runs, PointerRuns};
 
 use execution::Hook;
+use outcome::Refusal;
 use registers::{LoadPlaces, StorePlaces};
 use state::{Area, Frame};
 use write_back::{Executed, PointerExecuted};
@@ -29,7 +30,7 @@ pub fn load(
     ensures { Runs (mem bytes.now keys.now order.now words.now) (Call.Load area frame (registers_from registers.old) places) frame registers.old result (mem bytes.now keys.now order.now words.now) registers.new }
 {
     if !formed::well_formed(bytes, keys, order, words) {
-        return write_back::refused(3, frame);
+        return write_back::refused(Refusal::NotFormed, frame);
     }
     on_formed::load(bytes, keys, order, words, registers, frame, area, places)
 }
@@ -50,7 +51,7 @@ pub fn store(
     ensures { Runs (mem bytes.old keys.old order.old words.old) (Call.Store area frame (registers_from registers.old) places kernel (hook_of hook)) frame registers.old result (mem bytes.new keys.new order.new words.new) registers.new }
 {
     if !formed::well_formed(bytes, keys, order, words) {
-        return write_back::refused(3, frame);
+        return write_back::refused(Refusal::NotFormed, frame);
     }
     on_formed::store(
         bytes, keys, order, words, registers, frame, area, places, kernel, hook,
@@ -70,7 +71,7 @@ pub fn load_pointer(
     ensures { PointerRuns (mem bytes.now keys.now order.now words.now) (Call.LoadPointer frame (registers_from registers.old) places) frame registers.old result (mem bytes.now keys.now order.now words.now) registers.new }
 {
     if !formed::well_formed(bytes, keys, order, words) {
-        return write_back::pointer_refused(3, frame);
+        return write_back::pointer_refused(Refusal::NotFormed, frame);
     }
     on_formed::load_pointer(bytes, keys, order, words, registers, frame, places)
 }
@@ -88,7 +89,7 @@ pub fn load_static(
     ensures { Runs (mem bytes.now keys.now order.now words.now) (Call.LoadStatic frame (registers_from registers.old) places) frame registers.old result (mem bytes.now keys.now order.now words.now) registers.new }
 {
     if !formed::well_formed(bytes, keys, order, words) {
-        return write_back::refused(3, frame);
+        return write_back::refused(Refusal::NotFormed, frame);
     }
     on_formed::load_static(bytes, keys, order, words, registers, frame, places)
 }
@@ -107,7 +108,7 @@ pub fn store_static(
     ensures { Runs (mem bytes.old keys.old order.old words.old) (Call.StoreStatic frame (registers_from registers.old) places kernel) frame registers.old result (mem bytes.new keys.new order.new words.new) registers.new }
 {
     if !formed::well_formed(bytes, keys, order, words) {
-        return write_back::refused(3, frame);
+        return write_back::refused(Refusal::NotFormed, frame);
     }
     on_formed::store_static(bytes, keys, order, words, registers, frame, places, kernel)
 }

@@ -9,6 +9,7 @@ ghost use Rattle.execution.specs.Executions.{hook_of};
 ghost use Rattle.write_back.specs.Runs.{Runs, PointerRuns};
 
 use execution::Hook;
+use outcome::Refusal;
 use registers::{LoadPlaces, StorePlaces};
 use state::{Area, Frame};
 use write_back::{Executed, PointerExecuted};
@@ -28,7 +29,7 @@ pub fn load(
     ensures { Runs (mem bytes.now keys.now order.now words.now) (Call.Load area frame (registers_from registers.old) places) frame registers.old result (mem bytes.now keys.now order.now words.now) registers.new }
 {
     if !registers::takes_load(places) {
-        return write_back::refused(16, frame);
+        return write_back::refused(Refusal::Operand, frame);
     }
     let source = places.source;
     let operand = registers::source(registers, source);
@@ -53,7 +54,7 @@ pub fn store(
     ensures { Runs (mem bytes.old keys.old order.old words.old) (Call.Store area frame (registers_from registers.old) places kernel (hook_of hook)) frame registers.old result (mem bytes.new keys.new order.new words.new) registers.new }
 {
     if !registers::takes_store(places) {
-        return write_back::refused(16, frame);
+        return write_back::refused(Refusal::Operand, frame);
     }
     let source = places.source;
     let operand = registers::source(registers, source);
@@ -78,7 +79,7 @@ pub fn load_pointer(
     ensures { PointerRuns (mem bytes.now keys.now order.now words.now) (Call.LoadPointer frame (registers_from registers.old) places) frame registers.old result (mem bytes.now keys.now order.now words.now) registers.new }
 {
     if !registers::takes_pointer(places) {
-        return write_back::pointer_refused(16, frame);
+        return write_back::pointer_refused(Refusal::Operand, frame);
     }
     let source = places.source;
     let operand = registers::source(registers, source);
@@ -103,7 +104,7 @@ pub fn load_static(
     ensures { Runs (mem bytes.now keys.now order.now words.now) (Call.LoadStatic frame (registers_from registers.old) places) frame registers.old result (mem bytes.now keys.now order.now words.now) registers.new }
 {
     if !registers::takes_load(places) {
-        return write_back::refused(16, frame);
+        return write_back::refused(Refusal::Operand, frame);
     }
     let source = places.source;
     let operand = registers::source(registers, source);
@@ -126,7 +127,7 @@ pub fn store_static(
     ensures { Runs (mem bytes.old keys.old order.old words.old) (Call.StoreStatic frame (registers_from registers.old) places kernel) frame registers.old result (mem bytes.new keys.new order.new words.new) registers.new }
 {
     if !registers::takes_store(places) {
-        return write_back::refused(16, frame);
+        return write_back::refused(Refusal::Operand, frame);
     }
     let source = places.source;
     let operand = registers::source(registers, source);

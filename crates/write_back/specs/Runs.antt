@@ -1,7 +1,8 @@
 -- What an instruction's answer means, and its contract.
 -- Assumes nothing.
 use Rattle.std.specs.Prelude.{◌≡◌, false, List, ℕ}
-use Rattle.outcome.specs.Outcome.{Outcome, refused, panicked, done, carried_out}
+use Rattle.outcome.specs.Outcome.{Outcome, refused, panicked, done, carried_out, number_of}
+use Rattle.outcome.specs.declared.Refusal.{Refusal}
 use Rattle.registers.specs.Registers.{Registers, registers_from}
 use Rattle.state.specs.declared.Frame.{Frame}
 use Rattle.store.specs.Mem.{Mem}
@@ -19,7 +20,7 @@ abbrev pub ended_with : (value : Executed → Value) → ExecutionStatus → Fra
 ended_with value Running f g = done (value (record { frame = f; registers = g; stop = running }))
 ended_with value (SuspendedOnHook n) f g = done (value (record { frame = f; registers = g; stop = on_hook n }))
 ended_with value Panicked f g = panicked (executed (record { frame = f; registers = g; stop = running }))
-ended_with value (Refused n) f g = refused n
+ended_with value (Refused e) f g = refused (number_of e)
 
 -- 01's number of a refusal, or what an instruction leaves that panicked or was carried out; l has the numbers of its registers after it
 abbrev pub outcome_with : (value : Executed → Value) → code.Executed → List ℕ → Outcome Value
@@ -36,7 +37,7 @@ pointer_outcome r l = outcome_with (λ x. pointer_loaded x r.bytes_read) r.execu
 pub record RunsWith (value : Executed → Value) (m : Mem) (c : Call) (f : Frame) (l : List ℕ) (r : code.Executed) (m' : Mem) (l' : List ℕ) : Type 0 where
   pub does : CallDoes m c (outcome_with value r l') m'
   -- a refused instruction leaves the frame and the registers as they were
-  pub refusal : (n : ℕ) → r.status ≡ Refused n → (r.frame ≡ f) × (l' ≡ l)
+  pub refusal : (e : Refusal) → r.status ≡ Refused e → (r.frame ≡ f) × (l' ≡ l)
 
 -- THE CONTRACT of an instruction: that of every call, CallDoes, and `refusal`
 abbrev pub Runs : Mem → Call → Frame → List ℕ → code.Executed → Mem → List ℕ → Type 0
@@ -53,4 +54,4 @@ pub record WritesBack (on_panic on_done : InstructionResult → Executed) (x : E
   pub answer : (value : Executed → Value) → outcome_with value r l' ≡ execution_outcome (λ g. executed (on_panic g)) (λ g. value (on_done g)) x
   pub status : r.status ≡ x.status
   pub frame : r.frame ≡ x.frame
-  pub refusal : (n : ℕ) → r.status ≡ Refused n → l' ≡ l
+  pub refusal : (e : Refusal) → r.status ≡ Refused e → l' ≡ l

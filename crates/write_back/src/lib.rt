@@ -9,6 +9,7 @@ ghost use Rattle.view.specs.Instructions.{InstructionResult, loaded_into, stored
 ghost use Rattle.write_back.specs.Runs.{WritesBack};
 
 use execution::{Execution, ExecutionStatus};
+use outcome::Refusal;
 use registers::{LoadPlaces, Operand, StorePlaces};
 use state::Frame;
 use word::Word;
@@ -27,20 +28,20 @@ pub struct PointerExecuted {
     pub bytes_read: u32,
 }
 
-pub fn refused(number: u32, frame: Frame) -> Executed
-    ensures { (result.status ≡ ExecutionStatus.Refused number) × (result.frame ≡ frame) }
+pub fn refused(refusal: Refusal, frame: Frame) -> Executed
+    ensures { (result.status ≡ ExecutionStatus.Refused refusal) × (result.frame ≡ frame) }
 {
     Executed {
-        status: ExecutionStatus::Refused(number),
+        status: ExecutionStatus::Refused(refusal),
         frame: frame,
     }
 }
 
-pub fn pointer_refused(number: u32, frame: Frame) -> PointerExecuted
-    ensures { (result.executed.status ≡ ExecutionStatus.Refused number) × ((result.executed.frame ≡ frame) × (result.bytes_read ≡ 0)) }
+pub fn pointer_refused(refusal: Refusal, frame: Frame) -> PointerExecuted
+    ensures { (result.executed.status ≡ ExecutionStatus.Refused refusal) × ((result.executed.frame ≡ frame) × (result.bytes_read ≡ 0)) }
 {
     PointerExecuted {
-        executed: refused(number, frame),
+        executed: refused(refusal, frame),
         bytes_read: 0,
     }
 }
@@ -95,7 +96,7 @@ pub fn loaded(registers: &mut [u64], places: LoadPlaces, run: Execution) -> Exec
     let status = run.status;
     let frame = run.frame;
     match status {
-        ExecutionStatus::Refused(number) => refused(number, frame),
+        ExecutionStatus::Refused(refusal) => refused(refusal, frame),
         ExecutionStatus::Panicked => {
             let dst1 = places.dst1;
             let second = registers::number(dst1);
@@ -130,7 +131,7 @@ pub fn stored(registers: &mut [u64], places: StorePlaces, run: Execution) -> Exe
     let status = run.status;
     let frame = run.frame;
     match status {
-        ExecutionStatus::Refused(n) => refused(n, frame),
+        ExecutionStatus::Refused(refusal) => refused(refusal, frame),
         ExecutionStatus::Panicked => {
             let second = places.dst1;
             let number = registers::number(second);

@@ -31,6 +31,11 @@ length_outcome r = result_outcome (λ n. n) r
 abbrev pub snapshot_outcome : Result Marks Refusal → Outcome (ℕ × ℕ)
 snapshot_outcome r = result_outcome (λ k. (k.heap, k.aux)) r
 
+-- a read that tells its outcome and gives a value, which is `none` where it is refused: what a C function returns by value
+pub record ReadDoes {A : Type 0} (outcome reported : Outcome A) (value none : A) : Type 0 where
+  pub answer : reported ≡ outcome
+  pub zero : carried_out outcome ≡ false → value ≡ none
+
 -- a read into an output: it is d after the call, and was o; `bytes` are those of the range
 pub record RangeDoes {A : Type 0} (outcome reported : Outcome A) (bytes o d : List ℕ) : Type 0 where
   pub answer : reported ≡ outcome

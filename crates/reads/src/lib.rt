@@ -19,7 +19,7 @@ use word::Word;
 pub mod on_formed;
 
 // A word of the bytes of a range, and how many they are: these lead it, and zeros follow.
-#[derive(Clone, Copy, Debug, PartialEq, Eq)]
+#[derive(Clone, Copy)]
 pub struct PartialWord {
     pub word: Word,
     pub bytes_read: u32,
@@ -61,7 +61,7 @@ pub fn read_u256_partially(
     start: Address,
     end: Address,
 ) -> Result<PartialWord, Refusal>
-    ensures { let m = mem bytes.now keys.now order.now words.now in partial_outcome result ≡ on_memory m (partial_checks start.0 end.0) (big_endian (padded (run (view_of m) page.0 start.0 (end.0 - start.0))), end.0 - start.0)) (partial_outcome result }
+    ensures { let m = mem bytes.now keys.now order.now words.now in partial_outcome result ≡ on_memory m (partial_checks start.0 end.0) (big_endian (padded (run (view_of m) page.0 start.0 (end.0 - start.0))), end.0 - start.0) }
 {
     if !formed::well_formed(bytes, keys, order, words) {
         return Err(Refusal::NotFormed);

@@ -57,7 +57,7 @@ pub fn read_u256_partially(
     end: Address,
 ) -> Result<PartialWord, Refusal>
     requires { WellFormed (mem bytes.now keys.now order.now words.now) }
-    ensures { let m = mem bytes.now keys.now order.now words.now in partial_outcome result ≡ on_memory m (partial_checks start.0 end.0) (big_endian (padded (run (view_of m) page.0 start.0 (end.0 - start.0))), end.0 - start.0)) (partial_outcome result }
+    ensures { let m = mem bytes.now keys.now order.now words.now in partial_outcome result ≡ on_memory m (partial_checks start.0 end.0) (big_endian (padded (run (view_of m) page.0 start.0 (end.0 - start.0))), end.0 - start.0) }
 {
     let n = span(start, end);
     if n > 32 {

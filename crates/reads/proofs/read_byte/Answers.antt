@@ -1,16 +1,6 @@
-use mathlib.Core.List.{[]}
-use mathlib.Core.Path.{refl}
-use Rattle.store.specs.Mem.{mem}
 use Rattle.formed.proofs.Meaning.{well_formed_means}
-use Rattle.view.specs.View.{view_of}
-use Rattle.index.proofs.Logic.{passed, failed}
-use Rattle.reads.proofs.Answers.{ill, read_refused}
+use Rattle.index.proofs.Logic.{passed}
 use Rattle.reads.proofs.read_byte.Goals as goal
-
-pub returns-then-not-well_formed : goal.returns-then-not-well_formed
-returns-then-not-well_formed c =
-    let m = mem c.args.bytes.now c.args.keys.now c.args.order.now c.args.words.now in
-    read_refused _ _ 3 0 0 refl (ill m [] ((view_of m).bytes c.args.page.0 c.args.address.0) (failed c.well_formed-2.ensures c.if-not-well_formed.true)) refl
 
 pub read_byte-requires : goal.read_byte-requires
 read_byte-requires c =

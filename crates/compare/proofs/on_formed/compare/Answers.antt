@@ -1,5 +1,4 @@
-use mathlib.Core.Path.{sym, ◌∙◌}
-use mathlib.Core.Bool.{true, false}
+use mathlib.Core.Path.{sym}
 use Rattle.store.specs.Mem.{mem}
 use Rattle.index.proofs.Logic.{passed, failed}
 use Rattle.compare.proofs.Answers.{layouts_differ, decided}
@@ -9,10 +8,6 @@ pub returns-then-not-same_layout : goal.returns-then-not-same_layout
 returns-then-not-same_layout c =
     layouts_differ (mem c.args.left_bytes.now c.args.left_keys.now c.args.left_order.now c.args.left_words.now) (mem c.args.right_bytes.now c.args.right_keys.now c.args.right_order.now c.args.right_words.now) c.requires.well_formed c.requires.well_formed_2 (failed c.same_layout.ensures c.if-not-same_layout.true)
 
-pub returns-then-equal : goal.returns-then-equal
-returns-then-equal c =
-    decided (mem c.args.left_bytes.now c.args.left_keys.now c.args.left_order.now c.args.left_words.now) (mem c.args.right_bytes.now c.args.right_keys.now c.args.right_order.now c.args.right_words.now) c.requires.well_formed c.requires.well_formed_2 (passed c.same_layout.ensures c.if-not-same_layout.false) true (sym c.equal.ensures ∙ c.if-equal.true)
-
 pub returns : goal.returns
 returns c =
-    decided (mem c.args.left_bytes.now c.args.left_keys.now c.args.left_order.now c.args.left_words.now) (mem c.args.right_bytes.now c.args.right_keys.now c.args.right_order.now c.args.right_words.now) c.requires.well_formed c.requires.well_formed_2 (passed c.same_layout.ensures c.if-not-same_layout.false) false (sym c.equal.ensures ∙ c.if-equal.false)
+    decided (mem c.args.left_bytes.now c.args.left_keys.now c.args.left_order.now c.args.left_words.now) (mem c.args.right_bytes.now c.args.right_keys.now c.args.right_order.now c.args.right_words.now) c.requires.well_formed c.requires.well_formed_2 (passed c.same_layout.ensures c.if-not-same_layout.false) c.equal.result (sym c.equal.ensures)

@@ -1,11 +1,11 @@
 use mathlib.Core.List.{[]}
-use mathlib.Core.Path.{refl, sym, ap, ◌∙◌}
+use mathlib.Core.Path.{sym, ap, ◌∙◌}
 use native.Mathlib.Omega.{arith}
-use lib.ListN.{length, get_or}
+use lib.ListN.{length}
 use Rattle.outcome.specs.Outcome.{done}
 use Rattle.store.specs.Mem.{mem}
 use Rattle.view.specs.View.{view_of}
-use Rattle.reads.proofs.Answers.{on_formed, read_done, mark_small, marks_are}
+use Rattle.reads.proofs.Answers.{on_formed, mark_small, marks_are}
 use Rattle.reads.proofs.on_formed.snapshot.Goals as goal
 
 pub overflow_cast-result : goal.overflow_cast-result
@@ -21,5 +21,5 @@ overflow_cast-result-2 c =
 pub returns : goal.returns
 returns c =
     let m = mem c.args.bytes.now c.args.keys.now c.args.order.now c.args.words.now in
-    read_done _ _ (get_or c.args.words.now 12 0, get_or c.args.words.now 13 0) (0, 0) refl
+    sym
     (on_formed m [] (length ((view_of m).journal 0), length ((view_of m).journal 1)) c.requires ∙ ap done (sym (marks_are m)))

@@ -14,8 +14,8 @@ ghost use Rattle.reads.specs.Calls.{word_outcome, partial_outcome, byte_outcome,
 use crate::{Marks, PartialWord};
 use outcome::Refusal;
 use page_ids::{Address, PageId};
-use word::Word;
 use store::head;
+use word::Word;
 
 // How far `end` lies past `start`: 0 where it does not.
 fn span(start: Address, end: Address) -> u32

@@ -14,7 +14,13 @@ returns-then-n-gt32 c =
     let m = mem c.args.bytes.now c.args.keys.now c.args.order.now c.args.words.now in
     let n = c.args.end.0 - c.args.start.0 in
     let a : ℕ × ℕ = (big_endian (padded (run (view_of m) c.args.page.0 c.args.start.0 n)), n) in
-    sym (on_formed m (partial_checks c.args.start.0 c.args.end.0) a c.requires ∙ partial_over a c.args.start.0 c.args.end.0 (omega (arith, c.span-n.ensures, c.if-n-gt32.true)))
+    sym
+    (on_formed m (partial_checks c.args.start.0 c.args.end.0) a c.requires ∙ partial_over a c.args.start.0 c.args.end.0
+    (omega (
+      arith,
+      c.span-n.ensures,
+      c.if-n-gt32.true,
+    )))
 
 pub returns : goal.returns
 returns c =

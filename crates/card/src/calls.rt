@@ -3,6 +3,7 @@ ghost use Rattle.std.specs.Prelude.{◌≤◌, length};
 
 use crate::buffers::{BYTES, KEYS, ORDER, WORDS};
 use crate::{report, samples};
+use opening::Capacity;
 use page_ids::{Address, BasePage, Layout, PageId};
 use word::Word;
 
@@ -25,7 +26,12 @@ pub fn open(
     order: &mut [u32; ORDER],
     words: &mut [u64; WORDS],
 ) -> bool {
-    report::opened(opening::open(bytes, keys, order, words, layout(), 8, 4, 8, b""))
+    let capacity = Capacity {
+        chunks: 8,
+        pages: 4,
+        journal_words: 8,
+    };
+    report::opened(opening::open(bytes, keys, order, words, layout(), capacity, b""))
 }
 
 pub fn write(

@@ -4,6 +4,7 @@ ghost use Rattle.std.specs.Prelude.{◌≤◌};
 
 use crate::buffers;
 use crate::buffers::Lengths;
+use opening::Capacity;
 use outcome::Answer;
 use page_ids::{Address, BasePage, Layout, PageId};
 use word::Word;
@@ -114,6 +115,14 @@ fn layout_of(n: [u64; PLACES]) -> Layout {
     }
 }
 
+fn capacity_of(n: [u64; PLACES]) -> Capacity {
+    Capacity {
+        chunks: narrow(n[CHUNKS]),
+        pages: narrow(n[PAGES]),
+        journal_words: narrow(n[ROOM]),
+    }
+}
+
 // The word that a call writes.
 fn word_of(call: u8, x: u64) -> Word {
     if call == b'c' {
@@ -141,9 +150,7 @@ fn change(
             order,
             words,
             layout_of(n),
-            narrow(n[CHUNKS]),
-            narrow(n[PAGES]),
-            narrow(n[ROOM]),
+            capacity_of(n),
             source,
         ),
         b'b' => writes::write_bytes(bytes, keys, order, words, page, at, source),

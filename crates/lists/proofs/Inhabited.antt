@@ -512,11 +512,11 @@ module _ (s : Setting) (calldata : List ℕ) (narrow : Narrow s) (m : Mem) where
       did_open
       (record {
         lifetimes = ([], ([], ([], ([], ([], tt)))));
-        args = (ref_mut m.bytes, (ref_mut m.keys, (ref_mut m.order, (ref_mut m.words, (s.layout, (s.chunks, (s.pages, (s.journal_words, (ref calldata, tt)))))))));
+        args = (ref_mut m.bytes, (ref_mut m.keys, (ref_mut m.order, (ref_mut m.words, (s.layout, (record { chunks = s.chunks; pages = s.pages; journal_words = s.journal_words }, (ref calldata, tt)))))));
         result = r;
-        last = (m'.bytes, (m'.keys, (m'.order, (m'.words, (tt, (tt, (tt, (tt, (tt, tt)))))))));
+        last = (m'.bytes, (m'.keys, (m'.order, (m'.words, (tt, (tt, (tt, tt)))))));
         asked = tt;
-        kept = (l.bytes, (l.keys, (l.order, (l.words, (tt, (tt, (tt, (tt, (tt, tt)))))))));
+        kept = (l.bytes, (l.keys, (l.order, (l.words, (tt, (tt, (tt, tt)))))));
         ensures = d;
       })
 

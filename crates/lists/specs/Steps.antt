@@ -70,7 +70,7 @@ pub data PublicStep : Mem → Call → Outcome Value → Mem → Type 0 where
       (w : Went open_kinds.ps open_kinds.r open_reads.Asked open_reads.Learnt) →
       PublicStep
       (lent_mut w.args)
-      (Open (setting_from (rest w.args).0 (rest w.args).1.0 (rest w.args).1.1.0 (rest w.args).1.1.1.0) (rest w.args).1.1.1.1.0.now)
+      (Open (setting_from (rest w.args).0 (rest w.args).1.0.chunks (rest w.args).1.0.pages (rest w.args).1.0.journal_words) (rest w.args).1.1.0.now)
       (answer_outcome nothing w.result)
       (lent_mut (exits w))
   did_read_word :

@@ -9,12 +9,19 @@ ghost use Rattle.view.specs.Steps.{empty_view, opened};
 ghost use Rattle.view.specs.Calls.{nothing, OpenDoes};
 ghost use Rattle.view.specs.Does.{Shows};
 ghost use Rattle.page_ids.specs.declared.Layout.{Layout};
-ghost use Rattle.page_ids.specs.Decode.{layout_from};
 ghost use Rattle.opening.specs.Opening.{setting_from, PoolFull, headed, sizes_right, OpenAsks, FixedAsks, FirstPages, opening_outcome, CalldataAsks};
 
 use outcome::Refusal;
-use page_ids::{Address, BasePage, Layout, PageId};
+use page_ids::{Address, Layout, PageId};
 use store::head;
+
+// How many chunks, dynamic pages and words of each journal a memory has room for.
+#[derive(Clone, Copy)]
+pub struct Capacity {
+    pub chunks: u32,
+    pub pages: u32,
+    pub journal_words: u32,
+}
 
 // Every byte becomes 0.
 fn clear_bytes(bytes: &mut [u8])
@@ -48,30 +55,19 @@ fn fill_pool(words: &mut [u64], chunks: u32)
 }
 
 // The head: layout and counts, no slot held, four entries in use, dynamic length 0, no word in a journal, and no word of the pool to skip.
-fn write_head(
-    words: &mut [u64],
-    statics: PageId,
-    calldata: PageId,
-    heap: PageId,
-    aux: PageId,
-    base: BasePage,
-    stride: u32,
-    chunks: u32,
-    pages: u32,
-    journal_words: u32,
-)
+fn write_head(words: &mut [u64], layout: Layout, capacity: Capacity)
     requires { head_length ≤ length words.old }
-    ensures { words.new ≡ headed (setting_from (layout_from statics.0 calldata.0 heap.0 aux.0 base.0 stride) chunks pages journal_words) words.old }
+    ensures { words.new ≡ headed (setting_from layout capacity.chunks capacity.pages capacity.journal_words) words.old }
 {
-    words[head::STATIC_MEMORY] = statics.0 as u64;
-    words[head::CALLDATA] = calldata.0 as u64;
-    words[head::BOOTLOADER_HEAP] = heap.0 as u64;
-    words[head::BOOTLOADER_AUX] = aux.0 as u64;
-    words[head::BASE] = base.0 as u64;
-    words[head::STRIDE] = stride as u64;
-    words[head::CHUNKS] = chunks as u64;
-    words[head::PAGES] = pages as u64;
-    words[head::JOURNAL_WORDS] = journal_words as u64;
+    words[head::STATIC_MEMORY] = layout.static_memory.0 as u64;
+    words[head::CALLDATA] = layout.calldata.0 as u64;
+    words[head::BOOTLOADER_HEAP] = layout.bootloader_heap.0 as u64;
+    words[head::BOOTLOADER_AUX] = layout.bootloader_aux.0 as u64;
+    words[head::BASE] = layout.base.0 as u64;
+    words[head::STRIDE] = layout.stride as u64;
+    words[head::CHUNKS] = capacity.chunks as u64;
+    words[head::PAGES] = capacity.pages as u64;
+    words[head::JOURNAL_WORDS] = capacity.journal_words as u64;
     words[head::HELD] = 0;
     words[head::ENTRIES] = head::FIXED_PAGES;
     words[head::DYNAMIC_LENGTH] = 0;
@@ -92,45 +88,6 @@ fn list_fixed(entries: &mut [u64], order: &mut [u32], words: &[u64])
     }
 }
 
-// `start`, of the layout's six numbers.
-fn start_with(
-    bytes: &mut [u8],
-    keys: &mut [u64],
-    order: &mut [u32],
-    words: &mut [u64],
-    statics: PageId,
-    calldata: PageId,
-    heap: PageId,
-    aux: PageId,
-    base: BasePage,
-    stride: u32,
-    chunks: u32,
-    pages: u32,
-    journal_words: u32,
-)
-    requires { OpenAsks (setting_from (layout_from statics.0 calldata.0 heap.0 aux.0 base.0 stride) chunks pages journal_words) (mem bytes.old keys.old order.old words.old) }
-    ensures { let s = setting_from (layout_from statics.0 calldata.0 heap.0 aux.0 base.0 stride) chunks pages journal_words in Shows s (empty_view s) (mem bytes.new keys.new order.new words.new) }
-{
-    let c = chunks as usize;
-    let end = 256 * c;
-    clear_bytes(&mut bytes[0..end]);
-    clear_keys(keys);
-    fill_pool(words, chunks);
-    write_head(
-        words,
-        statics,
-        calldata,
-        heap,
-        aux,
-        base,
-        stride,
-        chunks,
-        pages,
-        journal_words,
-    );
-    list_fixed(&mut keys[c..], &mut order[c..], words);
-}
-
 // Makes the buffers a memory in which all is zero and every chunk pooled. The journals' old bytes and numbers stay: nothing reads them.
 fn start(
     bytes: &mut [u8],
@@ -138,56 +95,32 @@ fn start(
     order: &mut [u32],
     words: &mut [u64],
     layout: Layout,
-    chunks: u32,
-    pages: u32,
-    journal_words: u32,
+    capacity: Capacity,
 )
-    requires { OpenAsks (setting_from layout chunks pages journal_words) (mem bytes.old keys.old order.old words.old) }
-    ensures { let s = setting_from layout chunks pages journal_words in Shows s (empty_view s) (mem bytes.new keys.new order.new words.new) }
+    requires { OpenAsks (setting_from layout capacity.chunks capacity.pages capacity.journal_words) (mem bytes.old keys.old order.old words.old) }
+    ensures { let s = setting_from layout capacity.chunks capacity.pages capacity.journal_words in Shows s (empty_view s) (mem bytes.new keys.new order.new words.new) }
 {
-    let statics = layout.static_memory;
-    let calldata = layout.calldata;
-    let heap = layout.bootloader_heap;
-    let aux = layout.bootloader_aux;
-    let base = layout.base;
-    let stride = layout.stride;
-    start_with(
-        bytes,
-        keys,
-        order,
-        words,
-        statics,
-        calldata,
-        heap,
-        aux,
-        base,
-        stride,
-        chunks,
-        pages,
-        journal_words,
-    );
+    let c = capacity.chunks as usize;
+    let end = 256 * c;
+    clear_bytes(&mut bytes[0..end]);
+    clear_keys(keys);
+    fill_pool(words, capacity.chunks);
+    write_head(words, layout, capacity);
+    list_fixed(&mut keys[c..], &mut order[c..], words);
 }
 
 // Whether the counts are in bounds, and the lent buffers as long as they ask.
-fn sizes_right(
-    bytes: &[u8],
-    keys: &[u64],
-    order: &[u32],
-    words: &[u64],
-    chunks: u32,
-    pages: u32,
-    journal_words: u32,
-) -> bool
-    ensures { (l : Layout) → result ≡ sizes_right (setting_from l chunks pages journal_words) (mem bytes.now keys.now order.now words.now) }
+fn sizes_right(bytes: &[u8], keys: &[u64], order: &[u32], words: &[u64], capacity: Capacity) -> bool
+    ensures { (l : Layout) → result ≡ sizes_right (setting_from l capacity.chunks capacity.pages capacity.journal_words) (mem bytes.now keys.now order.now words.now) }
 {
     formed::head::lengths_ok(
         bytes.len(),
         keys.len(),
         order.len(),
         words.len(),
-        chunks as u64,
-        pages as u64,
-        journal_words as u64,
+        capacity.chunks as u64,
+        capacity.pages as u64,
+        capacity.journal_words as u64,
     )
 }
 
@@ -198,20 +131,18 @@ fn open_refusal(
     order: &[u32],
     words: &[u64],
     layout: Layout,
-    chunks: u32,
-    pages: u32,
-    journal_words: u32,
+    capacity: Capacity,
     calldata: &[u8],
 ) -> Result<(), Refusal>
-    ensures { let s = setting_from layout chunks pages journal_words in answer_outcome nothing result ≡ opening_outcome s (mem bytes.now keys.now order.now words.now) (length calldata.now) }
+    ensures { let s = setting_from layout capacity.chunks capacity.pages capacity.journal_words in answer_outcome nothing result ≡ opening_outcome s (mem bytes.now keys.now order.now words.now) (length calldata.now) }
 {
     if page_ids::bad_layout(layout) {
         return Err(Refusal::Layout);
     }
-    if !sizes_right(bytes, keys, order, words, chunks, pages, journal_words) {
+    if !sizes_right(bytes, keys, order, words, capacity) {
         return Err(Refusal::Sizes);
     }
-    let c = chunks as usize;
+    let c = capacity.chunks as usize;
     if 256 * c < calldata.len() {
         return Err(Refusal::NoChunk);
     }
@@ -245,34 +176,13 @@ pub fn open(
     order: &mut [u32],
     words: &mut [u64],
     layout: Layout,
-    chunks: u32,
-    pages: u32,
-    journal_words: u32,
+    capacity: Capacity,
     calldata: &[u8],
 ) -> Result<(), Refusal>
-    ensures { let s = setting_from layout chunks pages journal_words in let m = mem bytes.old keys.old order.old words.old in OpenDoes m s calldata.now (answer_outcome nothing result) (mem bytes.new keys.new order.new words.new) }
+    ensures { let s = setting_from layout capacity.chunks capacity.pages capacity.journal_words in let m = mem bytes.old keys.old order.old words.old in OpenDoes m s calldata.now (answer_outcome nothing result) (mem bytes.new keys.new order.new words.new) }
 {
-    open_refusal(
-        bytes,
-        keys,
-        order,
-        words,
-        layout,
-        chunks,
-        pages,
-        journal_words,
-        calldata,
-    )?;
-    start(
-        bytes,
-        keys,
-        order,
-        words,
-        layout,
-        chunks,
-        pages,
-        journal_words,
-    );
+    open_refusal(bytes, keys, order, words, layout, capacity, calldata)?;
+    start(bytes, keys, order, words, layout, capacity);
     let page = layout.calldata;
     put_calldata(bytes, keys, order, words, page, calldata);
     Ok(())

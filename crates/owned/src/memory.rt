@@ -19,6 +19,7 @@ ghost use Rattle.owned.specs.Answers.{compared_outcome};
 use abi::answers;
 use abi::status::UNFIT;
 use compare::Comparison;
+use opening::Capacity;
 use page_ids::{Address, PageId};
 use reads::{Marks, PartialRead};
 use store::head;
@@ -62,17 +63,12 @@ pub fn own_open(
         base,
         stride,
     );
-    outcome::status(opening::open(
-        bytes,
-        keys,
-        order,
-        words,
-        layout,
+    let capacity = Capacity {
         chunks,
         pages,
         journal_words,
-        calldata,
-    ))
+    };
+    outcome::status(opening::open(bytes, keys, order, words, layout, capacity, calldata))
 }
 
 // ---- reads

@@ -4,6 +4,7 @@
 mod loads;
 mod report;
 
+use opening::Capacity;
 use page_ids::{BasePage, Layout, PageId};
 use state::Area;
 
@@ -88,15 +89,18 @@ fn main() {
     let mut keys = [0u64; 6];
     let mut order = [0u32; 8];
     let mut words = [0u64; 17];
+    let capacity = Capacity {
+        chunks: 1,
+        pages: 1,
+        journal_words: 0,
+    };
     opening::open(
         &mut bytes,
         &mut keys,
         &mut order,
         &mut words,
         layout(),
-        1,
-        1,
-        0,
+        capacity,
         b"",
     );
     paid(&bytes, &keys, &order, &words);

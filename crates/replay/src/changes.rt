@@ -127,9 +127,7 @@ fn put_content(
             order,
             words,
             call.layout(),
-            memories::CHUNKS,
-            memories::PAGES,
-            memories::JOURNAL_WORDS,
+            memories::CAPACITY,
             content,
         ),
     }

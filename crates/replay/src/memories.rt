@@ -1,11 +1,13 @@
 // Two memories, one after the other in each of four buffers.
 
-// What a memory has room for: chunks, pages, and words of each journal.
-pub const CHUNKS: u32 = 96;
+use opening::Capacity;
 
-pub const PAGES: u32 = 24;
-
-pub const JOURNAL_WORDS: u32 = 128;
+// What a memory has room for.
+pub const CAPACITY: Capacity = Capacity {
+    chunks: 96,
+    pages: 24,
+    journal_words: 128,
+};
 
 // The lengths of a memory's buffers, by the rule of docs/BUFFERS.md.
 pub const BYTES: usize = 32768;

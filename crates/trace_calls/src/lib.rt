@@ -13,6 +13,7 @@ ghost use Rattle.trace_text.specs.Text.{reply_of};
 ghost use Rattle.trace_calls.specs.Space.{Space};
 ghost use Rattle.trace_calls.specs.Trace.{reported, CallTells, OpenTells, LineTells, PartsTell, TraceTells, after_opening};
 
+use opening::Capacity;
 use outcome::Answer;
 use page_ids::{Address, BasePage, Layout, PageId};
 use store::head;
@@ -127,24 +128,12 @@ fn begin(
     order: &mut [u32],
     words: &mut [u64],
     layout: Layout,
-    chunks: u32,
-    pages: u32,
-    journal_words: u32,
+    capacity: Capacity,
 ) -> Reply
-    ensures { OpenTells (mem bytes.old keys.old order.old words.old) (setting_from layout chunks pages journal_words) (reply_of result) (mem bytes.new keys.new order.new words.new) }
+    ensures { OpenTells (mem bytes.old keys.old order.old words.old) (setting_from layout capacity.chunks capacity.pages capacity.journal_words) (reply_of result) (mem bytes.new keys.new order.new words.new) }
 {
     let none = [0u8; 1];
-    said(opening::open(
-        bytes,
-        keys,
-        order,
-        words,
-        layout,
-        chunks,
-        pages,
-        journal_words,
-        &none[0..0],
-    ))
+    said(opening::open(bytes, keys, order, words, layout, capacity, &none[0..0]))
 }
 
 // The call that a command asks.
@@ -161,7 +150,14 @@ fn called(
     let n = command.numbers;
     let word = command.word;
     match kind {
-        Kind::Open => begin(bytes, keys, order, words, layout_of(n), n[6], n[7], n[8]),
+        Kind::Open => {
+            let capacity = Capacity {
+                chunks: n[6],
+                pages: n[7],
+                journal_words: n[8],
+            };
+            begin(bytes, keys, order, words, layout_of(n), capacity)
+        },
         Kind::Write => write(bytes, keys, order, words, n[0], n[1], word),
         Kind::Read => read(bytes, keys, order, words, n[0], n[1]),
         Kind::Snapshot => snapshot(bytes, keys, order, words),
@@ -188,17 +184,15 @@ fn lent(
     keys: &mut [u64],
     order: &mut [u32],
     words: &mut [u64],
-    chunks: u32,
-    pages: u32,
-    journal_words: u32,
+    capacity: Capacity,
     command: Command,
 ) -> Reply
     requires { Space bytes.old keys.old order.old words.old }
-    ensures { PartsTell chunks pages journal_words (mem bytes.old keys.old order.old words.old) (command_of command) (reply_of result) (mem bytes.new keys.new order.new words.new) }
+    ensures { PartsTell capacity.chunks capacity.pages capacity.journal_words (mem bytes.old keys.old order.old words.old) (command_of command) (reply_of result) (mem bytes.new keys.new order.new words.new) }
 {
-    let c = least(chunks, 128);
-    let p = least(pages, 64);
-    let j = least(journal_words, 256);
+    let c = least(capacity.chunks, 128);
+    let p = least(capacity.pages, 64);
+    let j = least(capacity.journal_words, 256);
     let b = 256 * c + WORD_BYTES * j;
     let k = c + p + head::FIXED_ENTRIES;
     let o = 3 * c + p + head::FIXED_ENTRIES;
@@ -246,7 +240,12 @@ pub fn take(
     let kind = command.kind;
     let n = command.numbers;
     if let Kind::Open = kind {
-        let reply = lent(bytes, keys, order, words, n[6], n[7], n[8], command);
+        let capacity = Capacity {
+            chunks: n[6],
+            pages: n[7],
+            journal_words: n[8],
+        };
+        let reply = lent(bytes, keys, order, words, capacity, command);
         return Taken {
             run: after(run, n, reply),
             reply: reply,
@@ -258,16 +257,12 @@ pub fn take(
             reply: trace_text::unread(),
         };
     }
-    let reply = lent(
-        bytes,
-        keys,
-        order,
-        words,
-        run.chunks,
-        run.pages,
-        run.journal_words,
-        command,
-    );
+    let capacity = Capacity {
+        chunks: run.chunks,
+        pages: run.pages,
+        journal_words: run.journal_words,
+    };
+    let reply = lent(bytes, keys, order, words, capacity, command);
     Taken {
         run: run,
         reply: reply,

@@ -10,6 +10,7 @@ ghost use Rattle.abi.specs.Interface.{Gives, word_in, partial_in, number_in, mar
 
 use abi::answers;
 use abi::status::UNFIT;
+use opening::Capacity;
 use page_ids::{Address, PageId};
 
 const CHUNK_BYTES: usize = 256;
@@ -43,17 +44,12 @@ pub fn zp_open(
         base,
         stride,
     );
-    outcome::status(opening::open(
-        bytes,
-        keys,
-        order,
-        words,
-        layout,
+    let capacity = Capacity {
         chunks,
         pages,
         journal_words,
-        calldata,
-    ))
+    };
+    outcome::status(opening::open(bytes, keys, order, words, layout, capacity, calldata))
 }
 
 // ---- reads

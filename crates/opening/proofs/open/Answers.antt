@@ -13,7 +13,7 @@ use Rattle.opening.proofs.open.Goals as goal
 
 pub returns-in_err-open_refusal : goal.returns-in_err-open_refusal
 returns-in_err-open_refusal c =
-    let s = setting_from c.args.layout c.args.chunks c.args.pages c.args.journal_words in
+    let s = setting_from c.args.layout c.args.capacity.chunks c.args.capacity.pages c.args.capacity.journal_words in
     let m = mem c.args.bytes.now c.args.keys.now c.args.order.now c.args.words.now in
     let e = c.in_err-open_refusal.field-0.0 in
     subst (λ (r : Result ⊤ Refusal). OpenDoes m s c.args.calldata.now (answer_outcome nothing r) m) (sym (handed_on c.from_residual.result c.from_residual.ensures.1))
@@ -21,12 +21,12 @@ returns-in_err-open_refusal c =
 
 pub start-requires : goal.start-requires
 start-requires c =
-    open_asks nothing (setting_from c.args.layout c.args.chunks c.args.pages c.args.journal_words) (mem c.args.bytes.now c.args.keys.now c.args.order.now c.args.words.now) (length c.args.calldata.now) (status_of c.open_refusal.result) (status_answered nothing c.open_refusal.result ∙ c.open_refusal.ensures) (ap status_of c.in_ok-open_refusal.was)
+    open_asks nothing (setting_from c.args.layout c.args.capacity.chunks c.args.capacity.pages c.args.capacity.journal_words) (mem c.args.bytes.now c.args.keys.now c.args.order.now c.args.words.now) (length c.args.calldata.now) (status_of c.open_refusal.result) (status_answered nothing c.open_refusal.result ∙ c.open_refusal.ensures) (ap status_of c.in_ok-open_refusal.was)
 
 pub put_calldata-requires : goal.put_calldata-requires
 put_calldata-requires c =
-    calldata_asks nothing (setting_from c.args.layout c.args.chunks c.args.pages c.args.journal_words) (mem c.args.bytes.now c.args.keys.now c.args.order.now c.args.words.now) (length c.args.calldata.now) (status_of c.open_refusal.result) (status_answered nothing c.open_refusal.result ∙ c.open_refusal.ensures) (ap status_of c.in_ok-open_refusal.was) (mem c.start.new.bytes c.start.new.keys c.start.new.order c.start.new.words) c.start.ensures
+    calldata_asks nothing (setting_from c.args.layout c.args.capacity.chunks c.args.capacity.pages c.args.capacity.journal_words) (mem c.args.bytes.now c.args.keys.now c.args.order.now c.args.words.now) (length c.args.calldata.now) (status_of c.open_refusal.result) (status_answered nothing c.open_refusal.result ∙ c.open_refusal.ensures) (ap status_of c.in_ok-open_refusal.was) (mem c.start.new.bytes c.start.new.keys c.start.new.order c.start.new.words) c.start.ensures
 
 pub returns : goal.returns
 returns c =
-    open_done nothing (setting_from c.args.layout c.args.chunks c.args.pages c.args.journal_words) (mem c.args.bytes.now c.args.keys.now c.args.order.now c.args.words.now) c.args.calldata.now (status_of c.open_refusal.result) (status_answered nothing c.open_refusal.result ∙ c.open_refusal.ensures) (ap status_of c.in_ok-open_refusal.was) (mem c.start.new.bytes c.start.new.keys c.start.new.order c.start.new.words) _ c.start.ensures c.put_calldata.ensures
+    open_done nothing (setting_from c.args.layout c.args.capacity.chunks c.args.capacity.pages c.args.capacity.journal_words) (mem c.args.bytes.now c.args.keys.now c.args.order.now c.args.words.now) c.args.calldata.now (status_of c.open_refusal.result) (status_answered nothing c.open_refusal.result ∙ c.open_refusal.ensures) (ap status_of c.in_ok-open_refusal.was) (mem c.start.new.bytes c.start.new.keys c.start.new.order c.start.new.words) _ c.start.ensures c.put_calldata.ensures

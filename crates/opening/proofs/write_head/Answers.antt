@@ -5,7 +5,7 @@ use Rattle.opening.proofs.write_head.Goals as goal
 
 pub returns : goal.returns
 returns c =
-    head_stores c.args.statics.0 c.args.calldata.0 c.args.heap.0 c.args.aux.0 c.args.base.0 c.args.stride c.args.chunks c.args.pages c.args.journal_words c.args.words.now c.requires
+    head_stores c.args.layout.static_memory.0 c.args.layout.calldata.0 c.args.layout.bootloader_heap.0 c.args.layout.bootloader_aux.0 c.args.layout.base.0 c.args.layout.stride c.args.capacity.chunks c.args.capacity.pages c.args.capacity.journal_words c.args.words.now c.requires
 
 pub bounds-words-1 : goal.bounds-words-1
 bounds-words-1 c = simp length-set (omega arith)

@@ -47,7 +47,7 @@ pub fn read_u256(
     if !formed::well_formed(bytes, keys, order, words) {
         return Err(Refusal::NotFormed);
     }
-    on_formed::read_u256(bytes, keys, order, words, page, address)
+    Ok(on_formed::read_u256(bytes, keys, order, words, page, address))
 }
 
 // A word of the bytes from `start` to `end`, which lead it, and how many they are; zeros follow.
@@ -101,7 +101,7 @@ pub fn read_byte(
     if !formed::well_formed(bytes, keys, order, words) {
         return Err(Refusal::NotFormed);
     }
-    on_formed::read_byte(bytes, keys, order, words, page, address)
+    Ok(on_formed::read_byte(bytes, keys, order, words, page, address))
 }
 
 // 01's dynamic length: above every group of an allocated page; a truncation alone lowers it.
@@ -111,7 +111,7 @@ pub fn dynamic_len(bytes: &[u8], keys: &[u64], order: &[u32], words: &[u64]) -> 
     if !formed::well_formed(bytes, keys, order, words) {
         return Err(Refusal::NotFormed);
     }
-    on_formed::dynamic_len(bytes, keys, order, words)
+    Ok(on_formed::dynamic_len(bytes, keys, order, words))
 }
 
 pub fn snapshot(bytes: &[u8], keys: &[u64], order: &[u32], words: &[u64]) -> Result<Marks, Refusal>
@@ -120,7 +120,7 @@ pub fn snapshot(bytes: &[u8], keys: &[u64], order: &[u32], words: &[u64]) -> Res
     if !formed::well_formed(bytes, keys, order, words) {
         return Err(Refusal::NotFormed);
     }
-    on_formed::snapshot(bytes, keys, order, words)
+    Ok(on_formed::snapshot(bytes, keys, order, words))
 }
 
 // The bytes of a chunk, held or not; an empty part where the lookup is refused. `chunk_check` says why.

@@ -9,7 +9,7 @@ ghost use Rattle.view.specs.View.{view_of};
 ghost use Rattle.view.specs.Steps.{run, padded};
 ghost use Rattle.view.specs.Checks.{on_memory, partial_checks, range_checks, lookup_checks};
 ghost use Rattle.view.specs.Calls.{shown_of};
-ghost use Rattle.reads.specs.Calls.{word_outcome, partial_outcome, byte_outcome, length_outcome, snapshot_outcome, RangeDoes};
+ghost use Rattle.reads.specs.Calls.{partial_outcome, RangeDoes};
 
 use crate::{Marks, PartialWord};
 use outcome::Refusal;
@@ -40,11 +40,11 @@ pub fn read_u256(
     words: &[u64],
     page: PageId,
     address: Address,
-) -> Result<Word, Refusal>
+) -> Word
     requires { WellFormed (mem bytes.now keys.now order.now words.now) }
-    ensures { let m = mem bytes.now keys.now order.now words.now in word_outcome result ≡ on_memory m [] (big_endian (run (view_of m) page.0 address.0 32)) }
+    ensures { value result.limbs ≡ big_endian (run (view_of (mem bytes.now keys.now order.now words.now)) page.0 address.0 32) }
 {
-    Ok(read_steps::read_word(bytes, keys, order, words, page, address))
+    read_steps::read_word(bytes, keys, order, words, page, address)
 }
 
 pub fn read_u256_partially(
@@ -98,28 +98,28 @@ pub fn read_byte(
     words: &[u64],
     page: PageId,
     address: Address,
-) -> Result<u8, Refusal>
+) -> u8
     requires { WellFormed (mem bytes.now keys.now order.now words.now) }
-    ensures { let m = mem bytes.now keys.now order.now words.now in byte_outcome result ≡ on_memory m [] ((view_of m).bytes page.0 address.0) }
+    ensures { result ≡ (view_of (mem bytes.now keys.now order.now words.now)).bytes page.0 address.0 }
 {
-    Ok(read_steps::byte_at(bytes, keys, order, words, page, address))
+    read_steps::byte_at(bytes, keys, order, words, page, address)
 }
 
-pub fn dynamic_len(bytes: &[u8], keys: &[u64], order: &[u32], words: &[u64]) -> Result<u32, Refusal>
+pub fn dynamic_len(bytes: &[u8], keys: &[u64], order: &[u32], words: &[u64]) -> u32
     requires { WellFormed (mem bytes.now keys.now order.now words.now) }
-    ensures { let m = mem bytes.now keys.now order.now words.now in length_outcome result ≡ on_memory m [] (view_of m).dynamic_length }
+    ensures { result ≡ (view_of (mem bytes.now keys.now order.now words.now)).dynamic_length }
 {
-    Ok(words[head::DYNAMIC_LENGTH] as u32)
+    words[head::DYNAMIC_LENGTH] as u32
 }
 
-pub fn snapshot(bytes: &[u8], keys: &[u64], order: &[u32], words: &[u64]) -> Result<Marks, Refusal>
+pub fn snapshot(bytes: &[u8], keys: &[u64], order: &[u32], words: &[u64]) -> Marks
     requires { WellFormed (mem bytes.now keys.now order.now words.now) }
-    ensures { let m = mem bytes.now keys.now order.now words.now in snapshot_outcome result ≡ on_memory m [] (length ((view_of m).journal 0), length ((view_of m).journal 1)) }
+    ensures { let v = view_of (mem bytes.now keys.now order.now words.now) in (result.heap ≡ length (v.journal 0)) × (result.aux ≡ length (v.journal 1)) }
 {
-    Ok(Marks {
+    Marks {
         heap: words[head::HEAP_JOURNAL] as u32,
         aux: words[head::AUX_JOURNAL] as u32,
-    })
+    }
 }
 
 pub fn chunk<'a>(

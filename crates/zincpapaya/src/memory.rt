@@ -66,9 +66,7 @@ pub fn zp_read_u256(
     ensures { let m = mem bytes.now keys.now order.now words.now in Gives 4 (answer_of m (Call.ReadWord page address)) word_in result out.old out.new }
 {
     let read = reads::read_u256(bytes, keys, order, words, PageId(page), Address(address));
-    let refusal = read.refusal;
-    let word = read.word;
-    answers::give_word(out, refusal, word)
+    answers::give_word(out, read)
 }
 
 pub fn zp_read_u256_partially(
@@ -92,9 +90,7 @@ pub fn zp_read_u256_partially(
         Address(start),
         Address(end),
     );
-    let refusal = read.refusal;
-    let word = read.word;
-    answers::give_partial(out, refusal, word, read.bytes_read)
+    answers::give_partial(out, read)
 }
 
 // An output of any other length than the range has is refused with 8, and none is unfit.
@@ -134,9 +130,7 @@ pub fn zp_read_byte(
     ensures { let m = mem bytes.now keys.now order.now words.now in Gives 1 (answer_of m (Call.ReadByte page address)) number_in result out.old out.new }
 {
     let read = reads::read_byte(bytes, keys, order, words, PageId(page), Address(address));
-    let refusal = read.refusal;
-    let byte = read.byte;
-    answers::give_number(out, refusal, byte as u64)
+    answers::give_number(out, read.map(|byte| u64::from(byte)))
 }
 
 pub fn zp_dynamic_len(
@@ -149,19 +143,13 @@ pub fn zp_dynamic_len(
     ensures { let m = mem bytes.now keys.now order.now words.now in Gives 1 (answer_of m Call.DynamicLength) number_in result out.old out.new }
 {
     let read = reads::dynamic_len(bytes, keys, order, words);
-    let refusal = read.refusal;
-    let count = read.length;
-    answers::give_number(out, refusal, count as u64)
+    answers::give_number(out, read.map(|length| u64::from(length)))
 }
 
 pub fn zp_snapshot(bytes: &[u8], keys: &[u64], order: &[u32], words: &[u64], out: &mut [u64]) -> u32
     ensures { let m = mem bytes.now keys.now order.now words.now in Gives 2 (answer_of m Call.Snapshot) marks_in result out.old out.new }
 {
-    let marks = reads::snapshot(bytes, keys, order, words);
-    let refusal = marks.refusal;
-    let heap = marks.heap;
-    let aux = marks.aux;
-    answers::give_pair(out, refusal, heap as u64, aux as u64)
+    answers::give_marks(out, reads::snapshot(bytes, keys, order, words))
 }
 
 // Copies a chunk, held or not.

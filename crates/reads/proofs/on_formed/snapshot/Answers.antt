@@ -1,11 +1,8 @@
-use mathlib.Core.List.{[]}
-use mathlib.Core.Path.{sym, ap, ◌∙◌}
+use mathlib.Core.Path.{ap}
+use Prim.Native.Nat.{ℕ}
 use native.Mathlib.Omega.{arith}
-use lib.ListN.{length}
-use Rattle.outcome.specs.Outcome.{done}
 use Rattle.store.specs.Mem.{mem}
-use Rattle.view.specs.View.{view_of}
-use Rattle.reads.proofs.Answers.{on_formed, mark_small, marks_are}
+use Rattle.reads.proofs.Answers.{mark_small, marks_are}
 use Rattle.reads.proofs.on_formed.snapshot.Goals as goal
 
 pub overflow_cast-result : goal.overflow_cast-result
@@ -20,6 +17,5 @@ overflow_cast-result-2 c =
 
 pub returns : goal.returns
 returns c =
-    let m = mem c.args.bytes.now c.args.keys.now c.args.order.now c.args.words.now in
-    sym
-    (on_formed m [] (length ((view_of m).journal 0), length ((view_of m).journal 1)) c.requires ∙ ap done (sym (marks_are m)))
+    let e = marks_are (mem c.args.bytes.now c.args.keys.now c.args.order.now c.args.words.now) in
+    (ap (λ (x : ℕ × ℕ). x.0) e, ap (λ (x : ℕ × ℕ). x.1) e)

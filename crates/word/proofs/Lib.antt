@@ -4,3 +4,4 @@ pub mod Digits
 pub mod Written
 pub mod Limbs
 pub mod RoundTrip
+pub mod Copied

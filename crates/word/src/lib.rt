@@ -11,6 +11,18 @@ pub struct Word {
     pub limbs: [u64; 4],
 }
 
+// The word of a number of 32 bits.
+impl From<u32> for Word {
+    ghost from_gives = { λ number word. value word.limbs ≡ number };
+
+    #[tactic(auto, unfolding(crate::specs::Value::value))]
+    fn from(number: u32) -> Word {
+        Word {
+            limbs: [u64::from(number), 0, 0, 0],
+        }
+    }
+}
+
 // The limb of eight bytes, the highest first.
 #[tactic(auto, using(crate::proofs::Bytes::eight))]
 fn limb_at(bytes: &[u8; 32], at: usize) -> u64

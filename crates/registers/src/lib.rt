@@ -249,7 +249,12 @@ pub fn set(registers: &mut [u64; LENGTH], n: u32, word: Word, tagged: bool)
     if n != 0 {
         let flags = put_flag(registers[FLAGS], n, tagged);
         let at = 4 * n as usize;
-        registers[at..at + 4].copy_from_slice(&word.limbs);
+        let [a, b, c, d] = word.limbs;
+        // Stays: tried `copy_from_slice`, and it compiles to a copy of the word on the stack and a test for overlap, on the way of each owned load and store
+        registers[at] = a;
+        registers[at + 1] = b;
+        registers[at + 2] = c;
+        registers[at + 3] = d;
         registers[FLAGS] = flags;
     }
 }

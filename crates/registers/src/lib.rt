@@ -2,7 +2,7 @@
 // vm2: addressing_modes.rs, its registers and immediates.
 #![tactic(auto)]
 
-ghost use Rattle.std.specs.Prelude.{◌≡◌, true, ◌≤◌};
+ghost use Rattle.std.specs.Prelude.{◌≡◌, true, ◌≤◌, length};
 ghost use Rattle.word.specs.Value.{value};
 ghost use Rattle.registers.specs.Registers.{registers_from, place_from, load_places_from, store_places_from, operand_of, flag_of, put_flag, with_register, is_register, is_source, register_number, source_of, erased, value_of, load_takes, pointer_takes, store_takes};
 
@@ -172,8 +172,8 @@ fn put_flag(flags: u64, n: u32, on: bool) -> u64
 // ---- reading
 
 #[tactic(auto, using(crate::proofs::Values::word_is), unfolding(word::specs::Value::value))]
-fn word_at(registers: &[u64; LENGTH], n: u32) -> Word
-    requires { n ≤ 15 }
+fn word_at(registers: &[u64], n: u32) -> Word
+    requires { (length registers.now ≡ 65) × (n ≤ 15) }
     ensures { value result.limbs ≡ (registers_from registers.now).word n }
 {
     let at = 4 * n as usize;
@@ -187,8 +187,8 @@ fn word_at(registers: &[u64; LENGTH], n: u32) -> Word
     }
 }
 
-fn operand_at(registers: &[u64; LENGTH], n: u32) -> Operand
-    requires { n ≤ 15 }
+fn operand_at(registers: &[u64], n: u32) -> Operand
+    requires { (length registers.now ≡ 65) × (n ≤ 15) }
     ensures { operand_of result ≡ source_of (registers_from registers.now) (Place.Register n) }
 {
     Operand {
@@ -198,8 +198,8 @@ fn operand_at(registers: &[u64; LENGTH], n: u32) -> Operand
 }
 
 // What is read at a source, raw.
-pub fn source(registers: &[u64; LENGTH], place: Place) -> Operand
-    requires { is_source place ≡ true }
+pub fn source(registers: &[u64], place: Place) -> Operand
+    requires { (length registers.now ≡ 65) × (is_source place ≡ true) }
     ensures { operand_of result ≡ source_of (registers_from registers.now) place }
 {
     match place {
@@ -227,8 +227,8 @@ pub fn erase(word: Word) -> Word
 }
 
 // A register read as a plain word: outside kernel mode a pointer is erased.
-pub fn value(registers: &[u64; LENGTH], n: u32, kernel: bool) -> Word
-    requires { n ≤ 15 }
+pub fn value(registers: &[u64], n: u32, kernel: bool) -> Word
+    requires { (length registers.now ≡ 65) × (n ≤ 15) }
     ensures { value result.limbs ≡ value_of kernel (registers_from registers.now) n }
 {
     let word = word_at(registers, n);
@@ -242,8 +242,8 @@ pub fn value(registers: &[u64; LENGTH], n: u32, kernel: bool) -> Word
 // ---- writing
 
 // Writes a register and its flag; register 0 is never written.
-pub fn set(registers: &mut [u64; LENGTH], n: u32, word: Word, tagged: bool)
-    requires { n ≤ 15 }
+pub fn set(registers: &mut [u64], n: u32, word: Word, tagged: bool)
+    requires { (length registers.old ≡ 65) × (n ≤ 15) }
     ensures { registers_from registers.new ≡ with_register n (value word.limbs) tagged (registers_from registers.old) }
 {
     if n != 0 {

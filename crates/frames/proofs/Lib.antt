@@ -1,0 +1,2 @@
+-- The laws that the proofs of `abi` cite.
+pub mod Lists

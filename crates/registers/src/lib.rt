@@ -149,6 +149,8 @@ pub fn store_places(source: u32, value: u32, dst0: u32, dst1: u32, increment: bo
 }
 
 // ---- flags
+// Stays: a register's number is a `u32` that is known to be at most 15, and no type of its own. `place_from` makes a register of each number up to 65,535, and `number` gives 0 for a place that is
+// no register, so such a type would have to be made by one more test after `takes_load` and the others.
 
 pub fn flag(flags: u64, n: u32) -> bool
     requires { n ≤ 15 }

@@ -3,7 +3,7 @@
 #![tactic(auto)]
 
 ghost use Rattle.std.specs.Prelude.{◌≡◌, ◌+◌, ◌*◌, ◌/◌, ◌%◌, ◌^◌};
-ghost use Rattle.word.specs.Value.{value, limbs_value};
+ghost use Rattle.word.specs.Value.{value};
 ghost use Rattle.fat_pointer.specs.Pointer.{pointer_of, pointer_word};
 
 use page_ids::PageId;
@@ -17,50 +17,52 @@ pub struct FatPointer {
     pub length: u32,
 }
 
+// The lower half of a limb.
 fn low(limb: u64) -> u32
     ensures { result ≡ limb % 2 ^ 32 }
 {
-    (limb % 4294967296) as u32
+    (limb % (1 << 32)) as u32
 }
 
+// The upper half of a limb.
 fn high(limb: u64) -> u32
     ensures { result ≡ limb / 2 ^ 32 % 2 ^ 32 }
 {
-    (limb / 4294967296 % 4294967296) as u32
+    low(limb >> 32)
 }
 
-// The pointer of a word, given as its four limbs.
-fn of_limbs(a: u64, b: u64, c: u64, d: u64) -> FatPointer
-    ensures { result ≡ pointer_of (limbs_value a b c d) }
+// The pointer of a word; the upper 128 bits are ignored.
+#[tactic(auto, using(crate::proofs::Fields::of_limbs), unfolding(word::specs::Value::value))]
+pub fn from_u256(w: Word) -> FatPointer
+    ensures { result ≡ pointer_of (value w.limbs) }
 {
-    let page = PageId(high(a));
+    let [a, b, ..] = w.limbs;
     FatPointer {
         offset: low(a),
-        memory_page: page,
+        memory_page: PageId(high(a)),
         start: low(b),
         length: high(b),
     }
 }
 
-// The pointer of a word; the upper 128 bits are ignored.
-pub fn from_u256(w: Word) -> FatPointer
-    ensures { result ≡ pointer_of (value w.limbs) }
-{
-    let l = w.limbs;
-    of_limbs(l[0], l[1], l[2], l[3])
-}
-
+// The limb of two halves.
 fn pack(low: u32, high: u32) -> u64
     ensures { result ≡ low + 2 ^ 32 * high }
 {
-    (low as u64) + (high as u64) * 4294967296
+    u64::from(low) + (u64::from(high) << 32)
 }
 
 // The word of a pointer; the upper 128 bits are zero.
+#[tactic(auto, using(crate::proofs::Fields::packed), unfolding(word::specs::Value::value))]
 pub fn into_u256(p: FatPointer) -> Word
     ensures { value result.limbs ≡ pointer_word p }
 {
-    let page = p.memory_page.0;
-    let limbs = [pack(p.offset, page), pack(p.start, p.length), 0, 0];
-    Word { limbs: limbs }
+    Word {
+        limbs: [
+            pack(p.offset, p.memory_page.0),
+            pack(p.start, p.length),
+            0,
+            0,
+        ],
+    }
 }

@@ -1,2 +1,2 @@
--- The laws that the proofs of this crate and of `abi` share.
+-- The laws that the proofs of `abi` cite.
 pub mod Lists

@@ -29,32 +29,28 @@ pub const FRAME_LENGTH: usize = 6;
 pub fn bit(set: bool) -> u32
     ensures { result ≡ spec.bit set }
 {
-    if set {
-        return 1;
-    }
-    0
+    u32::from(set)
 }
 
 pub fn wide(x: u32) -> u64
     ensures { result ≡ x }
 {
-    x as u64
+    u64::from(x)
 }
 
 pub fn area_of(aux: bool) -> Area
     ensures { result ≡ spec.area_of aux }
 {
-    if aux {
-        return Area::Aux;
-    }
-    Area::Heap
+    if aux { Area::Aux } else { Area::Heap }
 }
 
+#[tactic(auto, unfolding(word::specs::Value::value))]
 pub fn word_of(limb0: u64, limb1: u64, limb2: u64, limb3: u64) -> Word
     ensures { value result.limbs ≡ limbs_value limb0 limb1 limb2 limb3 }
 {
-    let limbs = [limb0, limb1, limb2, limb3];
-    Word { limbs: limbs }
+    Word {
+        limbs: [limb0, limb1, limb2, limb3],
+    }
 }
 
 pub fn layout_of(
@@ -73,7 +69,7 @@ pub fn layout_of(
         bootloader_heap: PageId(bootloader_heap),
         bootloader_aux: PageId(bootloader_aux),
         base: BasePage(base),
-        stride: stride,
+        stride,
     }
 }
 
@@ -81,12 +77,10 @@ pub fn frame_of(frame: &[u32]) -> Frame
     requires { length frame.now ≡ 6 }
     ensures { result ≡ spec.frame_from frame.now }
 {
-    let heap = PageId(frame[HEAP]);
-    let aux = PageId(frame[AUX]);
     Frame {
         gas: frame[GAS],
-        heap: heap,
-        aux: aux,
+        heap: PageId(frame[HEAP]),
+        aux: PageId(frame[AUX]),
         heap_bound: frame[HEAP_BOUND],
         aux_bound: frame[AUX_BOUND],
         panicked: frame[MARK] != 0,
@@ -97,13 +91,14 @@ pub fn put_frame(frame: &mut [u32], f: Frame)
     requires { length frame.old ≡ 6 }
     ensures { frame.new ≡ spec.frame_numbers f }
 {
-    let mark = bit(f.panicked);
-    frame[GAS] = f.gas;
-    frame[HEAP] = f.heap.0;
-    frame[AUX] = f.aux.0;
-    frame[HEAP_BOUND] = f.heap_bound;
-    frame[AUX_BOUND] = f.aux_bound;
-    frame[MARK] = mark;
+    frame.copy_from_slice(&[
+        f.gas,
+        f.heap.0,
+        f.aux.0,
+        f.heap_bound,
+        f.aux_bound,
+        bit(f.panicked),
+    ]);
 }
 
 // Gas and bounds alone: the pages and the mark stay the numbers that they were.
@@ -117,13 +112,10 @@ pub fn put_growth(frame: &mut [u32], after: Frame)
 }
 
 // The four limbs of a word, to `out` from `at` on.
+#[tactic(auto, using(word::proofs::Copied::limbs_copied))]
 pub fn put_word(out: &mut [u64], at: usize, word: Word)
     requires { at + 4 ≤ length out.old }
     ensures { out.new ≡ spec.limbs_put out.old at word.limbs }
 {
-    let limbs = word.limbs;
-    out[at] = limbs[0];
-    out[at + 1] = limbs[1];
-    out[at + 2] = limbs[2];
-    out[at + 3] = limbs[3];
+    out[at..at + 4].copy_from_slice(&word.limbs);
 }

@@ -4,10 +4,12 @@ use mathlib.Core.Path.{◌≡◌, refl, sym, ap, ◌∙◌, subst}
 use mathlib.Core.Bool.{Bool, true, false, cond}
 use Prim.Native.Nat.{ℕ, zero, suc, ◌+◌, ◌*◌, ◌-◌, ◌/◌, ◌%◌, ◌^◌, ◌<◌, ◌≤◌}
 use native.Mathlib.Omega.{arith}
-use native.Mathlib.Nat.{one-mul, pow-suc, le_of_suc-le-suc, not-suc-le-zero, div-div-eq-div-mul, mul_comm}
-use lib.Pow.{shl_exact}
+use native.Mathlib.Nat.{pow-suc, le_of_suc-le-suc, not-suc-le-zero, div-div-eq-div-mul, mul_comm}
 use lib.Dec.{eqb, eqb-zero-suc, eqb-suc-zero, eqb-suc-suc}
 use borrow.Author.Tests.{eqb-true, eqb-false}
+use lib.Bits.{bit_and, bit_or, and_comm, or_add_and}
+use Rattle.std.proofs.lemmas.Nat.{one_shl, and-not, pow_below}
+use Rattle.std.proofs.lemmas.Nat.Bits.{and_pow}
 use Rattle.registers.specs.Registers.{flag_of, with_flag, without_flag, put_flag}
 
 -- the bit, 0 or 1
@@ -160,25 +162,26 @@ pub put_lt : (x n w : ℕ) (t : Bool) → n < w → x < 2 ^ w → put_flag x n t
 put_lt x n w true l b = with_lt x n w (flag_of x n) refl l b
 put_lt x n w false l b = without_lt x n w (flag_of x n) b
 
--- ---- the four cases of a flag that is put
-module _ (x n : ℕ) (o w : Bool) (e : w ≡ flag_of x n) where
-  pub put_kept_on : o ≡ true → w ≡ true → x ≡ put_flag x n o
-  put_kept_on a b = sym (ap (λ (t : Bool). put_flag x n t) a ∙ ap (λ (t : Bool). cond t x (x + 2 ^ n)) (sym e ∙ b))
+-- ---- a flag that is put, by `|` and `&`
+with_is : (x p b o : ℕ) (t : Bool) → o + b * p ≡ x + p → b < 2 → eqb b 1 ≡ t → o ≡ cond t x (x + p)
+with_is x p b o true e l f = let k = rw (eqb-true b 1 f) at e in omega (arith, k)
+with_is x p b o false e l f =
+    let none : b ≡ 0 = omega (arith, eqb-false b 1 f) in
+    let k = rw none at e in
+    omega (arith, k)
 
-  pub put_up : (p : ℕ) → p ≡ 2 ^ n → o ≡ true → w ≡ false → x + p ≡ put_flag x n o
-  put_up p f a b = ap (λ (q : ℕ). x + q) f ∙ sym (ap (λ (t : Bool). put_flag x n t) a ∙ ap (λ (t : Bool). cond t x (x + 2 ^ n)) (sym e ∙ b))
+without_is : (x p b o : ℕ) (t : Bool) → o + b * p ≡ x → b < 2 → eqb b 1 ≡ t → o ≡ cond t (x - p) x
+without_is x p b o true e l f = let k = rw (eqb-true b 1 f) at e in omega (arith, k)
+without_is x p b o false e l f =
+    let none : b ≡ 0 = omega (arith, eqb-false b 1 f) in
+    let k = rw none at e in
+    omega (arith, k)
 
-  pub put_down : (p : ℕ) → p ≡ 2 ^ n → o ≡ false → w ≡ true → x - p ≡ put_flag x n o
-  put_down p f a b = ap (λ (q : ℕ). x - q) f ∙ sym (ap (λ (t : Bool). put_flag x n t) a ∙ ap (λ (t : Bool). cond t (x - 2 ^ n) x) (sym e ∙ b))
+pub put_on : (x n : ℕ) → n ≤ 15 → bit_or x (1 * 2 ^ n % 2 ^ 64) ≡ with_flag x n
+put_on x n l = rw (one_shl n 64 (omega arith)) (with_is x (2 ^ n) (bit x n) _ (flag_of x n) (rw (and_pow x n) at (or_add_and x (2 ^ n))) (omega arith) refl)
 
-  pub put_kept_off : o ≡ false → w ≡ false → x ≡ put_flag x n o
-  put_kept_off a b = sym (ap (λ (t : Bool). put_flag x n t) a ∙ ap (λ (t : Bool). cond t (x - 2 ^ n) x) (sym e ∙ b))
-
-  pub up_fits : (p : ℕ) → p ≡ 2 ^ n → n ≤ 15 → x < 2 ^ 64 → w ≡ false → x + p < 2 ^ 64
-  up_fits p f l b h = subst (λ (q : ℕ). x + q < 2 ^ 64) (sym f) (bit_fits x n 64 (omega arith) b (off x n (sym e ∙ h)))
-
-  pub down_fits : (p : ℕ) → p ≡ 2 ^ n → w ≡ true → p ≤ x
-  down_fits p f h = subst (λ (q : ℕ). q ≤ x) (sym f) (bit_le x n (on x n (sym e ∙ h)))
-
-pub power_fits : (n : ℕ) → n ≤ 15 → 1 * 2 ^ n % 2 ^ 64 ≡ 2 ^ n
-power_fits n l = shl_exact 1 n 64 (omega arith) (omega arith) ∙ one-mul (2 ^ n)
+pub put_off : (x n : ℕ) → n ≤ 15 → x < 2 ^ 64 → bit_and x (2 ^ 64 - 1 - 1 * 2 ^ n % 2 ^ 64) ≡ without_flag x n
+put_off x n l m =
+    let p : 2 ^ n < 2 ^ 64 = pow_below n 64 (omega arith) in
+    rw (one_shl n 64 (omega arith), and_comm x (2 ^ 64 - 1 - 2 ^ n))
+    (without_is x (2 ^ n) (bit x n) _ (flag_of x n) (rw (and_comm (2 ^ n) x, and_pow x n) at (and-not 64 (2 ^ n) x p m)) (omega arith) refl)

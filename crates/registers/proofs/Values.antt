@@ -1,7 +1,7 @@
 -- Registers written and read, and erased words.
 -- Assumes nothing.
 use mathlib.Core.Path.{◌≡◌, refl, sym, ap, ap₂, ◌∙◌, fun_ext}
-use mathlib.Core.Bool.{Bool, true, false, cond, not, ◌&&◌}
+use mathlib.Core.Bool.{Bool, true, false, cond}
 use mathlib.Core.List.{List}
 use Prim.Native.Nat.{ℕ, ◌+◌, ◌*◌, ◌/◌, ◌%◌, ◌^◌, ◌<◌, ◌≤◌}
 use native.Mathlib.Omega.{arith}
@@ -63,30 +63,6 @@ erased_between x = ap (λ (q : ℕ). q % 2 ^ 64) (above_offset x) ∙ none (x / 
 
 pub erased_above : (x : ℕ) → erased x / 2 ^ 96 ≡ x / 2 ^ 96
 erased_above x = sym (div-div-eq-div-mul (erased x) (2 ^ 32) (2 ^ 64)) ∙ ap (λ (q : ℕ). q / 2 ^ 64) (above_offset x) ∙ whole (x / 2 ^ 96)
-
--- ---- a register read as a plain word
-never : (f : Bool) (e y : ℕ) → y ≡ cond (f && false) e y
-never true e y = refl
-never false e y = refl
-
-always : (f : Bool) (e y : ℕ) → f ≡ true → e ≡ cond (f && true) e y
-always f e y h = sym (ap (λ (t : Bool). cond (t && true) e y) h)
-
-pub value_kernel : (f k : Bool) (e y : ℕ) → k ≡ true → y ≡ cond (f && not k) e y
-value_kernel f k e y h = never f e y ∙ sym (ap (λ (t : Bool). cond (f && not t) e y) h)
-
-pub value_erased : (f k : Bool) (e y : ℕ) → k ≡ false → f ≡ true → e ≡ cond (f && not k) e y
-value_erased f k e y h g = always f e y g ∙ sym (ap (λ (t : Bool). cond (f && not t) e y) h)
-
-pub value_plain : (f k : Bool) (e y : ℕ) → f ≡ false → y ≡ cond (f && not k) e y
-value_plain f k e y g = sym (ap (λ (t : Bool). cond (t && not k) e y) g)
-
--- ---- tests one after the other
-pub stopped : (r a b : Bool) → r ≡ a → r ≡ false → false ≡ (a && b)
-stopped r a b e h = sym (ap (λ (t : Bool). t && b) (sym e ∙ h))
-
-pub passed : (r a b v : Bool) → r ≡ a → r ≡ true → v ≡ b → v ≡ (a && b)
-passed r a b v e h f = f ∙ sym (ap (λ (t : Bool). t && b) (sym e ∙ h))
 
 -- ---- the numbers of the registers
 -- the numbers l with the limbs of register n and its flag written
@@ -194,9 +170,6 @@ put_is l n limbs t len m z =
     (fun_ext (λ k. word_at l n (get_or limbs 0 0) (get_or limbs 1 0) (get_or limbs 2 0) (get_or limbs 3 0) f len m k (eqb k n) (leb k 15) refl refl))
     (flags_put l n (get_or limbs 0 0) (get_or limbs 1 0) (get_or limbs 2 0) (get_or limbs 3 0) f len m)
     ∙ sym (ap (λ (b : Bool). cond b g after) z)
-
-pub zero_kept : (n : ℕ) (g after : Registers) → eqb n 0 ≡ true → g ≡ cond (eqb n 0) g after
-zero_kept n g after z = sym (ap (λ (b : Bool). cond b g after) z)
 
 -- ---- reading what was written
 module _ (n w : ℕ) (t : Bool) (g : Registers) (z : eqb n 0 ≡ false) where

@@ -2,8 +2,8 @@
 // vm2: addressing_modes.rs, its registers and immediates.
 #![tactic(auto)]
 
-ghost use Rattle.std.specs.Prelude.{◌≡◌, true, ◌≤◌, ◌^◌, length};
-ghost use Rattle.word.specs.Value.{value, limbs_value};
+ghost use Rattle.std.specs.Prelude.{◌≡◌, true, ◌≤◌, length};
+ghost use Rattle.word.specs.Value.{value};
 ghost use Rattle.registers.specs.Registers.{registers_from, place_from, load_places_from, store_places_from, operand_of, flag_of, put_flag, with_register, is_register, is_source, register_number, source_of, erased, value_of, load_takes, pointer_takes, store_takes};
 
 use word::Word;
@@ -11,7 +11,7 @@ use word::Word;
 // The numbers: four limbs for each register, the lowest first, and then the set of pointer flags. Bit n of it is the flag of register n; the bits above 15 are neither read nor changed.
 pub const FLAGS: usize = 64;
 // how many there are
-pub const LENGTH: usize = 65;
+pub const LENGTH: usize = FLAGS + 1;
 
 pub const LAST_REGISTER: u32 = 15;
 
@@ -25,7 +25,7 @@ pub const FIRST_IMMEDIATE_CODE: u32 = 65536;
 pub const LAST_IMMEDIATE_CODE: u32 = 131071;
 
 // One more than the greatest half of a limb.
-const HALF_LIMB: u64 = 4294967296;
+const HALF_LIMB: u64 = 1 << 32;
 
 // Where an operand comes from or goes to. A form that is neither a register nor an immediate is `Other`.
 #[derive(Clone, Copy)]
@@ -66,21 +66,16 @@ pub struct StorePlaces {
 pub fn is_register(place: Place) -> bool
     ensures { result ≡ is_register place }
 {
-    match place {
-        Place::Register(n) => n <= LAST_REGISTER,
-        Place::Immediate(_) => false,
-        Place::Other => false,
-    }
+    matches!(place, Place::Register(0..=LAST_REGISTER))
 }
 
 pub fn is_source(place: Place) -> bool
     ensures { result ≡ is_source place }
 {
-    match place {
-        Place::Register(n) => n <= LAST_REGISTER,
-        Place::Immediate(n) => n <= LAST_IMMEDIATE,
-        Place::Other => false,
-    }
+    matches!(
+        place,
+        Place::Register(0..=LAST_REGISTER) | Place::Immediate(0..=LAST_IMMEDIATE)
+    )
 }
 
 // The number of a register; of another form 0.
@@ -89,105 +84,73 @@ pub fn number(place: Place) -> u32
 {
     match place {
         Place::Register(n) => n,
-        Place::Immediate(_) => 0,
-        Place::Other => 0,
+        Place::Immediate(_) | Place::Other => 0,
     }
 }
 
 pub fn takes_load(places: LoadPlaces) -> bool
     ensures { result ≡ load_takes places }
 {
-    let operand = places.source;
-    if !is_source(operand) {
-        return false;
-    }
-    let first = places.dst0;
-    if !is_register(first) {
-        return false;
-    }
-    let second = places.dst1;
-    is_register(second)
+    is_source(places.source) && is_register(places.dst0) && is_register(places.dst1)
 }
 
 // The operand of a pointer read comes from a register.
 pub fn takes_pointer(places: LoadPlaces) -> bool
     ensures { result ≡ pointer_takes places }
 {
-    let pointer = places.source;
-    if !is_register(pointer) {
-        return false;
-    }
-    let first = places.dst0;
-    if !is_register(first) {
-        return false;
-    }
-    let second = places.dst1;
-    is_register(second)
+    is_register(places.source) && is_register(places.dst0) && is_register(places.dst1)
 }
 
 pub fn takes_store(places: StorePlaces) -> bool
     ensures { result ≡ store_takes places }
 {
-    let operand = places.source;
-    if !is_source(operand) {
-        return false;
-    }
-    let stored = places.value;
-    if !is_register(stored) {
-        return false;
-    }
-    let first = places.dst0;
-    if !is_register(first) {
-        return false;
-    }
-    let second = places.dst1;
-    is_register(second)
+    is_source(places.source)
+        && is_register(places.value)
+        && is_register(places.dst0)
+        && is_register(places.dst1)
 }
 
 // The place that a number is: a register's number, or 65,536 plus an immediate; from 131,072 on another form.
-pub fn place_of(code: u32) -> Place
-    ensures { result ≡ place_from code }
-{
-    if code <= LAST_REGISTER_CODE {
-        return Place::Register(code);
+impl From<u32> for Place {
+    ghost from_gives = { λ code place. place ≡ place_from code };
+
+    fn from(code: u32) -> Place {
+        match code {
+            0..=LAST_REGISTER_CODE => Place::Register(code),
+            FIRST_IMMEDIATE_CODE..=LAST_IMMEDIATE_CODE => {
+                Place::Immediate(code - FIRST_IMMEDIATE_CODE)
+            }
+            _ => Place::Other,
+        }
     }
-    if code <= LAST_IMMEDIATE_CODE {
-        return Place::Immediate(code - FIRST_IMMEDIATE_CODE);
-    }
-    Place::Other
 }
 
 pub fn load_places(source: u32, dst0: u32, dst1: u32, increment: bool) -> LoadPlaces
     ensures { result ≡ load_places_from source dst0 dst1 increment }
 {
-    let from = place_of(source);
-    let first = place_of(dst0);
-    let second = place_of(dst1);
     LoadPlaces {
-        source: from,
-        dst0: first,
-        dst1: second,
-        increment: increment,
+        source: Place::from(source),
+        dst0: Place::from(dst0),
+        dst1: Place::from(dst1),
+        increment,
     }
 }
 
 pub fn store_places(source: u32, value: u32, dst0: u32, dst1: u32, increment: bool) -> StorePlaces
     ensures { result ≡ store_places_from source value dst0 dst1 increment }
 {
-    let from = place_of(source);
-    let stored = place_of(value);
-    let first = place_of(dst0);
-    let second = place_of(dst1);
     StorePlaces {
-        source: from,
-        value: stored,
-        dst0: first,
-        dst1: second,
-        increment: increment,
+        source: Place::from(source),
+        value: Place::from(value),
+        dst0: Place::from(dst0),
+        dst1: Place::from(dst1),
+        increment,
     }
 }
 
 // ---- flags
+// Stays: a register's number is a `u32` that is known to be at most 15, and no type of its own. `place_from` makes a register of each number up to 65,535, and `number` gives 0 for a place that is
+// no register, so such a type would have to be made by one more test after `takes_load` and the others.
 
 pub fn flag(flags: u64, n: u32) -> bool
     requires { n ≤ 15 }
@@ -196,63 +159,43 @@ pub fn flag(flags: u64, n: u32) -> bool
     (flags >> n) % 2 == 1
 }
 
-fn power(n: u32) -> u64
-    requires { n ≤ 15 }
-    ensures { result ≡ 2 ^ n }
-{
-    1u64 << n
-}
-
+#[tactic(auto, using(crate::proofs::Flags::put_on, crate::proofs::Flags::put_off))]
 fn put_flag(flags: u64, n: u32, on: bool) -> u64
     requires { n ≤ 15 }
     ensures { result ≡ put_flag flags n on }
 {
-    let bit = power(n);
-    let was = flag(flags, n);
     if on {
-        if was {
-            return flags;
-        }
-        return flags + bit;
+        flags | (1 << n)
+    } else {
+        flags & !(1 << n)
     }
-    if was {
-        return flags - bit;
-    }
-    flags
 }
 
 // ---- reading
 
+#[tactic(auto, using(crate::proofs::Values::word_is), unfolding(word::specs::Value::value))]
 fn word_at(registers: &[u64], n: u32) -> Word
     requires { (length registers.now ≡ 65) × (n ≤ 15) }
     ensures { value result.limbs ≡ (registers_from registers.now).word n }
 {
     let at = 4 * n as usize;
-    let limbs = [
-        registers[at],
-        registers[at + 1],
-        registers[at + 2],
-        registers[at + 3],
-    ];
-    Word { limbs: limbs }
-}
-
-fn small(n: u32) -> Word
-    ensures { value result.limbs ≡ n }
-{
-    let limbs = [n as u64, 0, 0, 0];
-    Word { limbs: limbs }
+    Word {
+        limbs: [
+            registers[at],
+            registers[at + 1],
+            registers[at + 2],
+            registers[at + 3],
+        ],
+    }
 }
 
 fn operand_at(registers: &[u64], n: u32) -> Operand
     requires { (length registers.now ≡ 65) × (n ≤ 15) }
     ensures { operand_of result ≡ source_of (registers_from registers.now) (Place.Register n) }
 {
-    let word = word_at(registers, n);
-    let tagged = flag(registers[FLAGS], n);
     Operand {
-        word: word,
-        tagged: tagged,
+        word: word_at(registers, n),
+        tagged: flag(registers[FLAGS], n),
     }
 }
 
@@ -263,36 +206,26 @@ pub fn source(registers: &[u64], place: Place) -> Operand
 {
     match place {
         Place::Register(n) => operand_at(registers, n),
-        Place::Immediate(n) => {
-            let word = small(n);
-            Operand {
-                word: word,
-                tagged: false,
-            }
-        }
-        Place::Other => {
-            let word = small(0);
-            Operand {
-                word: word,
-                tagged: false,
-            }
-        }
+        Place::Immediate(n) => Operand {
+            word: Word::from(n),
+            tagged: false,
+        },
+        Place::Other => Operand {
+            word: Word::from(0),
+            tagged: false,
+        },
     }
 }
 
-fn erase_limbs(a: u64, b: u64, c: u64, d: u64) -> Word
-    ensures { value result.limbs ≡ erased (limbs_value a b c d) }
-{
-    let limbs = [a % HALF_LIMB, b / HALF_LIMB * HALF_LIMB, c, d];
-    Word { limbs: limbs }
-}
-
 // The word without the page and the start of its pointer.
+#[tactic(auto, using(crate::proofs::Values::erased_limbs), unfolding(word::specs::Value::value))]
 pub fn erase(word: Word) -> Word
     ensures { value result.limbs ≡ erased (value word.limbs) }
 {
-    let l = word.limbs;
-    erase_limbs(l[0], l[1], l[2], l[3])
+    let [a, b, c, d] = word.limbs;
+    Word {
+        limbs: [a % HALF_LIMB, b / HALF_LIMB * HALF_LIMB, c, d],
+    }
 }
 
 // A register read as a plain word: outside kernel mode a pointer is erased.
@@ -301,13 +234,11 @@ pub fn value(registers: &[u64], n: u32, kernel: bool) -> Word
     ensures { value result.limbs ≡ value_of kernel (registers_from registers.now) n }
 {
     let word = word_at(registers, n);
-    if kernel {
-        return word;
+    if flag(registers[FLAGS], n) && !kernel {
+        erase(word)
+    } else {
+        word
     }
-    if flag(registers[FLAGS], n) {
-        return erase(word);
-    }
-    word
 }
 
 // ---- writing
@@ -317,15 +248,15 @@ pub fn set(registers: &mut [u64], n: u32, word: Word, tagged: bool)
     requires { (length registers.old ≡ 65) × (n ≤ 15) }
     ensures { registers_from registers.new ≡ with_register n (value word.limbs) tagged (registers_from registers.old) }
 {
-    if n == 0 {
-        return;
+    if n != 0 {
+        let flags = put_flag(registers[FLAGS], n, tagged);
+        let at = 4 * n as usize;
+        let [a, b, c, d] = word.limbs;
+        // Stays: tried `copy_from_slice`, and it compiles to a copy of the word on the stack and a test for overlap, on the way of each owned load and store
+        registers[at] = a;
+        registers[at + 1] = b;
+        registers[at + 2] = c;
+        registers[at + 3] = d;
+        registers[FLAGS] = flags;
     }
-    let flags = put_flag(registers[FLAGS], n, tagged);
-    let at = 4 * n as usize;
-    let limbs = word.limbs;
-    registers[at] = limbs[0];
-    registers[at + 1] = limbs[1];
-    registers[at + 2] = limbs[2];
-    registers[at + 3] = limbs[3];
-    registers[FLAGS] = flags;
 }

@@ -4,26 +4,17 @@ use Rattle.std.proofs.Common.{◌≡◌, ℕ, suc, ◌+◌, ◌-◌, ◌<◌, �
 use mathlib.Core.Bool.{false≢true}
 use lib.Seq.{drop-length}
 use Rattle.word.specs.Value.{last_address}
-use Rattle.state.specs.Access.{new_bound, due, used, accessed, frame_accessed}
+use Rattle.state.specs.Access.{new_bound, due, accessed, frame_accessed}
 use Rattle.state.specs.Quote.{end_of, walked}
 use Rattle.state.specs.declared.Frame.{Frame}
 use Rattle.state.specs.declared.Area.{Area}
 use Rattle.state.specs.declared.Area.TheVariants.{Heap, Aux}
-use Rattle.state.specs.declared.Gas.{Gas}
 use Rattle.state.specs.declared.Growth.{Growth}
 use Rattle.state.specs.declared.quote.RunEnd.{RunEnd}
 
 -- the operand limit excludes a wrap
 pub no_wrap : (address : ℕ) → address ≤ last_address → new_bound address ≡ address + 32
 no_wrap address l = mod-eq_of_lt (omega arith)
-
-is_paid : (t : Bool) (x y : ℕ) → (cond {A = Gas} t (record { left = x; paid = true }) (record { left = y; paid = false })).paid ≡ t
-is_paid true x y = refl
-is_paid false x y = refl
-
--- whether an amount was paid is whether there was enough gas
-pub enough : (gas amount : ℕ) {u : Gas} {t : Bool} → u ≡ used gas amount → u.paid ≡ t → leb amount gas ≡ t
-enough gas amount e p = sym (is_paid (leb amount gas) _ _) ∙ sym (ap (λ (u : Gas). u.paid) e) ∙ p
 
 -- ---- an access
 -- where it is paid: the operand is within the limit, the bound becomes the larger of itself and x + 32, and the gas pays the difference

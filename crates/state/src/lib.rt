@@ -3,7 +3,7 @@
 #![tactic(auto)]
 
 ghost use Rattle.std.specs.Prelude.{◌≡◌};
-ghost use Rattle.state.specs.Access.{new_bound, used, grown, accessed, frame_grown};
+ghost use Rattle.state.specs.Access.{new_bound, used, grown, accessed, bound_of, with_growth, frame_grown};
 
 use page_ids::{Address, PageId};
 
@@ -27,6 +27,7 @@ pub enum Area {
 }
 
 // The gas that is left, and whether the amount was paid.
+// Stays: what is left is part of the answer where nothing was paid too (`used`, and the number that `zp_use_gas` gives), so an `Option` or a `Result` would have it in both of its cases.
 #[derive(Clone, Copy)]
 pub struct Gas {
     pub left: u32,
@@ -34,6 +35,7 @@ pub struct Gas {
 }
 
 // Gas and bound after a growth or an access, and whether it was paid.
+// Stays: a panic has gas and bound too (`accessed`, and `RunEnd` tells both), so a `Result` would have the same two in both of its cases.
 #[derive(Clone, Copy)]
 pub struct Growth {
     pub gas: u32,
@@ -42,6 +44,7 @@ pub struct Growth {
 }
 
 // The frame after a growth or an access, and whether it was paid.
+// Stays: a panic leaves a frame too, with its gas emptied (`frame_grown`), so a `Result` would have a frame in both of its cases.
 #[derive(Clone, Copy)]
 pub struct FrameStep {
     pub frame: Frame,
@@ -52,22 +55,16 @@ pub struct FrameStep {
 pub fn new_bound(address: Address) -> u32
     ensures { result ≡ new_bound address.0 }
 {
-    std::num::wrapping_add_u32(address.0, 32)
+    address.0.wrapping_add(32)
 }
 
 // Uses gas; too little of it is emptied.
 pub fn use_gas(gas: u32, amount: u32) -> Gas
     ensures { result ≡ used gas amount }
 {
-    if amount <= gas {
-        return Gas {
-            left: gas - amount,
-            paid: true,
-        };
-    }
     Gas {
-        left: 0,
-        paid: false,
+        left: gas.saturating_sub(amount),
+        paid: amount <= gas,
     }
 }
 
@@ -82,18 +79,11 @@ pub fn grow(gas: u32, bound: u32, new: u32) -> Growth
             paid: true,
         };
     }
-    let gas = use_gas(gas, new - bound);
-    if gas.paid {
-        return Growth {
-            gas: gas.left,
-            bound: new,
-            paid: true,
-        };
-    }
+    let Gas { left, paid } = use_gas(gas, new - bound);
     Growth {
-        gas: 0,
-        bound: bound,
-        paid: false,
+        gas: left,
+        bound: if paid { new } else { bound },
+        paid,
     }
 }
 
@@ -111,30 +101,43 @@ pub fn access(gas: u32, bound: u32, address: Address) -> Growth
     grow(gas, bound, new_bound(address))
 }
 
+// The bound of an area.
+fn bound_of(frame: Frame, area: Area) -> u32
+    ensures { result ≡ bound_of frame area }
+{
+    match area {
+        Area::Heap => frame.heap_bound,
+        Area::Aux => frame.aux_bound,
+    }
+}
+
+// The frame with gas and the one bound after a growth.
+fn with_growth(frame: Frame, area: Area, grown: Growth) -> Frame
+    ensures { result ≡ (with_growth frame area grown).frame }
+{
+    let gas = grown.gas;
+    match area {
+        Area::Heap => Frame {
+            gas,
+            heap_bound: grown.bound,
+            ..frame
+        },
+        Area::Aux => Frame {
+            gas,
+            aux_bound: grown.bound,
+            ..frame
+        },
+    }
+}
+
 // The growth of one area is paid from the frame's gas: the step that loads and stores take.
 pub fn growth_step(frame: Frame, area: Area, new: u32) -> FrameStep
     ensures { result ≡ frame_grown frame area new }
 {
-    let mut after = frame;
-    match area {
-        Area::Heap => {
-            let grown = grow(frame.gas, frame.heap_bound, new);
-            after.gas = grown.gas;
-            after.heap_bound = grown.bound;
-            return FrameStep {
-                frame: after,
-                paid: grown.paid,
-            };
-        }
-        Area::Aux => {
-            let grown = grow(frame.gas, frame.aux_bound, new);
-            after.gas = grown.gas;
-            after.aux_bound = grown.bound;
-            return FrameStep {
-                frame: after,
-                paid: grown.paid,
-            };
-        }
+    let grown = grow(frame.gas, bound_of(frame, area), new);
+    FrameStep {
+        frame: with_growth(frame, area, grown),
+        paid: grown.paid,
     }
 }
 
@@ -153,8 +156,5 @@ pub fn grow_frame(frame: Frame, area: Area, new: u32) -> FrameStep
 {
     let mut lent = frame;
     let paid = grow_heap(&mut lent, area, new);
-    FrameStep {
-        frame: lent,
-        paid: paid,
-    }
+    FrameStep { frame: lent, paid }
 }

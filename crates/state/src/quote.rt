@@ -24,8 +24,7 @@ fn walk(list: &[u32], gas: u32, bound: u32) -> RunEnd
 {
     let mut left = gas;
     let mut reached = bound;
-    let mut i = 0;
-    while i < list.len() {
+    for i in 0..list.len() {
         let grown = access(left, reached, Address(list[i]));
         left = grown.gas;
         reached = grown.bound;
@@ -36,12 +35,11 @@ fn walk(list: &[u32], gas: u32, bound: u32) -> RunEnd
                 position: i as u32,
             };
         }
-        i += 1;
     }
     RunEnd {
         spent: gas - left,
         bound: reached,
-        position: i as u32,
+        position: list.len() as u32,
     }
 }
 

@@ -1,11 +1,12 @@
 -- The number of a run of bytes, by its parts.
 -- Assumes nothing.
 use mathlib.Core.Path.{◌≡◌, sym, ap, ◌∙◌}
-use mathlib.Core.List.{List}
+use mathlib.Core.List.{List, [], ◌∷◌}
 use Prim.Native.Nat.{ℕ, zero, suc, ◌+◌, ◌*◌, ◌^◌}
 use native.Mathlib.Omega.{arith}
 use native.Mathlib.Nat.{add-zero, add-suc, mul_assoc, mul_comm, pow-suc}
 use lib.ListN.{get_or}
+use Rattle.std.specs.Int.{w64, from_be_bytes}
 use Rattle.word.specs.Value.{limbs_value, bytes_at}
 
 one_more : (p y g x q : ℕ) → x ≡ p + y → q ≡ 256 * p → 256 * x + g ≡ q + (256 * y + g)
@@ -29,18 +30,15 @@ split b at m (suc n) =
     place : (at m n : ℕ) → at + (m + n) ≡ at + m + n
     place at m n = omega arith
 
--- four bytes, as `be4` sums them
-pub four : (b : List ℕ) (at : ℕ) → ((get_or b at 0 * 256 + get_or b (at + 1) 0) * 256 + get_or b (at + 2) 0) * 256 + get_or b (at + 3) 0 ≡ bytes_at b at 4
+-- eight bytes, as `from_be_bytes` sums them
+pub eight : (b : List ℕ) (at : ℕ)
+    → from_be_bytes w64 (get_or b at 0 ∷ get_or b (at + 1) 0 ∷ get_or b (at + 2) 0 ∷ get_or b (at + 3) 0 ∷ get_or b (at + 4) 0 ∷ get_or b (at + 5) 0 ∷ get_or b (at + 6) 0 ∷ get_or b (at + 7) 0 ∷ [])
+    ≡ bytes_at b at 8
 unfolding bytes_at
-four b at =
-    ap (λ (i : ℕ). ((get_or b i 0 * 256 + get_or b (at + 1) 0) * 256 + get_or b (at + 2) 0) * 256 + get_or b (at + 3) 0) (none at)
-    ∙ horner (get_or b (at + 0) 0) (get_or b (at + 1) 0) (get_or b (at + 2) 0) (get_or b (at + 3) 0)
+eight b at = omega (arith, first)
   where
-    none : (at : ℕ) → at ≡ at + 0
-    none at = omega arith
-
-    horner : (p q r s : ℕ) → ((p * 256 + q) * 256 + r) * 256 + s ≡ 256 * (256 * (256 * (256 * 0 + p) + q) + r) + s
-    horner p q r s = omega arith
+    first : get_or b (at + 0) 0 ≡ get_or b at 0
+    first = ap (λ (i : ℕ). get_or b i 0) (add-zero at)
 
 turned : (x y : ℕ) → x * 2 ^ 64 + y ≡ y + 2 ^ 64 * x
 turned x y = omega arith

@@ -2,13 +2,13 @@
 -- Assumes nothing.
 use mathlib.Core.Path.{◌≡◌, refl, sym, ap, ◌∙◌, subst}
 use mathlib.Core.Bool.{Bool, true, false}
-use mathlib.Core.List.{List, [], ◌∷◌}
+use mathlib.Core.List.{List}
 use mathlib.Core.Logic.{◌⊎◌, inl, inr, ⊎_elim}
 use Prim.Native.Nat.{ℕ, zero, suc, ◌+◌, ◌*◌, ◌-◌, ◌/◌, ◌%◌, ◌<◌, ◌≤◌, ◌^◌}
 use native.Mathlib.Omega.{arith}
 use native.Mathlib.Nat.{not-suc-le-zero, div-div-eq-div-mul, pow-succ', le_of_suc-le-suc}
 use lib.Dec.{ltb}
-use lib.ListN.{length, get_or, set}
+use lib.ListN.{length, get_or}
 use lib.Seq.{ext_get_or}
 use borrow.Author.Tests.{ltb-true, ltb-false}
 use Rattle.word.specs.Value.{bytes_at, digits}
@@ -73,14 +73,3 @@ byte_at b f (suc n) i l =
 -- n bytes are the digits of their number
 pub digits_of : (b : List ℕ) (n : ℕ) → length b ≡ n → Small b → b ≡ digits n (bytes_at b 0 n)
 digits_of b n k f = same b (digits n (bytes_at b 0 n)) n k (digits_long n _) (λ i l. byte_at b f n i l ∙ sym (digit_at n (bytes_at b 0 n) i l))
-
--- a store of a byte keeps bytes
-set_byte : (b : List ℕ) (i v : ℕ) → ((j : ℕ) → get_or b j 0 < 256) → v < 256 → (j : ℕ) → get_or (set b i v) j 0 < 256
-set_byte [] i v f l j = f j
-set_byte (x ∷ b) zero v f l zero = l
-set_byte (x ∷ b) zero v f l (suc j) = f (suc j)
-set_byte (x ∷ b) (suc i) v f l zero = f 0
-set_byte (x ∷ b) (suc i) v f l (suc j) = set_byte b i v (λ k. f (suc k)) l j
-
-pub small_set : {b : List ℕ} (i v : ℕ) → Small b → v < 256 → Small (set b i v)
-small_set {b} i v f l = record { byte = set_byte b i v f.byte l }

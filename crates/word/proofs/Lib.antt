@@ -1,6 +1,7 @@
 -- The laws that the proofs of this crate and of those above it share.
 pub mod Bytes
 pub mod Digits
-pub mod Swaps
+pub mod Written
 pub mod Limbs
 pub mod RoundTrip
+pub mod Copied

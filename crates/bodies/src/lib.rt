@@ -95,6 +95,7 @@ pub fn write_from(
 {
     let mut pos = 0;
     let mut last = words[head::CHUNKS] as usize;
+    // Stays: `pos` goes on by a piece, the first of which is cut off at its chunk's end, and gives the address too; a rest of `src` that shrinks would need it besides.
     while pos < src.len() {
         let abs = address.0 as u64 + pos as u64;
         let s = place_after(keys, order, words, page, (abs / 256) as u32, last);

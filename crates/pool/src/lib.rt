@@ -98,6 +98,7 @@ fn wipe(bytes: &mut [u8], order: &[u32], from: usize, to: usize)
     requires { (from ≤ to) × (to ≤ length order.now) × ((i : ℕ) → from ≤ i → i < to → 256 * get_or order.now i 0 + 256 ≤ length bytes.old) }
     ensures { Wiped bytes.old order.now from to bytes.new }
 {
+    // Stays: tried, `chunk_by` over the ranks. The proof didn't close: that 256 times the first slot of a run fits was left, for which the loop would have to carry what the closure computes.
     let mut i = from;
     while i < to {
         let end = run_end(order, i, to);

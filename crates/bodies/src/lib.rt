@@ -20,11 +20,7 @@ pub fn copy(src: &[u8], from: usize, dst: &mut [u8], to: usize, n: usize)
     requires { (from + n ≤ length src.now) × (to + n ≤ length dst.old) }
     ensures { Spread (λ i. to + i) (λ i. get_or src.now (from + i) 0) n dst.old dst.new }
 {
-    let mut i = 0;
-    while i < n {
-        dst[to + i] = src[from + i];
-        i += 1;
-    }
+    dst[to..to + n].copy_from_slice(&src[from..from + n]);
 }
 
 // The word that begins at offset r of slot s and goes on in slot t.
@@ -61,11 +57,7 @@ pub fn put_word(bytes: &mut [u8], s: usize, t: usize, r: usize, word: [u8; 32])
 fn piece(address: u64, left: usize) -> usize
     ensures { result ≡ min left (256 - address % 256) }
 {
-    let room = 256 - (address % 256) as usize;
-    if left < room {
-        return left;
-    }
-    room
+    left.min(256 - (address % 256) as usize)
 }
 
 // The slot of a chunk of a page; `last` is the slot of the chunk before it, or at least the number of slots. Chunks that follow each other often have slots that do.
@@ -103,6 +95,7 @@ pub fn write_from(
 {
     let mut pos = 0;
     let mut last = words[head::CHUNKS] as usize;
+    // Stays: `pos` goes on by a piece, the first of which is cut off at its chunk's end, and gives the address too; a rest of `src` that shrinks would need it besides.
     while pos < src.len() {
         let abs = address.0 as u64 + pos as u64;
         let s = place_after(keys, order, words, page, (abs / 256) as u32, last);

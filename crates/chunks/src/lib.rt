@@ -51,8 +51,7 @@ pub fn hold_chunks(
     requires k_value { (k ≡ key_of (entry_of (mem bytes.now keys.old order.old words.old) page.0) first) × (Ranked keys.old order.old words.old k at) }
     ensures { Shows (setting_of (mem bytes.now keys.old order.old words.old)) (holding page.0 first count (view_of (mem bytes.now keys.old order.old words.old))) (mem bytes.now keys.new order.new words.new) }
 {
-    let mut i = 0;
-    while i < count {
+    for i in 0..count {
         hold_at(
             bytes,
             keys,
@@ -63,6 +62,5 @@ pub fn hold_chunks(
             at + i as usize,
             k + i as u64,
         );
-        i += 1;
     }
 }

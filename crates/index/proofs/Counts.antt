@@ -4,11 +4,11 @@ use mathlib.Core.Path.{◌≡◌, refl, sym, ap, ◌∙◌}
 use mathlib.Core.Logic.{⊎_elim}
 use mathlib.Core.List.{List, [], ◌∷◌}
 use Prim.Native.Nat.{ℕ, zero, suc, ◌+◌, ◌≤◌, ◌<◌, zero-le, suc-le-suc}
-use native.Mathlib.Nat.{le_of_suc-le-suc, not-suc-le-zero, eq-or-lt_of_le, lt_trans, le_antisymm, lt-suc_self}
+use native.Mathlib.Nat.{le_of_suc-le-suc, not-suc-le-zero, eq-or-lt_of_le, lt_trans, lt-suc_self}
 use native.Mathlib.Numerals.{add-one}
 use native.Mathlib.Omega.{arith}
 use lib.ListN.{length, get_or, drop, set, get_or-eq_default}
-use lib.Seq.{drop-cons, drop-length, get_or-set_other, get_or-set_same, set-set, set-get_or, set_out}
+use lib.Seq.{drop-cons, get_or-set_other, get_or-set_same, set-set, set-get_or, set_out}
 use Rattle.index.specs.Index.{key_at, used_count, free_count, Listed}
 use Rattle.index.proofs.Logic.{same_or_not, lt_or_ge}
 
@@ -24,10 +24,6 @@ count_zero ks i l e = rw (add-one i, drop-cons ks i 0 l, e)
 
 pub count_held : (ks : List ℕ) (i : ℕ) → i < length ks → (get_or ks i 0 ≡ 0 → ⊥) → used_count (drop (i + 1) ks) + 1 ≡ used_count (drop i ks)
 count_held ks i l n = rw (add-one i, drop-cons ks i 0 l) (sym (count_cons (get_or ks i 0) (drop (suc i) ks) n))
-
-pub count_done : (ks : List ℕ) (n i : ℕ) → i ≤ length ks → length ks ≤ i → n + used_count (drop i ks) ≡ used_count ks → n ≡ used_count ks
-unfolding used_count
-count_done ks n i l m e = let q : used_count (drop i ks) ≡ 0 = rw (le_antisymm l m, drop-length) in omega arith
 
 pub count_le : (ks : List ℕ) → used_count ks ≤ length ks
 unfolding used_count

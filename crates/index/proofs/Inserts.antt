@@ -1,37 +1,19 @@
 -- A key is put in.
 -- Assumes nothing.
 use mathlib.Core.Path.{◌≡◌, refl, sym, ap, ◌∙◌}
-use mathlib.Core.Logic.{◌⊎◌, inl, inr, ⊎_elim}
+use mathlib.Core.Logic.{⊎_elim}
 use mathlib.Core.Bool.{true}
 use mathlib.Core.List.{List}
 use Prim.Native.Nat.{ℕ, ◌+◌, ◌-◌, ◌≤◌, ◌<◌}
 use native.Mathlib.Nat.{eq-or-lt_of_le}
 use native.Mathlib.Omega.{arith}
-use lib.ListN.{length, get_or, set, length-set}
+use lib.ListN.{get_or, set, length-set}
 use lib.Seq.{get_or-set_other, get_or-set_same}
 use Rattle.index.specs.Index.{all, key_at, rises, indexed, LowerBound, MovedUp, Insertable}
 use Rattle.index.proofs.Logic.{lt_or_ge, lt_by}
 use Rattle.index.proofs.Counts.{count_fill}
 use Rattle.index.proofs.Orders.{key_pos, sorted, slot_lt, rising_intro, index_count, index_rises, index_is}
 use Rattle.index.proofs.Places.{place_at}
-
--- moving up by one
-pub moved_low : (os ds : List ℕ) (j v : ℕ) → ((i : ℕ) → i < j → get_or ds i 0 ≡ get_or os i 0) → (i : ℕ) → i < j - 1 → get_or (set ds j v) i 0 ≡ get_or os i 0
-moved_low os ds j v low i l = get_or-set_other ds j i v 0 (λ e. omega arith) ∙ low i (omega arith)
-
-pub moved_high : (os ds : List ℕ) (j n : ℕ) → 0 < j → j < length ds → ((i : ℕ) → i < j → get_or ds i 0 ≡ get_or os i 0)
-    → ((i : ℕ) → j ≤ i → i < n → get_or ds (i + 1) 0 ≡ get_or os i 0)
-    → (i : ℕ) → j - 1 ≤ i → i < n → get_or (set ds j (get_or ds (j - 1) 0)) (i + 1) 0 ≡ get_or os i 0
-moved_high os ds j n p l low high i m q =
-    ⊎_elim (λ e.
-    let s : i + 1 ≡ j = omega arith in
-    let r : j - 1 ≡ i = sym e in
-    rw (s, get_or-set_same ds j (get_or ds (j - 1) 0) 0 l, r) (low i (omega arith)))
-    (λ lt. get_or-set_other ds j (i + 1) (get_or ds (j - 1) 0) 0 (λ e. omega arith) ∙ high i (omega arith) q)
-    (same_or_after (j - 1) i m)
-  where
-    same_or_after : (a b : ℕ) → a ≤ b → (b ≡ a) ⊎ (a < b)
-    same_or_after a b h = ⊎_elim (λ e. inl (sym e)) (λ lt. inr lt) (eq-or-lt_of_le h)
 
 module _ (ks os ds : List ℕ) (n s k at : ℕ) (ins : Insertable ks os n s k) (lb : LowerBound ks os n k at) (mv : MovedUp os ds at n) where
   up : all (rises ks os) n ≡ true

@@ -9,13 +9,11 @@ ghost use Rattle.index.specs.Index.{all, rises, used_count, indexed, seek, Lower
 fn count_used(keys: &[u64]) -> usize
     ensures { result ≡ used_count keys.now }
 {
-    let mut n: usize = 0;
-    let mut i = 0;
-    while i < keys.len() {
-        if keys[i] != 0 {
+    let mut n = 0;
+    for &k in keys {
+        if k != 0 {
             n += 1;
         }
-        i += 1;
     }
     n
 }
@@ -25,10 +23,9 @@ fn rising(keys: &[u64], order: &[u32], n: usize) -> bool
     requires { n ≤ length order.now }
     ensures { result ≡ all (rises keys.now order.now) n }
 {
-    let mut prev: u64 = 0;
-    let mut i = 0;
-    while i < n {
-        let s = order[i] as usize;
+    let mut prev = 0;
+    for &s in &order[..n] {
+        let s = s as usize;
         if keys.len() <= s {
             return false;
         }
@@ -37,7 +34,6 @@ fn rising(keys: &[u64], order: &[u32], n: usize) -> bool
             return false;
         }
         prev = k;
-        i += 1;
     }
     true
 }
@@ -46,44 +42,15 @@ fn rising(keys: &[u64], order: &[u32], n: usize) -> bool
 pub fn index_ok(keys: &[u64], order: &[u32], n: usize) -> bool
     ensures { result ≡ indexed keys.now order.now n }
 {
-    if order.len() < n {
-        return false;
-    }
-    if count_used(keys) != n {
-        return false;
-    }
-    rising(keys, order, n)
+    n <= order.len() && count_used(keys) == n && rising(keys, order, n)
 }
 
-// By how many bits a step is shifted: by none where x is below k, else by so many that nothing is left.
-fn away(x: u64, k: u64) -> usize
-    ensures { (result < 64) × (x < k → result ≡ 0) × (k ≤ x → result ≡ 63) }
-{
-    if x < k { 0 } else { 63 }
-}
-
-// `half` where x is below k, else 0. A shift makes no branch, which a search would mispredict at every second step.
-fn step(half: usize, x: u64, k: u64) -> usize
-    requires { half < 2 ^ 63 }
-    ensures { (x < k → result ≡ half) × (k ≤ x → result ≡ 0) }
-{
-    half >> away(x, k)
-}
-
-// The first rank whose key is at least k. `base` and `len` bracket it, and `base` moves up by a half or not at all.
+// The first rank whose key is at least k.
 pub fn rank_below(keys: &[u64], order: &[u32], n: usize, k: u64) -> usize
     requires { (n ≤ length order.now) × (all (rises keys.now order.now) n ≡ true) }
     ensures { LowerBound keys.now order.now n k result }
 {
-    let mut base: usize = 0;
-    let mut len = n;
-    while 0 < len {
-        let half = (len + 1) / 2;
-        let s = order[base + half - 1] as usize;
-        base += step(half, keys[s], k);
-        len -= half;
-    }
-    base
+    order[..n].partition_point(|s| keys.get(*s as usize).is_some_and(|key| *key < k))
 }
 
 // The same, the end first: a page that grows asks for keys past all others.
@@ -129,11 +96,7 @@ fn move_up(order: &mut [u32], at: usize, n: usize)
     requires { (at ≤ n) × (n < length order.old) }
     ensures { MovedUp order.old order.new at n }
 {
-    let mut j = n;
-    while at < j {
-        order[j] = order[j - 1];
-        j -= 1;
-    }
+    order.copy_within(at..n, at + 1);
 }
 
 // Gives the free place s the key k, which no place has and whose rank is `at`. That is its rank afterwards too.
@@ -161,10 +124,8 @@ fn clear(keys: &mut [u64], order: &[u32], from: usize, to: usize)
     requires { (from ≤ to) × (to ≤ length order.now) × ((i : ℕ) → from ≤ i → i < to → get_or order.now i 0 < length keys.old) }
     ensures { Cleared keys.old order.now from to keys.new }
 {
-    let mut i = from;
-    while i < to {
-        keys[order[i] as usize] = 0;
-        i += 1;
+    for &s in &order[from..to] {
+        keys[s as usize] = 0;
     }
 }
 
@@ -173,11 +134,7 @@ fn move_down(order: &mut [u32], at: usize, from: usize, n: usize)
     requires { (at ≤ from) × (from ≤ n) × (n ≤ length order.old) }
     ensures { MovedDown order.old order.new at from n }
 {
-    let mut j = from;
-    while j < n {
-        order[at + (j - from)] = order[j];
-        j += 1;
-    }
+    order.copy_within(from..n, at);
 }
 
 // Frees the places of the ranks from `from` up to, but without, `to`; those above move down.

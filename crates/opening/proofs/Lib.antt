@@ -1,5 +1,4 @@
 -- The laws that the proofs of this crate cite.
-pub mod Clears
 pub mod Fixed
 pub mod Starts
 pub mod Refusals

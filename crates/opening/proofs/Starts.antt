@@ -16,7 +16,7 @@ use Rattle.bits.specs.Bits.{free_word}
 use Rattle.bits.proofs.Free.{free_zeros}
 use Rattle.store.specs.Mem.{Mem, mem, pool_length, pool_place, pool_word}
 use Rattle.store.specs.Pool.{Pooling}
-use Rattle.store.proofs.Parts.{sub_zero, take_front, drop_front, put_long, rest_part, rest_high}
+use Rattle.store.proofs.Parts.{take_front, drop_front, put_long, rest_part, rest_high}
 use Rattle.formed.specs.Pages.{LayoutRule, fixed, journal_count}
 use Rattle.formed.specs.Parts.{tab, byte_at, slot_of_chunk, holds, allocated, journal}
 use Rattle.formed.specs.WellFormed.{holder, WellFormed, ListedPage}
@@ -247,7 +247,7 @@ module _ (s : Setting) (bytes keys order words : List ℕ) (asks : OpenAsks s (m
         apart = apart;
       })
 
-  module _ (e₁ e₂ e₃ : List ℕ) (bare : e₁ ≡ replicate (length (take (256 * s.chunks - 0) bytes)) 0)
+  module _ (e₁ e₂ e₃ : List ℕ) (bare : e₁ ≡ replicate (length (take (256 * s.chunks) bytes)) 0)
       (long₂ : length e₂ ≡ length (take (length k₁ - s.chunks) (drop s.chunks k₁))) (long₃ : length e₃ ≡ length (take (length order - s.chunks) (drop s.chunks order)))
       (first : FirstPages w₁ e₂ e₃ 4) where
     in_bytes : 256 * s.chunks ≤ length bytes
@@ -260,7 +260,7 @@ module _ (s : Setting) (bytes keys order words : List ℕ) (asks : OpenAsks s (m
     in_order = let a = asks.sizes.in_order in omega arith
 
     zeros₁ : e₁ ≡ replicate (256 * s.chunks) 0
-    zeros₁ = bare ∙ ap (λ (n : ℕ). replicate n 0) (ap (λ (n : ℕ). length (take n bytes)) (sub_zero (256 * s.chunks)) ∙ length-take-le (256 * s.chunks) bytes in_bytes)
+    zeros₁ = bare ∙ ap (λ (n : ℕ). replicate n 0) (length-take-le (256 * s.chunks) bytes in_bytes)
 
     long₁ : length e₁ ≡ 256 * s.chunks
     long₁ = ap length zeros₁ ∙ length-replicate (256 * s.chunks) 0
@@ -297,8 +297,8 @@ module _ (s : Setting) (bytes keys order words : List ℕ) (asks : OpenAsks s (m
     four = rw (drop_front (take s.chunks k₁) e₂ s.chunks cut_keys, drop_front (take s.chunks order) e₃ s.chunks cut_order, ← head) first
 
     pub started : Shows s (empty_view s)
-        (mem (e₁ ++ drop (256 * s.chunks - 0) bytes) (take s.chunks k₁ ++ (e₂ ++ drop (length k₁ - s.chunks) (drop s.chunks k₁)))
+        (mem (e₁ ++ drop (256 * s.chunks) bytes) (take s.chunks k₁ ++ (e₂ ++ drop (length k₁ - s.chunks) (drop s.chunks k₁)))
         (take s.chunks order ++ (e₃ ++ drop (length order - s.chunks) (drop s.chunks order))) w₁)
     started =
-        rw (sub_zero (256 * s.chunks), put_rest k₁ e₂ s.chunks, put_rest order e₃ s.chunks, head)
+        rw (put_rest k₁ e₂ s.chunks, put_rest order e₃ s.chunks, head)
         (new_memory s (e₁ ++ drop (256 * s.chunks) bytes) (take s.chunks k₁ ++ e₂) (take s.chunks order ++ e₃) words asks' width no_bytes no_holder full four)

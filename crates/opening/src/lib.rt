@@ -1,7 +1,7 @@
 // Opens a memory in lent buffers, whatever they hold.
 #![tactic(auto)]
 
-ghost use Rattle.std.specs.Prelude.{◌≡◌, ◌≤◌, length, replicate};
+ghost use Rattle.std.specs.Prelude.{◌≡◌, ◌≤◌, length};
 ghost use Rattle.outcome.specs.Outcome.{answer_outcome};
 ghost use Rattle.store.specs.Mem.{mem, head_length, fixed_count, pool_length};
 ghost use Rattle.view.specs.View.{setting_of};
@@ -21,28 +21,6 @@ pub struct Capacity {
     pub chunks: u32,
     pub pages: u32,
     pub journal_words: u32,
-}
-
-// Every byte becomes 0.
-fn clear_bytes(bytes: &mut [u8])
-    ensures { bytes.new ≡ replicate (length bytes.old) 0 }
-{
-    let mut i = 0;
-    while i < bytes.len() {
-        bytes[i] = 0;
-        i += 1;
-    }
-}
-
-// Every key becomes 0: no slot is held, and no entry is in use.
-fn clear_keys(keys: &mut [u64])
-    ensures { keys.new ≡ replicate (length keys.old) 0 }
-{
-    let mut i = 0;
-    while i < keys.len() {
-        keys[i] = 0;
-        i += 1;
-    }
 }
 
 // Every slot is pooled: the bits of all of them are set, and no other. Of the words before the pool's the contract says nothing.
@@ -81,10 +59,8 @@ fn list_fixed(entries: &mut [u64], order: &mut [u32], words: &[u64])
     requires { FixedAsks entries.old order.old words.now }
     ensures { FirstPages words.now entries.new order.new fixed_count }
 {
-    let mut i: usize = 0;
-    while i < head::FIXED_ENTRIES {
+    for i in 0..head::FIXED_ENTRIES {
         index::insert(entries, order, i, i as u32, words[i] + 1);
-        i += 1;
     }
 }
 
@@ -102,8 +78,8 @@ fn start(
 {
     let c = capacity.chunks as usize;
     let end = 256 * c;
-    clear_bytes(&mut bytes[0..end]);
-    clear_keys(keys);
+    bytes[..end].fill(0);
+    keys.fill(0);
     fill_pool(words, capacity.chunks);
     write_head(words, layout, capacity);
     list_fixed(&mut keys[c..], &mut order[c..], words);

@@ -1,25 +1,18 @@
 -- An entry is taken: what the calls on the parts of the entries ask, and what they leave.
 -- Assumes nothing.
-use mathlib.Core.Path.{◌≡◌, sym, ap, ◌∙◌}
+use mathlib.Core.Path.{◌≡◌, ap, ◌∙◌}
 use mathlib.Core.Bool.{true}
 use mathlib.Core.List.{List, ◌++◌}
-use Prim.Native.Nat.{ℕ, ◌+◌, ◌-◌, ◌≤◌, ◌<◌, max}
+use Prim.Native.Nat.{ℕ, ◌+◌, ◌-◌, ◌<◌, max}
 use native.Mathlib.Omega.{arith}
 use lib.ListN.{length, get_or, set, take, drop, length-drop}
-use lib.Seq.{get_or-set_other, set-get_or}
+use lib.Seq.{get_or-set_other}
 use Rattle.index.specs.Index.{indexed, used_count, Insertable}
 use Rattle.index.proofs.Orders.{index_count}
 use Rattle.store.specs.Mem.{layout_of, slot_count, in_use}
 use Rattle.store.proofs.Parts.{rest_low, rest_high, rest_part}
 use Rattle.formed.specs.Pages.{group}
 use Rattle.pages.specs.Entry.{EntryAsks, EntryTaken}
-
--- the dynamic length
-pub raise_not : (w : List ℕ) (g : ℕ) → g < get_or w 11 0 → w ≡ set w 11 (max (get_or w 11 0) g)
-raise_not w g l = let e : max (get_or w 11 0) g ≡ get_or w 11 0 = omega arith in rw e (sym (set-get_or w 11 0))
-
-pub raise_set : (w : List ℕ) (g : ℕ) → get_or w 11 0 ≤ g → set w 11 g ≡ set w 11 (max (get_or w 11 0) g)
-raise_set w g l = let e : max (get_or w 11 0) g ≡ g = omega arith in rw e
 
 module _ (keys order words : List ℕ) (p : ℕ) (ix : EntryAsks keys order words p) where
   abbrev es : List ℕ

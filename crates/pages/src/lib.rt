@@ -18,10 +18,7 @@ fn raise(words: &mut [u64], least: u64)
     requires { head_length ≤ length words.old }
     ensures { words.new ≡ set words.old dynamic_length_place (max (dynamic_length words.old) least) }
 {
-    if least < words[head::DYNAMIC_LENGTH] {
-        return;
-    }
-    words[head::DYNAMIC_LENGTH] = least;
+    words[head::DYNAMIC_LENGTH] = words[head::DYNAMIC_LENGTH].max(least);
 }
 
 // The index of some free entry of a table that has one: `guess`, if that is free. The contract does not say which.
@@ -29,19 +26,10 @@ fn free_place(keys: &[u64], guess: usize) -> usize
     requires { used_count keys.now < length keys.now }
     ensures { (result < length keys.now) × (get_or keys.now result 0 ≡ 0) }
 {
-    if guess < keys.len() {
-        if keys[guess] == 0 {
-            return guess;
-        }
+    if guess < keys.len() && keys[guess] == 0 {
+        return guess;
     }
-    let mut i = 0;
-    while i < keys.len() {
-        if keys[i] == 0 {
-            return i;
-        }
-        i += 1;
-    }
-    0
+    keys.iter().position(|k| *k == 0).unwrap_or(0)
 }
 
 // Gives a free entry to a dynamic page that has none, makes the dynamic length reach past its group, and returns the entry.

@@ -11,7 +11,7 @@ use lib.ListN.{length, get_or, set, take, drop, length-set}
 use lib.Seq.{get_or-set_same, get_or-set_other, get_or-take, ext_get_or}
 use borrow.Author.Tests.{lt-ltb, le-ltb, le-leb, lt-leb}
 use Rattle.index.specs.Index.{all, key_at, rises, LowerBound, Cleared, Removed}
-use Rattle.index.proofs.Logic.{same_or_not, lt_or_ge}
+use Rattle.index.proofs.Logic.{lt_or_ge}
 use Rattle.index.proofs.Orders.{key_pos, slot_lt, rank_one, index_rises}
 use Rattle.index.proofs.Removes.{ranks_order, rank_within, rank_outside}
 use Rattle.store.specs.Mem.{held_place, pool_skip_place, slot_count, held_now, pool_place}
@@ -22,46 +22,6 @@ use Rattle.pool.specs.Give.{Zeroed, SlotRun, Wiped, repooled_all, Repoolable, wi
 use Rattle.pool.proofs.Pools.{pool_high, count_kept, keys_kept}
 use Rattle.pool.proofs.Holds.{cut_keys, cut_order, held_le}
 use Rattle.pool.proofs.Puts.{Back, back}
-
--- ---- the loop of `clear`
-pub zero_none : (bs : List ℕ) (at : ℕ) → Zeroed bs at 0 bs
-zero_none bs at = record { long = refl; gone = λ x a b. absurd (omega arith); kept = λ x o. refl }
-
-pub zero_more : (bs ds : List ℕ) (at n : ℕ) → at + n < length bs → Zeroed bs at n ds → Zeroed bs at (n + 1) (set ds (at + n) 0)
-zero_more bs ds at n l z = record {
-  long = length-set ds (at + n) 0 ∙ z.long;
-  gone = λ x a b.
-      ⊎_elim (λ (e : x ≡ at + n). ap (λ (y : ℕ). get_or (set ds (at + n) 0) y 0) e ∙ get_or-set_same ds (at + n) 0 0 (let h = z.long in omega arith))
-      (λ (ne : x ≡ at + n → ⊥). get_or-set_other ds (at + n) x 0 0 ne ∙ z.gone x a (omega arith))
-      (same_or_not x (at + n));
-  kept = λ x o.
-      get_or-set_other ds (at + n) x 0 0 (λ e. ⊎_elim (λ (a : x < at). omega arith) (λ (a : at + (n + 1) ≤ x). omega arith) o)
-      ∙ z.kept x (⊎_elim (λ (a : x < at). inl a) (λ (a : at + (n + 1) ≤ x). inr (omega arith)) o);
-}
-
-pub zero_end : (bs ds : List ℕ) (at n i : ℕ) → Zeroed bs at i ds → i ≤ n → n ≤ i → Zeroed bs at n ds
-zero_end bs ds at n i z a b = let e : i ≡ n = omega arith in subst (λ (x : ℕ). Zeroed bs at x ds) e z
-
--- ---- the loop of `run_end`
-pub run_one : (os : List ℕ) (from to : ℕ) → from < to → SlotRun os from to (from + 1)
-run_one os from to l = record {
-  some = omega arith;
-  end = omega arith;
-  next = λ i a b. let e : i ≡ from = omega arith in ap (λ (x : ℕ). get_or os x 0) e ∙ omega arith;
-}
-
-pub run_more : (os : List ℕ) (from to i : ℕ) → i < to → get_or os i 0 ≡ get_or os from 0 + (i - from) → SlotRun os from to i → SlotRun os from to (i + 1)
-run_more os from to i l q u = record {
-  some = let h = u.some in omega arith;
-  end = omega arith;
-  next = λ j a b.
-      ⊎_elim (λ (e : j ≡ i). ap (λ (x : ℕ). get_or os x 0) e ∙ q ∙ ap (λ (x : ℕ). get_or os from 0 + (x - from)) (sym e))
-      (λ (ne : j ≡ i → ⊥). u.next j a (omega arith))
-      (same_or_not j i);
-}
-
-pub run_last : (os : List ℕ) (from to i : ℕ) → to ≤ i → SlotRun os from to i → SlotRun os from to to
-run_last os from to i l u = let e : i ≡ to = (let h = u.end in omega arith) in subst (λ (x : ℕ). SlotRun os from to x) e u
 
 -- ---- the loop of `wipe`
 pub wipe_none : (bs os : List ℕ) (from to : ℕ) → to ≤ from → Wiped bs os from to bs

@@ -3,7 +3,8 @@
 use mathlib.Core.Path.{◌≡◌, refl, sym, ap, ◌∙◌, subst}
 use mathlib.Core.Logic.{⊎_elim}
 use mathlib.Core.List.{List}
-use Prim.Native.Nat.{ℕ, zero, suc, ◌+◌, ◌-◌, ◌/◌, ◌%◌, ◌^◌, ◌≤◌, ◌<◌, min}
+use Prim.Native.Nat.{ℕ, zero, suc, ◌+◌, ◌/◌, ◌%◌, ◌^◌, ◌≤◌, ◌<◌, min}
+use native.Mathlib.Numerals.{add-one}
 use native.Mathlib.Omega.{arith}
 use lib.ListN.{length, get_or, set, take, length-set, get_or-eq_default}
 use lib.Seq.{get_or-take, length-take-le}
@@ -94,29 +95,13 @@ module _ (keys words os : List ℕ) (from to : ℕ) (in_keys : slot_count words 
       subst (λ (x : ℕ). Back keys words os from x (repooled_all words os from (suc n))) e
       (back_more (from + n) (omega arith) (omega (arith, l)) (repooled_all words os from n) (back n (omega (arith, l))))
 
--- ---- the loop of `put_slots`
-pub all_none : (words os : List ℕ) (from : ℕ) → words ≡ repooled_all words os from (from - from)
+-- ---- the loop of `put_slots`, after n slots
+module _ (words os : List ℕ) (from to : ℕ) (r : Repoolable words os from to) (n : ℕ) (l : from + n < to) (x : List ℕ) (e : x ≡ repooled_all words os from n) where
+  pub all_asks : PoolPart x × (get_or os (from + n) 0 < slot_count x) × (pool_word x (get_or os (from + n) 0 / 64) + 2 ^ (get_or os (from + n) 0 % 64) < 2 ^ 64)
+  all_asks =
+      let b = back r.keys words os from to r.in_keys r.pooling r.held r.apart n (omega (arith, l)) in
+      rw e (back_asks r.keys words os from to r.in_keys r.pooling r.held r.apart (from + n) (omega arith) l (repooled_all words os from n) b)
+
+pub all_more : (words os x y : List ℕ) (from n : ℕ) → x ≡ repooled_all words os from n → y ≡ repooled x (get_or os (from + n) 0) → y ≡ repooled_all words os from (n + 1)
 unfolding repooled_all
-all_none words os from = let e : 0 ≡ from - from = omega arith in ap (repooled_all words os from) e
-
-module _ (words os : List ℕ) (from to : ℕ) (r : Repoolable words os from to) (i : ℕ) (a : from ≤ i) (x : List ℕ) (e : x ≡ repooled_all words os from (i - from)) where
-  so_far : i ≤ to → Back r.keys words os from i x
-  so_far b =
-      let q : from + (i - from) ≡ i = omega (arith, a) in
-      rw e (subst (λ (y : ℕ). Back r.keys words os from y (repooled_all words os from (i - from))) q (back r.keys words os from to r.in_keys r.pooling r.held r.apart (i - from) (omega (arith, a, b))))
-
-  pub all_asks : i < to → PoolPart x × (get_or os i 0 < slot_count x) × (pool_word x (get_or os i 0 / 64) + 2 ^ (get_or os i 0 % 64) < 2 ^ 64)
-  all_asks b = back_asks r.keys words os from to r.in_keys r.pooling r.held r.apart i a b x (so_far (omega (arith, b)))
-
-  pub all_long : i ≤ to → length x ≡ length words
-  all_long b = (so_far b).long
-
-  pub all_more : (y : List ℕ) → y ≡ repooled x (get_or os i 0) → y ≡ repooled_all words os from (i + 1 - from)
-  unfolding repooled_all
-  all_more y q =
-      let d : suc (i - from) ≡ i + 1 - from = omega (arith, a) in
-      let f : i ≡ from + (i - from) = omega (arith, a) in
-      q ∙ ap (λ (z : List ℕ). repooled z (get_or os i 0)) e ∙ ap (λ (j : ℕ). repooled (repooled_all words os from (i - from)) (get_or os j 0)) f ∙ ap (repooled_all words os from) d
-
-  pub all_done : i ≤ to → to ≤ i → x ≡ repooled_all words os from (to - from)
-  all_done b c = let d : i ≡ to = omega (arith, b, c) in e ∙ ap (λ (j : ℕ). repooled_all words os from (j - from)) d
+all_more words os x y from n e q = rw add-one (q ∙ ap (λ (z : List ℕ). repooled z (get_or os (from + n) 0)) e)

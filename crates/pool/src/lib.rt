@@ -77,11 +77,7 @@ fn clear(bytes: &mut [u8], at: usize, n: usize)
     requires { at + n ≤ length bytes.old }
     ensures { Zeroed bytes.old at n bytes.new }
 {
-    let mut i = 0;
-    while i < n {
-        bytes[at + i] = 0;
-        i += 1;
-    }
+    bytes[at..at + n].fill(0);
 }
 
 // Where the run of slots that begins at rank `from` ends, at `to` at the latest: each slot of it follows the one before. The contract does not say that the run is the longest.
@@ -89,12 +85,10 @@ fn run_end(order: &[u32], from: usize, to: usize) -> usize
     requires { (from < to) × (to ≤ length order.now) }
     ensures { SlotRun order.now from to result }
 {
-    let mut i = from + 1;
-    while i < to {
+    for i in from + 1..to {
         if order[i] as usize != order[from] as usize + (i - from) {
             return i;
         }
-        i += 1;
     }
     to
 }
@@ -104,6 +98,7 @@ fn wipe(bytes: &mut [u8], order: &[u32], from: usize, to: usize)
     requires { (from ≤ to) × (to ≤ length order.now) × ((i : ℕ) → from ≤ i → i < to → 256 * get_or order.now i 0 + 256 ≤ length bytes.old) }
     ensures { Wiped bytes.old order.now from to bytes.new }
 {
+    // Stays: tried, `chunk_by` over the ranks. The proof didn't close: that 256 times the first slot of a run fits was left, for which the loop would have to carry what the closure computes.
     let mut i = from;
     while i < to {
         let end = run_end(order, i, to);
@@ -119,9 +114,7 @@ fn put_slot(words: &mut [u64], s: usize)
 {
     let at = store::pool_place(words);
     bits::put(words, at, s);
-    if ((s / bits::WORD_BITS) as u64) < words[head::POOL_SKIP] {
-        words[head::POOL_SKIP] = (s / bits::WORD_BITS) as u64;
-    }
+    words[head::POOL_SKIP] = words[head::POOL_SKIP].min((s / bits::WORD_BITS) as u64);
 }
 
 // Returns the slots at the ranks from `from` up to, but without, `to` to the pool.
@@ -129,10 +122,8 @@ fn put_slots(words: &mut [u64], order: &[u32], from: usize, to: usize)
     requires { Repoolable words.old order.now from to }
     ensures { words.new ≡ repooled_all words.old order.now from (to - from) }
 {
-    let mut i = from;
-    while i < to {
-        put_slot(words, order[i] as usize);
-        i += 1;
+    for &s in &order[from..to] {
+        put_slot(words, s as usize);
     }
 }
 

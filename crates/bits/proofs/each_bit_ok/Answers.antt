@@ -1,19 +1,21 @@
-use borrow.Author.Rules.{rules}
-use Rattle.bits.proofs.Loops.{word_start, word_more, word_fails, word_done}
+use Rattle.std.proofs.Common.{◌+◌, arith}
+use Rattle.bits.proofs.Loops.{part_item, part_end, word_more, word_fails, word_done}
 use Rattle.bits.proofs.each_bit_ok.Goals as goal
 
-pub loop-i-init : goal.loop-i-init
-loop-i-init c =
-    (search rules, word_start c.args.keys.now c.args.at c.args.n c.args.x)
+pub returns-then-left-from : goal.returns-then-left-from
+returns-then-left-from c =
+    let a = c.args in
+    let h = part_item a.keys.now a.at (a.at + a.n) c.requires.1 c.loop-k.k-index c.loop-k-test.true in
+    word_fails a.keys.now a.at a.n a.x c.loop-k.k-index c.loop-k.left c.loop-k.invariant _ (omega arith) c.requires.1 (rw h.1 at c.from.ensures) c.if-left-from.true
 
-pub returns-then-left-free_bit : goal.returns-then-left-free_bit
-returns-then-left-free_bit c =
-    word_fails c.args.keys.now c.args.at c.args.n c.args.x c.loop-i.i c.loop-i.left c.loop-i.invariant.1 _ c.loop-i-test.true c.requires.1 c.free_bit.ensures c.if-left-free_bit.true
-
-pub loop-i-preserved : goal.loop-i-preserved
-loop-i-preserved c =
-    (search rules, word_more c.args.keys.now c.args.at c.args.n c.args.x c.loop-i.i c.loop-i.left c.loop-i.invariant.1 _ c.loop-i-test.true c.requires.1 c.free_bit.ensures c.if-left-free_bit.false)
+pub loop-k-preserved : goal.loop-k-preserved
+loop-k-preserved c =
+    let a = c.args in
+    let h = part_item a.keys.now a.at (a.at + a.n) c.requires.1 c.loop-k.k-index c.loop-k-test.true in
+    word_more a.keys.now a.at a.n a.x c.loop-k.k-index c.loop-k.left c.loop-k.invariant _ (omega arith) c.requires.1 (rw h.1 at c.from.ensures) c.if-left-from.false
 
 pub returns : goal.returns
 returns c =
-    word_done c.args.keys.now c.args.at c.args.n c.args.x c.loop-i.i c.loop-i.left c.loop-i.invariant.1 c.loop-i-test.false
+    let a = c.args in
+    let e = part_end a.keys.now a.at (a.at + a.n) c.requires.1 c.loop-k.k-index c.loop-k-test.false in
+    word_done a.keys.now a.at a.n a.x c.loop-k.k-index c.loop-k.left c.loop-k.invariant (omega arith)

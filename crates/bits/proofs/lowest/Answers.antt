@@ -1,21 +1,16 @@
-use native.Mathlib.Omega.{arith}
-use borrow.Author.Rules.{rules}
+use Rattle.std.proofs.Common.{◌+◌, length, arith}
+use native.Mathlib.Nat.{le_refl}
 use Rattle.bits.proofs.Words.{lowest_at}
-use Rattle.bits.proofs.Loops.{zero_more, zero_done}
+use Rattle.bits.proofs.Loops.{part_item, part_end, zero_done}
 use Rattle.bits.proofs.lowest.Goals as goal
 
-pub loop-i-init : goal.loop-i-init
-loop-i-init c =
-    (search rules, c.requires.3)
-
-pub returns-then-ws-i-ne0 : goal.returns-then-ws-i-ne0
-returns-then-ws-i-ne0 c =
-    omega (arith, c.lowest_in.ensures.0, lowest_at c.args.ws.now c.loop-i.i c.loop-i.invariant.1 c.loop-i-test.true c.if-ws-i-ne0.true)
-
-pub loop-i-preserved : goal.loop-i-preserved
-loop-i-preserved c =
-    (search rules, zero_more c.args.ws.now c.loop-i.i c.loop-i.invariant.1 c.if-ws-i-ne0.false)
+pub returns-then-w-ne0 : goal.returns-then-w-ne0
+returns-then-w-ne0 c =
+    let ws = c.args.ws.now in
+    let h = part_item ws c.args.skip (length ws) (le_refl (length ws)) c.loop-i.i c.loop-i-test.true in
+    rw h.1 (omega (arith, lowest_at ws (c.args.skip + c.loop-i.i) c.loop-i.invariant h.0 (rw h.1 at c.if-w-ne0.true)))
 
 pub returns : goal.returns
 returns c =
-    absurd (omega (arith, c.requires.1, zero_done c.args.ws.now c.loop-i.i c.loop-i.invariant.1 c.loop-i-test.false))
+    let ws = c.args.ws.now in
+    absurd (omega (arith, zero_done ws (c.args.skip + c.loop-i.i) c.loop-i.invariant (part_end ws c.args.skip (length ws) (le_refl (length ws)) c.loop-i.i c.loop-i-test.false)))

@@ -1,19 +1,19 @@
-use native.Mathlib.Omega.{arith}
-use Rattle.index.proofs.Counts.{count_zero, count_held, count_done}
+use Rattle.std.proofs.Common.{arith}
+use Rattle.std.proofs.lemmas.List.{at_drop_all}
+use Rattle.index.specs.Index.{used_count}
+use Rattle.index.proofs.Counts.{count_zero, count_held}
 use Rattle.index.proofs.count_used.Goals as goal
-use Rattle.index.proofs.count_used.Goals.{then-keys-i-ne0, else-keys-i-ne0}
+use Rattle.index.proofs.count_used.Goals.{then-k-ne0, else-k-ne0}
 
-pub loop-i-preserved : goal.loop-i-preserved
-loop-i-preserved c =
-    let l = c.loop-i in
-    let hs = c.args.keys.now in
-    let t = c.loop-i-test.true in
-    elim c.if-keys-i-ne0.branch [
-      | then-keys-i-ne0 w ↦ let h = count_held hs l.i t w.if-keys-i-ne0.true in (omega arith, omega arith, omega arith)
-      | else-keys-i-ne0 w ↦ let h = count_zero hs l.i t w.if-keys-i-ne0.false in (omega arith, omega arith, omega arith)
+pub loop-k-preserved : goal.loop-k-preserved
+loop-k-preserved c =
+    let ks = c.args.keys.now in
+    let i = c.loop-k.k-index in
+    elim c.if-k-ne0.branch [
+      | then-k-ne0 w ↦ let h = count_held ks i c.loop-k-test.true w.if-k-ne0.true in (omega arith, omega arith)
+      | else-k-ne0 w ↦ let h = count_zero ks i c.loop-k-test.true w.if-k-ne0.false in (omega arith, omega arith)
     ]
 
 pub returns : goal.returns
-returns c =
-    let l = c.loop-i in
-    count_done c.args.keys.now l.n l.i l.invariant.0 c.loop-i-test.false l.invariant.2
+unfolding used_count
+returns c = omega (arith, at_drop_all used_count c.args.keys.now c.loop-k.k-index c.loop-k-test.false)

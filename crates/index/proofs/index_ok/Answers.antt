@@ -1,12 +1,14 @@
-use mathlib.Core.Path.{sym, ◌∙◌}
-use Rattle.index.proofs.Orders.{index_is, index_short, index_miscounted}
+use Rattle.std.proofs.Common.{arith}
+use Rattle.std.proofs.lemmas.Bool.Decides.{nat_tests}
+use Rattle.index.specs.Index.{indexed}
 use Rattle.index.proofs.index_ok.Goals as goal
-
-pub returns-then-order-n : goal.returns-then-order-n
-returns-then-order-n c = sym (index_short _ _ _ c.if-order-n.true)
+use Rattle.index.proofs.index_ok.Goals.{then-n-order, else-n-order}
 
 pub returns-then-count_used-n : goal.returns-then-count_used-n
-returns-then-count_used-n c = sym (index_miscounted _ _ _ c.if-order-n.false (λ e. c.if-count_used-n.true (c.count_used.ensures ∙ e)))
+unfolding indexed
+returns-then-count_used-n c = grind (arith, nat_tests)
 
-pub returns : goal.returns
-returns c = c.rising.ensures ∙ sym (index_is _ _ _ c.if-order-n.false (sym c.count_used.ensures ∙ c.if-count_used-n.false))
+pub returns-else-count_used-n : goal.returns-else-count_used-n
+unfolding indexed
+returns-else-count_used-n c =
+    elim c.if-n-order.branch [ then-n-order w ↦ grind (arith, nat_tests) | else-n-order w ↦ grind (arith, nat_tests) ]

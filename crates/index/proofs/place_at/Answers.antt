@@ -1,20 +1,12 @@
 use native.Mathlib.Omega.{arith}
 use borrow.Author.Rules.{rules}
-use Rattle.index.proofs.Orders.{index_fits, index_rises, slot_lt}
+use Rattle.index.proofs.Orders.{index_fits}
 use Rattle.index.proofs.Places.{find_past, find_gap, find_at}
 use Rattle.index.proofs.place_at.Goals as goal
 
 pub returns-then-n-at : goal.returns-then-n-at
 returns-then-n-at c =
     find_past _ _ _ _ _ c.requires.0 c.requires.1 c.requires.2 c.if-n-at.true
-
-pub offset_bounds-keys-s : goal.offset_bounds-keys-s
-offset_bounds-keys-s c =
-    let h = slot_lt _ _ _ (index_rises _ _ _ c.requires.0) c.args.at c.if-n-at.false in search rules
-
-pub bounds-keys-s : goal.bounds-keys-s
-bounds-keys-s c =
-    slot_lt _ _ _ (index_rises _ _ _ c.requires.0) c.args.at c.if-n-at.false
 
 pub returns-then-keys-s : goal.returns-then-keys-s
 returns-then-keys-s c =
@@ -29,6 +21,3 @@ offset_bounds-order-at c = let h = index_fits _ _ _ c.requires.0 in search rules
 
 pub bounds-order-at : goal.bounds-order-at
 bounds-order-at c = let h = index_fits _ _ _ c.requires.0 in omega arith
-
-pub overflow_cast-s : goal.overflow_cast-s
-overflow_cast-s c = omega (arith, c.type_inv.order c.args.at)

@@ -1,33 +1,27 @@
-use mathlib.Core.Path.{refl, sym}
-use native.Mathlib.Omega.{arith}
-use borrow.Author.Rules.{rules}
-use Rattle.index.proofs.Orders.{no_rise, rise, before_suc, past_table}
-use Rattle.index.proofs.All.{all_done, all_none, all_more, all_fails}
+use Rattle.std.proofs.Common.{◌<◌, refl, sym, length-take-le, get_or-take}
 use Rattle.index.specs.Index.{key_before}
+use Rattle.index.proofs.All.{all_none, all_more, all_fails}
+use Rattle.index.proofs.Orders.{no_rise, rise, before_suc, past_table}
 use Rattle.index.proofs.rising.Goals as goal
 
-pub loop-i-init : goal.loop-i-init
+pub loop-s-init : goal.loop-s-init
 unfolding key_before
-loop-i-init c = (search rules, all_none _, refl)
-
-pub overflow_cast-s : goal.overflow_cast-s
-overflow_cast-s c = omega (arith, c.type_inv.order c.loop-i.i)
+loop-s-init c = (all_none _, refl)
 
 pub returns-then-keys-s : goal.returns-then-keys-s
 returns-then-keys-s c =
-    sym (all_fails _ _ c.loop-i.i c.loop-i-test.true (past_table _ _ c.loop-i.i c.if-keys-s.true))
+    let i = c.loop-s.s-index in
+    let below : i < c.args.n = rw (length-take-le c.args.n c.args.order.now c.requires) at c.loop-s-test.true in
+    sym (all_fails _ _ i below (past_table _ _ i (rw get_or-take at c.if-keys-s.true)))
 
 pub returns-then-k-prev : goal.returns-then-k-prev
 returns-then-k-prev c =
-    let l = c.loop-i in
-    sym (all_fails _ _ l.i c.loop-i-test.true (no_rise _ _ l.i l.prev l.invariant.2 c.if-k-prev.true))
+    let i = c.loop-s.s-index in
+    let below : i < c.args.n = rw (length-take-le c.args.n c.args.order.now c.requires) at c.loop-s-test.true in
+    sym (all_fails _ _ i below (no_rise _ _ i _ c.loop-s.invariant.1 (rw get_or-take at c.if-k-prev.true)))
 
-pub loop-i-preserved : goal.loop-i-preserved
-loop-i-preserved c =
-    let l = c.loop-i in
-    (omega arith, all_more _ l.i l.invariant.1 (rise _ _ l.i l.prev l.invariant.2 c.if-k-prev.false), before_suc _ _ l.i)
-
-pub returns : goal.returns
-returns c =
-    let l = c.loop-i in
-    all_done _ _ l.i l.invariant.0 c.loop-i-test.false l.invariant.1
+pub loop-s-preserved : goal.loop-s-preserved
+loop-s-preserved c =
+    let i = c.loop-s.s-index in
+    let below : i < c.args.n = rw (length-take-le c.args.n c.args.order.now c.requires) at c.loop-s-test.true in
+    rw get_or-take (all_more _ i c.loop-s.invariant.0 (rise _ _ i _ c.loop-s.invariant.1 (rw get_or-take at c.if-k-prev.false)), before_suc _ _ i)

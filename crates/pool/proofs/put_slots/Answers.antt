@@ -1,32 +1,21 @@
-use native.Mathlib.Omega.{arith}
-use borrow.Author.Rules.{rules}
-use Rattle.pool.proofs.Puts.{all_none, all_asks, all_long, all_more, all_done}
+use Rattle.std.proofs.Common.{refl}
+use Rattle.bits.proofs.Loops.{part_item}
+use Rattle.pool.specs.Give.{repooled_all}
+use Rattle.pool.proofs.Puts.{all_asks, all_more}
 use Rattle.pool.proofs.put_slots.Goals as goal
 
-pub loop-i-init : goal.loop-i-init
-loop-i-init c =
-    (search rules, c.requires.start, all_none _ _ _)
-
-pub bounds-order-i : goal.bounds-order-i
-bounds-order-i c =
-    let e = c.requires.end in search rules
-
-pub overflow_cast-order : goal.overflow_cast-order
-overflow_cast-order c =
-    omega (arith, c.type_inv.order c.loop-i.i)
+pub loop-s-init : goal.loop-s-init
+unfolding repooled_all
+loop-s-init c = refl
 
 pub put_slot-requires : goal.put_slot-requires
 put_slot-requires c =
-    all_asks _ _ _ _ c.requires _ c.loop-i.invariant.0 _ c.loop-i.invariant.2 c.loop-i-test.true
+    let a = c.args in
+    let h = part_item a.order.now a.from a.to c.requires.end c.loop-s.s-index c.loop-s-test.true in
+    rw h.1 (all_asks a.words.now a.order.now a.from a.to c.requires c.loop-s.s-index h.0 c.loop-s.words c.loop-s.invariant)
 
-pub loop-i-preserved : goal.loop-i-preserved
-loop-i-preserved c =
-    (search rules, search rules, all_more _ _ _ _ c.requires _ c.loop-i.invariant.0 _ c.loop-i.invariant.2 _ c.put_slot.ensures)
-
-pub shape_of-words : goal.shape_of-words
-shape_of-words c =
-    all_long _ _ _ _ c.requires _ c.loop-i.invariant.0 _ c.loop-i.invariant.2 c.loop-i.invariant.1
-
-pub returns : goal.returns
-returns c =
-    all_done _ _ _ _ c.requires _ c.loop-i.invariant.0 _ c.loop-i.invariant.2 c.loop-i.invariant.1 c.loop-i-test.false
+pub loop-s-preserved : goal.loop-s-preserved
+loop-s-preserved c =
+    let a = c.args in
+    let h = part_item a.order.now a.from a.to c.requires.end c.loop-s.s-index c.loop-s-test.true in
+    all_more a.words.now a.order.now c.loop-s.words c.put_slot.new.words a.from c.loop-s.s-index c.loop-s.invariant (rw h.1 at c.put_slot.ensures)

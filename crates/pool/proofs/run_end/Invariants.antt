@@ -1,9 +1,5 @@
 use Rattle.pool.specs.Give.{SlotRun}
-use Prim.Native.Nat.{◌-◌}
 use Rattle.pool.proofs.run_end.Given as goal
 
 abbrev pub invariant-loop-i : goal.invariant-loop-i
 invariant-loop-i l = SlotRun l.order l.from l.to l.i
-
-abbrev pub decreases-loop-i : goal.decreases-loop-i
-decreases-loop-i l = l.to - l.i

@@ -1,14 +1,12 @@
 -- Numbers put into a list one after the other.
 -- Assumes nothing.
-use mathlib.Core.Path.{◌≡◌, refl, sym, ap, ◌∙◌}
+use mathlib.Core.Path.{◌≡◌, sym, ap, ◌∙◌}
 use mathlib.Core.List.{List}
 use mathlib.Core.Logic.{⊎_elim}
 use Prim.Native.Nat.{ℕ, ◌+◌, ◌-◌, ◌≤◌, ◌<◌}
 use native.Mathlib.Omega.{arith}
-use native.Mathlib.Nat.{not-suc-le-zero}
-use lib.ListN.{length, get_or, set, length-set}
-use lib.Seq.{get_or-set_same, get_or-set_other}
-use Rattle.index.proofs.Logic.{same_or_not, lt_or_ge}
+use lib.ListN.{length, get_or}
+use Rattle.index.proofs.Logic.{lt_or_ge}
 use Rattle.bodies.specs.Words.{Spread}
 use Rattle.read_steps.specs.Reading.{Put}
 

@@ -1,5 +1,4 @@
 use native.Mathlib.Omega.{arith}
-use borrow.Author.Rules.{rules}
 use Rattle.checks.proofs.Tables.{run_longer}
 use Rattle.checks.proofs.known_run.Goals as goal
 

@@ -1,4 +1,4 @@
-use mathlib.Core.Path.{refl, sym, ◌∙◌}
+use mathlib.Core.Path.{sym, ◌∙◌}
 use native.Mathlib.Omega.{arith}
 use Rattle.formed.proofs.Asks.{pages_asked, slots_asked}
 use Rattle.store.specs.Mem.{mem}

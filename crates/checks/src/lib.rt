@@ -92,14 +92,12 @@ fn known_run(
     let k = store::key_of(e, first as u64);
     // Chunks that follow each other often have slots that do.
     let mut guess = c;
-    let mut i = 0;
-    while i < count {
+    for i in 0..count {
         let s = known_slot(keys, order, words, page, first + i, k + i as u64, guess);
         if c <= s {
             return i;
         }
         guess = s + 1;
-        i += 1;
     }
     count
 }
@@ -157,8 +155,8 @@ fn short_of_chunks(
     requires locates { Locates keys.now order.now words.now page.0 first count located.chunk located.rank }
     ensures { result ≡ ltb (view_of (mem bytes.now keys.now order.now words.now)).pool (missing ((view_of (mem bytes.now keys.now order.now words.now)).held page.0) first count) }
 {
-    let mut i = located.chunk - first;
-    if pool::has_pooled(words, (count - i) as u64) {
+    let known = located.chunk - first;
+    if pool::has_pooled(words, (count - known) as u64) {
         return false;
     }
     let pool = pool::pool_count(words);
@@ -166,7 +164,7 @@ fn short_of_chunks(
     let k = store::key_of(e, first as u64);
     let mut at = located.rank;
     let mut missing: u64 = 0;
-    while i < count {
+    for i in known..count {
         if store::slot_at_rank(keys, order, words, at, k + i as u64) < c {
             at += 1;
         } else {
@@ -175,7 +173,6 @@ fn short_of_chunks(
             }
             missing += 1;
         }
-        i += 1;
     }
     false
 }

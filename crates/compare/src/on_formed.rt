@@ -1,5 +1,6 @@
 // The comparison of two memories that are known to be well formed: what is left of the call after its two tests.
-ghost use Rattle.std.specs.Prelude.{◌≡◌, ◌+◌, ◌*◌, ◌<◌, ◌≤◌, length, get_or, take};
+ghost use Rattle.std.specs.Prelude.{◌≡◌, ◌+◌, ◌*◌, ◌<◌, ◌≤◌, eqb, length, get_or, take};
+ghost use Rattle.index.specs.Index.{all};
 ghost use Rattle.store.specs.Keys.{key_chunk};
 ghost use Rattle.store.specs.Find.{slot_at_entry};
 ghost use Rattle.store.specs.Mem.{mem, layout_of};
@@ -21,14 +22,7 @@ fn same_layout(left: &[u64], right: &[u64]) -> bool
     requires { (6 ≤ length left.now) × (6 ≤ length right.now) }
     ensures { result ≡ same_layout (layout_of left.now) (layout_of right.now) }
 {
-    let mut i = 0;
-    while i < head::LAYOUT_LENGTH {
-        if left[i] != right[i] {
-            return false;
-        }
-        i += 1;
-    }
-    true
+    (0..head::LAYOUT_LENGTH).all(|i| left[i] == right[i])
 }
 
 // The slot in which the page at entry e has the chunk that the key names, or the number of slots where it holds none.
@@ -49,6 +43,14 @@ fn byte_beside(bytes: &[u8], slots: usize, t: usize, j: usize) -> u8
         return 0;
     }
     bytes[256 * t + j]
+}
+
+// Whether slot s of the left memory has the bytes of slot t of the right one, or zeros where there is no such slot.
+fn same_chunk(left_bytes: &[u8], s: usize, right_bytes: &[u8], right_slots: usize, t: usize) -> bool
+    requires { (256 * s + 256 ≤ length left_bytes.now) × (256 * right_slots ≤ length right_bytes.now) }
+    ensures { result ≡ all (λ j. eqb (get_or left_bytes.now (256 * s + j) 0) (get_or (take (256 * right_slots) right_bytes.now) (256 * t + j) 0)) 256 }
+{
+    (0..256).all(|j| left_bytes[256 * s + j] == byte_beside(right_bytes, right_slots, t, j))
 }
 
 // Whether the right memory has every page that the left one has allocated, and the bytes of every chunk that the left one holds.
@@ -72,18 +74,16 @@ fn covered(
     let held = left_words[head::HELD] as usize;
     let right_slots = right_words[head::CHUNKS] as usize;
     let right_pages = right_words[head::PAGES] as usize + head::FIXED_ENTRIES;
-    let mut equal = true;
     let mut i = 0;
-    let mut e = 0;
-    'pages: while e < pages {
+    'pages: for e in 0..pages {
         let listed = left_keys[slots + e];
         if listed != 0 {
             let page = PageId((listed - 1) as u32);
             let f = store::entry_of(right_keys, right_order, right_words, page);
             if f >= right_pages {
-                equal = false;
-                break 'pages;
+                return false;
             }
+            // Stays: the new form is no plainer. The slots of a page begin where those of the page before end, and where they end is seen at the next slot alone.
             'chunks: while i < held {
                 let s = left_order[i] as usize;
                 let key = left_keys[s];
@@ -91,20 +91,14 @@ fn covered(
                     break 'chunks;
                 }
                 let t = slot_beside(right_keys, right_order, right_words, f, key);
-                let mut j = 0;
-                while j < 256 {
-                    if left_bytes[256 * s + j] != byte_beside(right_bytes, right_slots, t, j) {
-                        equal = false;
-                        break 'pages;
-                    }
-                    j += 1;
+                if !same_chunk(left_bytes, s, right_bytes, right_slots, t) {
+                    return false;
                 }
                 i += 1;
             }
         }
-        e += 1;
     }
-    equal
+    true
 }
 
 // Whether two memories have equal bytes on every page and the same pages: each has what the other one has.

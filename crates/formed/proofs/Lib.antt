@@ -17,3 +17,4 @@ pub mod Same
 pub mod Above
 pub mod Asks
 pub mod Hints
+pub mod Each

@@ -2,27 +2,24 @@
 -- Assumes nothing.
 use mathlib.Core.Path.{◌≡◌, sym, ap, ◌∙◌}
 use mathlib.Core.Bool.{Bool, true, ◌&&◌}
-use mathlib.Core.List.{List}
-use Prim.Native.Nat.{ℕ, zero, suc, ◌+◌, ◌*◌, ◌/◌, ◌<◌, ◌≤◌}
+use mathlib.Core.List.{List, []}
+use Prim.Native.Nat.{ℕ, ◌+◌, ◌*◌, ◌/◌, ◌<◌}
 use native.Mathlib.Nat.{mul_assoc}
+use Rattle.std.proofs.Common.{add-zero}
 use native.Mathlib.Omega.{arith}
 use lib.Dec.{leb, eqb}
 use lib.ListN.{get_or, take, drop}
 use lib.Seq.{get_or-take, get_or-drop}
 use borrow.Author.Tests.{le-leb, eq-eqb, leb-true, eqb-true}
+use Rattle.std.specs.Simd.{first_chunks}
 use Rattle.store.specs.Keys.{key_of}
 use Rattle.index.proofs.Logic.{and_left, and_right, and_both}
 use Rattle.store.specs.Mem.{Mem, journal_words, holders}
-use Rattle.formed.specs.Pages.{journal_count, journal_place}
+use Rattle.formed.proofs.Each.{get_or-first_chunks}
+use Rattle.formed.specs.Pages.{journal_place}
 use Rattle.formed.specs.Parts.{note_place, note_address, note_first, note_last}
 use Rattle.formed.specs.Formed.{noted}
 use Rattle.formed.specs.WellFormed.{holder, NotedRight}
-
--- the words of a journal lie within the buffer
-pub words_end : (n j : ℕ) → j < journal_count → 3 * n * j + 3 * n ≤ 6 * n
-words_end n zero l = omega arith
-words_end n (suc zero) l = omega arith
-words_end n (suc (suc j)) l = absurd (omega arith)
 
 -- the numbers of a journal's words
 note_at : (w : List ℕ) (n j i c : ℕ) → i < n → c < 3 → (x y : ℕ) → x ≡ 3 * i + c → y ≡ 16 + 3 * (n * j + i) + c → get_or (take (3 * n) (drop (16 + 3 * n * j) w)) x 0 ≡ get_or w y 0
@@ -30,6 +27,14 @@ note_at w n j i c l h x y ex ey =
     let q : 3 * n * j ≡ 3 * (n * j) = mul_assoc 3 n j in
     let e : 16 + 3 * n * j + x ≡ y = omega arith in
     get_or-take (3 * n) (drop (16 + 3 * n * j) w) x 0 (omega arith) ∙ get_or-drop (16 + 3 * n * j) w x 0 ∙ ap (λ (z : ℕ). get_or w z 0) e
+
+-- the numbers cut into three a word
+module _ (hs ns : List ℕ) (k m i : ℕ) (l : i < m) where
+  number_cut : (j : ℕ) → j < 3 → get_or (get_or (first_chunks 3 m ns) i []) j 0 ≡ get_or ns (3 * i + j) 0
+  number_cut j h = ap (λ (x : List ℕ). get_or x j 0) (get_or-first_chunks 3 m i ns [] l) ∙ get_or-take 3 (drop (3 * i) ns) j 0 h ∙ get_or-drop (3 * i) ns j 0
+
+  pub noted_cut : noted hs (get_or (first_chunks 3 m ns) i []) k 0 ≡ noted hs ns k i
+  noted_cut = rw (number_cut 0 (omega arith), number_cut 1 (omega arith), number_cut 2 (omega arith), add-zero)
 
 module _ (m : Mem) (j i : ℕ) (l : i < journal_words m.words) where
   abbrev ns : List ℕ

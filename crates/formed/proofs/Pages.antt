@@ -220,11 +220,6 @@ place_lt zero l = omega arith
 place_lt (suc zero) l = omega arith
 place_lt (suc (suc j)) l = absurd (omega arith)
 
-pub place_other : (j : ℕ) → j < journal_count → (j ≡ 0 → ⊥) → 3 ≡ journal_place j
-place_other zero l n = absurd (n refl)
-place_other (suc zero) l n = refl
-place_other (suc (suc j)) l n = absurd (omega arith)
-
 -- an entry past the fixed ones
 module _ (l : Layout) (d x p : ℕ) (e : x ≡ p + 1) where
   less : x - 1 ≡ p

@@ -1,7 +1,7 @@
 -- The counts of a memory, the lengths of its buffers and of their parts.
 -- Assumes nothing.
 use mathlib.Core.Path.{◌≡◌}
-use mathlib.Core.Bool.{Bool, true, ◌&&◌}
+use mathlib.Core.Bool.{Bool, true, ◌&&◌, and_assoc}
 use mathlib.Core.List.{List}
 use Prim.Native.Nat.{ℕ, zero, suc, ◌+◌, ◌*◌, ◌≤◌, ◌<◌}
 use native.Mathlib.Omega.{arith}
@@ -9,6 +9,7 @@ use lib.Dec.{leb, eqb}
 use lib.ListN.{length, get_or, length-drop}
 use lib.Seq.{length-take-le}
 use borrow.Author.Tests.{le-leb, eq-eqb, leb-true, eqb-true}
+use Rattle.index.specs.Index.{all}
 use Rattle.index.proofs.Logic.{and_left, and_right, and_both}
 use Rattle.store.specs.Mem.{Mem, slot_count, page_count, journal_words, dynamic_length, holders, entries, chunk_bytes}
 use Rattle.formed.specs.Buffers.{bytes_for, keys_for, order_for, words_for, counts_fit, lengths_are, lengths_fit, LengthsFit}
@@ -75,10 +76,6 @@ module _ (m : Mem) where
   pub lengths_are_lem : sized (length m.bytes) (length m.keys) (length m.order) m.words ≡ true → Lengths m
   unfolding sized
   lengths_are_lem s = fit_are _ _ _ _ _ _ _ (and_right (leb 16 (length m.words)) fits_them s)
-
-  pub sized_long : 16 ≤ length m.words → fits_them ≡ sized (length m.bytes) (length m.keys) (length m.order) m.words
-  unfolding sized
-  sized_long l = rw (le-leb 16 (length m.words) l)
 
   pub sized_test : Lengths m → sized (length m.bytes) (length m.keys) (length m.order) m.words ≡ true
   unfolding sized
@@ -161,6 +158,11 @@ module _ (w : List ℕ) where
 
   pub narrow_test : ((i : ℕ) → i < 6 → get_or w i 0 ≤ 4294967295) → dynamic_length w ≤ 4294967295 → narrow w ≡ true
   narrow_test h d = narrow_by (h 0 (omega arith)) (h 1 (omega arith)) (h 2 (omega arith)) (h 3 (omega arith)) (h 4 (omega arith)) (h 5 (omega arith)) d
+
+  -- the first six as one test
+  pub narrow_is : (all (λ i. fits (get_or w i 0)) 6 && fits (dynamic_length w)) ≡ narrow w
+  unfolding all narrow
+  narrow_is = simp and_assoc
 
 -- ---- buffers of the same lengths and counts: whoever changes a memory cites this
 pub record SameSizes (m m' : Mem) : Type 0 where

@@ -28,18 +28,12 @@ fn entry_ok(entries: &[u64], words: &[u64], layout: Layout, e: usize) -> bool
 {
     let x = entries[e];
     if e < head::FIXED_ENTRIES {
-        if x == 0 {
-            return false;
-        }
-        return x - 1 == words[e];
+        x != 0 && x - 1 == words[e]
+    } else {
+        x == 0
+            || x <= 4294967296
+                && page_ok(layout, words[head::DYNAMIC_LENGTH], PageId((x - 1) as u32))
     }
-    if x == 0 {
-        return true;
-    }
-    if 4294967296 < x {
-        return false;
-    }
-    page_ok(layout, words[head::DYNAMIC_LENGTH], PageId((x - 1) as u32))
 }
 
 // Whether every entry is right.
@@ -48,12 +42,5 @@ pub fn pages_ok(entries: &[u64], words: &[u64]) -> bool
     ensures { result ≡ all (entry_right words.now entries.now) (length entries.now) }
 {
     let layout = crate::head::layout_of(words);
-    let mut e = 0;
-    while e < entries.len() {
-        if !entry_ok(entries, words, layout, e) {
-            return false;
-        }
-        e += 1;
-    }
-    true
+    (0..entries.len()).all(|e| entry_ok(entries, words, layout, e))
 }

@@ -26,52 +26,32 @@ pub fn lengths_ok(
 ) -> bool
     ensures { result ≡ lengths_fit bytes keys order words c p j }
 {
-    if c < 1 {
-        return false;
-    }
-    if 65536 < c {
-        return false;
-    }
-    if p < 1 {
-        return false;
-    }
-    if 4096 < p {
-        return false;
-    }
-    if 65536 < j {
-        return false;
-    }
-    if bytes as u64 != 256 * c + WORD_BYTES * j {
-        return false;
-    }
-    if keys as u64 != c + p + head::FIXED_PAGES {
-        return false;
-    }
-    if order as u64 != 3 * c + p + head::FIXED_PAGES {
-        return false;
-    }
-    if words as u64 != HEAD_LENGTH + WORD_NUMBERS * j + store::pool_length(c) {
-        return false;
-    }
-    true
+    1 <= c
+        && c <= 65536
+        && 1 <= p
+        && p <= 4096
+        && j <= 65536
+        && bytes as u64 == 256 * c + WORD_BYTES * j
+        && keys as u64 == c + p + head::FIXED_PAGES
+        && order as u64 == 3 * c + p + head::FIXED_PAGES
+        && words as u64 == HEAD_LENGTH + WORD_NUMBERS * j + store::pool_length(c)
 }
 
 // Whether the head's counts are within their bounds, and the buffers as long as they ask.
+#[tactic(auto, unfolding(crate::specs::Formed::sized))]
 pub fn sized_ok(bytes: &[u8], keys: &[u64], order: &[u32], words: &[u64]) -> bool
     ensures { result ≡ sized (length bytes.now) (length keys.now) (length order.now) words.now }
 {
-    if words.len() < head::LENGTH {
-        return false;
-    }
-    lengths_ok(
-        bytes.len(),
-        keys.len(),
-        order.len(),
-        words.len(),
-        words[head::CHUNKS],
-        words[head::PAGES],
-        words[head::JOURNAL_WORDS],
-    )
+    words.len() >= head::LENGTH
+        && lengths_ok(
+            bytes.len(),
+            keys.len(),
+            order.len(),
+            words.len(),
+            words[head::CHUNKS],
+            words[head::PAGES],
+            words[head::JOURNAL_WORDS],
+        )
 }
 
 // Whether the layout's numbers and the dynamic length have 32 bits.
@@ -79,28 +59,10 @@ pub fn narrow_ok(words: &[u64]) -> bool
     requires { head_length ≤ length words.now }
     ensures { result ≡ narrow words.now }
 {
-    if 4294967295 < words[head::STATIC_MEMORY] {
-        return false;
-    }
-    if 4294967295 < words[head::CALLDATA] {
-        return false;
-    }
-    if 4294967295 < words[head::BOOTLOADER_HEAP] {
-        return false;
-    }
-    if 4294967295 < words[head::BOOTLOADER_AUX] {
-        return false;
-    }
-    if 4294967295 < words[head::BASE] {
-        return false;
-    }
-    if 4294967295 < words[head::STRIDE] {
-        return false;
-    }
-    if 4294967295 < words[head::DYNAMIC_LENGTH] {
-        return false;
-    }
-    true
+    words[..head::LAYOUT_LENGTH]
+        .iter()
+        .all(|number| *number <= 4294967295)
+        && words[head::DYNAMIC_LENGTH] <= 4294967295
 }
 
 // The layout of a memory.
@@ -119,12 +81,10 @@ pub fn layout_of(words: &[u64]) -> Layout
 }
 
 // Whether the head's numbers fit, and its layout keeps the rule of refusal 1.
+#[tactic(auto, unfolding(crate::specs::Formed::head_right))]
 pub fn head_ok(words: &[u64]) -> bool
     requires { head_length ≤ length words.now }
     ensures { result ≡ head_right words.now }
 {
-    if !narrow_ok(words) {
-        return false;
-    }
-    !page_ids::bad_layout(layout_of(words))
+    narrow_ok(words) && !page_ids::bad_layout(layout_of(words))
 }

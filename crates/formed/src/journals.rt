@@ -15,9 +15,10 @@ pub fn place(j: usize) -> usize
     ensures { (result ≡ journal_place j) × (result < fixed_count) }
 {
     if j == 0 {
-        return head::BOOTLOADER_HEAP;
+        head::BOOTLOADER_HEAP
+    } else {
+        head::BOOTLOADER_AUX
     }
-    head::BOOTLOADER_AUX
 }
 
 // Which journal a page has; how many journals there are, where it has none.
@@ -40,10 +41,7 @@ fn holds(holders: &[u64], s: u64, k: u64) -> bool
     ensures { result ≡ eqb (get_or holders.now s 0) k }
 {
     let at = s as usize;
-    if holders.len() <= at {
-        return false;
-    }
-    holders[at] == k
+    at < holders.len() && holders[at] == k
 }
 
 // Whether a word at address a is rightly noted, s and t being the slots of its chunks and k the key of the page's chunk 0.
@@ -51,13 +49,7 @@ fn note_ok(holders: &[u64], a: u64, s: u64, t: u64, k: u64) -> bool
     requires { (0 < k) × (k < 1152921504606846976) }
     ensures { result ≡ (leb a 4294967295 && (eqb (get_or holders.now s 0) (k + a / 256) && eqb (get_or holders.now t 0) (k + (a + 31) / 256))) }
 {
-    if 4294967295 < a {
-        return false;
-    }
-    if !holds(holders, s, k + a / 256) {
-        return false;
-    }
-    holds(holders, t, k + (a + 31) / 256)
+    a <= 4294967295 && holds(holders, s, k + a / 256) && holds(holders, t, k + (a + 31) / 256)
 }
 
 // Whether the first n words of a journal, with three numbers each, are rightly noted.
@@ -65,30 +57,23 @@ fn notes_ok(holders: &[u64], notes: &[u64], n: usize, k: u64) -> bool
     requires { (n ≤ 65536) × (3 * n ≤ length notes.now) × (0 < k) × (k < 1152921504606846976) }
     ensures { result ≡ all (noted holders.now notes.now k) n }
 {
-    let mut i = 0;
-    while i < n {
-        if !note_ok(holders, notes[3 * i], notes[3 * i + 1], notes[3 * i + 2], k) {
-            return false;
-        }
-        i += 1;
-    }
-    true
+    let (notes, _) = notes.as_chunks::<3>();
+    notes[..n]
+        .iter()
+        .all(|[a, s, t]| note_ok(holders, *a, *s, *t, k))
 }
 
 // Whether journal j is right.
+#[tactic(auto, unfolding(crate::specs::Formed::journal_right))]
 fn journal_ok(holders: &[u64], words: &[u64], j: usize) -> bool
     requires { (j < journal_count) × (journal_words words.now ≤ 65536) × (length words.now ≡ words_for (slot_count words.now) (journal_words words.now)) }
     ensures { result ≡ journal_right holders.now words.now j }
 {
     let most = words[head::JOURNAL_WORDS] as usize;
     let n = words[head::JOURNALS + j] as usize;
-    if most < n {
-        return false;
-    }
     let at = head::LENGTH + 3 * most * j;
-    let end = at + 3 * most;
     let key = store::key_of(place(j), 0);
-    notes_ok(holders, &words[at..end], n, key)
+    n <= most && notes_ok(holders, &words[at..at + 3 * most], n, key)
 }
 
 // Whether every journal is right.
@@ -96,12 +81,5 @@ pub fn journals_ok(holders: &[u64], words: &[u64]) -> bool
     requires { (journal_words words.now ≤ 65536) × (length words.now ≡ words_for (slot_count words.now) (journal_words words.now)) }
     ensures { result ≡ all (journal_right holders.now words.now) journal_count }
 {
-    let mut j = 0;
-    while j < head::JOURNAL_COUNT {
-        if !journal_ok(holders, words, j) {
-            return false;
-        }
-        j += 1;
-    }
-    true
+    (0..head::JOURNAL_COUNT).all(|j| journal_ok(holders, words, j))
 }

@@ -12,10 +12,7 @@ fn slots_in(at: usize, slots: usize) -> usize
     requires { at ≤ slots }
     ensures { result ≡ min 64 (slots - at) }
 {
-    if slots - at < bits::WORD_BITS {
-        return slots - at;
-    }
-    bits::WORD_BITS
+    bits::WORD_BITS.min(slots - at)
 }
 
 // Whether each word that is not 0 has the bits of its slots, and no other.
@@ -23,15 +20,10 @@ fn bits_ok(holders: &[u64], pool: &[u64]) -> bool
     requires { length pool.now ≡ pool_length (length holders.now) }
     ensures { result ≡ all (λ i. eqb (get_or pool.now i 0) 0 || eqb (get_or pool.now i 0) (free_word holders.now i)) (length pool.now) }
 {
-    let mut i = 0;
-    while i < pool.len() {
+    pool.iter().enumerate().all(|(i, word)| {
         let at = bits::WORD_BITS * i;
-        if !bits::word_ok(holders, at, slots_in(at, holders.len()), pool[i]) {
-            return false;
-        }
-        i += 1;
-    }
-    true
+        bits::word_ok(holders, at, slots_in(at, holders.len()), *word)
+    })
 }
 
 // Whether the first n words are 0.
@@ -39,14 +31,7 @@ fn zeros_ok(pool: &[u64], n: usize) -> bool
     requires { n ≤ length pool.now }
     ensures { result ≡ all (λ i. eqb (get_or pool.now i 0) 0) n }
 {
-    let mut i = 0;
-    while i < n {
-        if pool[i] != 0 {
-            return false;
-        }
-        i += 1;
-    }
-    true
+    pool[..n].iter().all(|word| *word == 0)
 }
 
 // Whether the pool is right. Where as many bits are set as slots are free, a word is 0 only if none of its slots is free.
@@ -55,14 +40,8 @@ pub fn pool_ok(holders: &[u64], words: &[u64]) -> bool
     ensures { result ≡ pool_right holders.now words.now }
 {
     let at = store::pool_place(words);
-    if bits::count(&words[at..], 0) != words[head::CHUNKS] - words[head::HELD] {
-        return false;
-    }
-    if !bits_ok(holders, &words[at..]) {
-        return false;
-    }
-    if store::pool_length(words[head::CHUNKS]) < words[head::POOL_SKIP] {
-        return false;
-    }
-    zeros_ok(&words[at..], words[head::POOL_SKIP] as usize)
+    bits::count(&words[at..], 0) == words[head::CHUNKS] - words[head::HELD]
+        && bits_ok(holders, &words[at..])
+        && words[head::POOL_SKIP] <= store::pool_length(words[head::CHUNKS])
+        && zeros_ok(&words[at..], words[head::POOL_SKIP] as usize)
 }

@@ -47,10 +47,7 @@ fn is_from(words: &[u64], x: u64, len: u64) -> bool
     requires { (head_length ≤ length words.now) × (0 < (layout_of words.now).stride) × (0 < x → (layout_of words.now).base.0 < x) }
     ensures { result ≡ is_from (layout_of words.now) len x }
 {
-    if x == 0 {
-        return false;
-    }
-    len <= (x - 1 - words[head::BASE]) / words[head::STRIDE]
+    x != 0 && len <= (x - 1 - words[head::BASE]) / words[head::STRIDE]
 }
 
 // Frees the page of entry e, if it has one and that is of a group from `len` up.
@@ -83,10 +80,8 @@ pub fn free_groups(
     ensures { let m = mem bytes.old keys.old order.old words.old in Shows (setting_of m) (emptied (setting_of m) len (view_of m)) (mem bytes.new keys.new order.new words.new) }
 {
     let end = words[head::PAGES] as usize + head::FIXED_ENTRIES;
-    let mut e: usize = head::FIXED_ENTRIES;
-    while e < end {
+    for e in head::FIXED_ENTRIES..end {
         free_entry(bytes, keys, order, words, e, len);
-        e += 1;
     }
 }
 

@@ -136,9 +136,7 @@ fn undo(bytes: &mut [u8], keys: &[u64], order: &[u32], words: &mut [u64], j: usi
     requires { UndoAsks (mem bytes.old keys.now order.now words.old) j mark }
     ensures { Shows (setting_of (mem bytes.old keys.now order.now words.old)) (undoing (layout_of words.old) j mark (view_of (mem bytes.old keys.now order.now words.old))) (mem bytes.new keys.now order.now words.new) }
 {
-    let mut i = words[head::JOURNALS + j];
-    while mark < i {
-        i -= 1;
+    for i in (mark..words[head::JOURNALS + j]).rev() {
         put_back(bytes, words, j, i as usize);
     }
     words[head::JOURNALS + j] = mark;
@@ -175,9 +173,7 @@ pub fn note_aligned(
 {
     // The next word is often in the same chunk or in the next one, and that in the next slot.
     let mut guess = words[head::CHUNKS] as usize;
-    let mut i = 0;
-    while i < count {
+    for i in 0..count {
         guess = note(bytes, keys, order, words, j, first + i, guess);
-        i += 1;
     }
 }

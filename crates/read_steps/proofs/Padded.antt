@@ -6,7 +6,6 @@ use Prim.Native.Nat.{ℕ, zero, suc, ◌+◌, ◌-◌, ◌≤◌}
 use native.Mathlib.Omega.{arith}
 use lib.ListN.{length, take, drop, replicate}
 use lib.Seq.{length-take-le}
-use Rattle.store.proofs.Parts.{sub_zero}
 use Rattle.formed.proofs.Same.{tab_long}
 use Rattle.view.specs.View.{View}
 use Rattle.view.specs.Steps.{run, padded}
@@ -19,13 +18,13 @@ drop_nulls zero k = let e : k ≡ k - 0 = omega arith in ap nulls e
 drop_nulls (suc n) zero = let e : 0 ≡ 0 - suc n = omega arith in ap nulls e
 drop_nulls (suc n) (suc k) = let e : k - n ≡ suc k - suc n = omega arith in drop_nulls n k ∙ ap nulls e
 
--- n bytes laid over 32 zeros, as `&mut out[0..n]` leaves them
-pub padded_is : (v : View) (p a n : ℕ) (e : List ℕ) → n ≤ 32 → e ≡ run v p a (length (take (n - 0) (nulls 32))) → e ++ drop (n - 0) (nulls 32) ≡ padded (run v p a n)
+-- n bytes laid over 32 zeros, as `&mut out[..n]` leaves them
+pub padded_is : (v : View) (p a n : ℕ) (e : List ℕ) → n ≤ 32 → e ≡ run v p a (length (take n (nulls 32))) → e ++ drop n (nulls 32) ≡ padded (run v p a n)
 padded_is v p a n e h r =
-    let q : length (take (n - 0) (nulls 32)) ≡ n = ap (λ (x : ℕ). length (take x (nulls 32))) (sub_zero n) ∙ length-take-le n (nulls 32) h in
+    let q : length (take n (nulls 32)) ≡ n = length-take-le n (nulls 32) h in
     let s : e ≡ run v p a n = r ∙ ap (run v p a) q in
     let l : n ≡ length (run v p a n) = sym (tab_long n (λ i. v.bytes p (a + i))) in
-    let d : drop (n - 0) (nulls 32) ≡ nulls (32 - length (run v p a n)) = ap (λ (x : ℕ). drop x (nulls 32)) (sub_zero n) ∙ drop_nulls n 32 ∙ ap (λ (x : ℕ). nulls (32 - x)) l in
+    let d : drop n (nulls 32) ≡ nulls (32 - length (run v p a n)) = drop_nulls n 32 ∙ ap (λ (x : ℕ). nulls (32 - x)) l in
     ap (λ (x : List ℕ). e ++ x) d ∙ ap (λ (x : List ℕ). x ++ nulls (32 - length (run v p a n))) s
 
 -- 32 bytes leave no room for zeros

@@ -1,32 +1,16 @@
 -- Numbers put into a list one after the other.
 -- Assumes nothing.
-use mathlib.Core.Path.{◌≡◌, refl, sym, ap, ◌∙◌}
+use mathlib.Core.Path.{◌≡◌, sym, ap, ◌∙◌}
 use mathlib.Core.List.{List}
 use mathlib.Core.Logic.{⊎_elim}
 use Prim.Native.Nat.{ℕ, ◌+◌, ◌-◌, ◌≤◌, ◌<◌}
 use native.Mathlib.Omega.{arith}
-use native.Mathlib.Nat.{not-suc-le-zero}
-use lib.ListN.{length, get_or, set, length-set}
-use lib.Seq.{get_or-set_same, get_or-set_other}
-use Rattle.index.proofs.Logic.{same_or_not, lt_or_ge}
+use lib.ListN.{length, get_or}
+use Rattle.index.proofs.Logic.{lt_or_ge}
 use Rattle.bodies.specs.Words.{Spread}
 use Rattle.read_steps.specs.Reading.{Put}
 
 module _ (f : ℕ → ℕ) (at : ℕ) (o : List ℕ) where
-  pub put_none : Put f at 0 o o
-  put_none = record { long = refl; low = λ i l. refl; new = λ i l. absurd (not-suc-le-zero l) }
-
-  pub put_more : (n v : ℕ) (d : List ℕ) → at + n < length d → v ≡ f n → Put f at n o d → Put f at (n + 1) o (set d (at + n) v)
-  put_more n v d l e p = record {
-    long = length-set d (at + n) v ∙ p.long;
-    low = λ i h. get_or-set_other d (at + n) i v 0 (λ z. omega arith) ∙ p.low i h;
-    new = λ i h.
-        ⊎_elim
-        (λ (q : i ≡ n). ap (λ (x : ℕ). get_or (set d (at + n) v) (at + x) 0) q ∙ get_or-set_same d (at + n) v 0 l ∙ e ∙ ap f (sym q))
-        (λ (q : i ≡ n → ⊥). get_or-set_other d (at + n) (at + i) v 0 (λ z. q (omega arith)) ∙ p.new i (omega arith))
-        (same_or_not i n);
-  }
-
   pub put_by : (g : ℕ → ℕ) (n : ℕ) (d : List ℕ) → ((i : ℕ) → i < n → f i ≡ g i) → Put f at n o d → Put g at n o d
   put_by g n d e p = record { long = p.long; low = p.low; new = λ i l. p.new i l ∙ e i l }
 

@@ -1,7 +1,7 @@
 // What the reads of a well-formed memory are made of.
 #![tactic(auto)]
 
-ghost use Rattle.std.specs.Prelude.{◌≡◌, true, List, ℕ, ◌+◌, ◌*◌, ◌<◌, ◌≤◌, min, length, get_or, take};
+ghost use Rattle.std.specs.Prelude.{◌≡◌, true, List, ℕ, ◌+◌, ◌*◌, ◌<◌, ◌≤◌, length, get_or, take, IfSome};
 ghost use Rattle.word.specs.Value.{value, big_endian};
 ghost use Rattle.store.specs.Mem.{mem, head_length, slot_count};
 ghost use Rattle.store.specs.Find.{Findable};
@@ -17,26 +17,12 @@ use page_ids::{Address, PageId};
 use store::head;
 use word::Word;
 
-// The lesser of two numbers.
-fn least(a: usize, b: usize) -> usize
-    ensures { result ≡ min a b }
-{
-    if a < b {
-        return a;
-    }
-    b
-}
-
 // Puts n zeros to `out` from `to` on.
 pub fn fill(out: &mut [u8], to: usize, n: usize)
     requires { to + n ≤ length out.old }
     ensures { Put (λ i. 0) to n out.old out.new }
 {
-    let mut i = 0;
-    while i < n {
-        out[to + i] = 0;
-        i += 1;
-    }
+    out[to..to + n].fill(0);
 }
 
 // The slot of chunk k of a page, or the number of slots where none holds it; no byte bears on it.
@@ -114,23 +100,17 @@ pub fn read_into(
     requires out_len_bound { length out.old ≤ 4294967296 }
     ensures { out.new ≡ run (view_of (mem bytes.now keys.now order.now words.now)) page.0 start.0 (length out.old) }
 {
+    // Stays: the new form is no plainer. The first and the last part may be shorter than a chunk, so the steps are not equal, as `chunks_mut` has them.
     let mut pos: usize = 0;
     let mut last = words[head::CHUNKS] as usize;
     while pos < out.len() {
         let a = start.0 as usize + pos;
-        let n = least(256 - a % 256, out.len() - pos);
+        let n = (256 - a % 256).min(out.len() - pos);
         let s = slot_after(keys, order, words, page, a / 256, last);
         read_part(bytes, words, s, a % 256, n, out, pos);
         last = s;
         pos += n;
     }
-}
-
-// A word, if hints know its chunks.
-#[derive(Clone, Copy)]
-struct Known {
-    pub found: bool,
-    pub word: Word,
 }
 
 // The word at an address, if hints know its chunks. A leaf: it hands its slices on to nothing that stays a call.
@@ -141,9 +121,9 @@ fn known_word(
     words: &[u64],
     page: PageId,
     address: Address,
-) -> Known
+) -> Option<Word>
     requires { WellFormed (mem bytes.now keys.now order.now words.now) }
-    ensures { result.found ≡ true → value result.word.limbs ≡ big_endian (run (view_of (mem bytes.now keys.now order.now words.now)) page.0 address.0 32) }
+    ensures { IfSome result (λ word. value word.limbs ≡ big_endian (run (view_of (mem bytes.now keys.now order.now words.now)) page.0 address.0 32)) }
 {
     let c = words[head::CHUNKS] as usize;
     let s = store::hinted(keys, order, words, page, address.0 / 256);
@@ -151,17 +131,10 @@ fn known_word(
         let t = store::hinted_last(keys, order, words, page, address, s);
         if t < c {
             let held = bodies::word_in(bytes, s, t, (address.0 % 256) as usize);
-            return Known {
-                found: true,
-                word: word::from_big_endian(held),
-            };
+            return Some(word::from_big_endian(held));
         }
     }
-    let none = [0u64; 4];
-    Known {
-        found: false,
-        word: Word { limbs: none },
-    }
+    None
 }
 
 // The word at an address: from the slots that hints know, or else by search.
@@ -176,9 +149,8 @@ pub fn read_word(
     requires { WellFormed (mem bytes.now keys.now order.now words.now) }
     ensures { value result.limbs ≡ big_endian (run (view_of (mem bytes.now keys.now order.now words.now)) page.0 address.0 32) }
 {
-    let known = known_word(bytes, keys, order, words, page, address);
-    if known.found {
-        return known.word;
+    if let Some(word) = known_word(bytes, keys, order, words, page, address) {
+        return word;
     }
     let read = read_padded(bytes, keys, order, words, page, address, 32);
     word::from_big_endian(read)
@@ -222,7 +194,7 @@ pub fn read_padded(
     ensures { result ≡ padded (run (view_of (mem bytes.now keys.now order.now words.now)) page.0 start.0 n) }
 {
     let mut out = [0u8; 32];
-    read_into(bytes, keys, order, words, page, start, &mut out[0..n]);
+    read_into(bytes, keys, order, words, page, start, &mut out[..n]);
     out
 }
 

@@ -1,10 +1,9 @@
 use native.Mathlib.Omega.{arith}
-use borrow.Author.Rules.{rules}
 use Rattle.checks.proofs.Tables.{run_longer}
 use Rattle.checks.proofs.known_run.Goals as goal
 
 pub loop-i-init : goal.loop-i-init
-loop-i-init c = (search rules, λ x a b. absurd (omega arith))
+loop-i-init c = λ x a b. absurd (omega arith)
 
 pub overflow_add-k : goal.overflow_add-k
 overflow_add-k c =
@@ -20,8 +19,8 @@ overflow_add-guess c =
 
 pub loop-i-preserved : goal.loop-i-preserved
 loop-i-preserved c =
-    (search rules, run_longer c.args.keys.now c.args.words.now c.args.page.0 c.args.first c.loop-i.i c.known_slot-s.result c.loop-i.invariant.1 c.known_slot-s.ensures c.if-c-s.false)
+    run_longer c.args.keys.now c.args.words.now c.args.page.0 c.args.first c.loop-i.i c.known_slot-s.result c.loop-i.invariant c.known_slot-s.ensures c.if-c-s.false
 
 pub returns : goal.returns
 returns c =
-    (search rules, λ x a b. c.loop-i.invariant.1 x a (omega (arith, b, c.loop-i-test.false, c.loop-i.invariant.0)))
+    (omega arith, λ x a b. c.loop-i.invariant x a (omega (arith, b, c.loop-i-test.false)))

@@ -20,8 +20,8 @@ use Rattle.checks.proofs.Tables.{holds_at, held_at, found_held, found_none, loca
 use Rattle.checks.proofs.short_of_chunks.Goals as goal
 use Rattle.checks.proofs.short_of_chunks.Goals.{then-slot_at_rank-c, else-slot_at_rank-c+else-missing-pool}
 
-pub overflow_sub-i : goal.overflow_sub-i
-overflow_sub-i c =
+pub overflow_sub-known : goal.overflow_sub-known
+overflow_sub-known c =
     omega (arith, c.requires.locates.from)
 
 pub overflow_sub-count : goal.overflow_sub-count

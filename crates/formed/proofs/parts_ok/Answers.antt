@@ -1,35 +1,20 @@
-use mathlib.Core.Path.{sym, ap, ◌∙◌}
-use Prim.Native.Nat.{ℕ}
-use native.Mathlib.Omega.{arith}
-use lib.ListN.{length, take}
+use Rattle.std.proofs.Common.{◌≡◌, ◌∙◌, true, sym, ap, arith, length}
+use Rattle.std.proofs.lemmas.Bool.{false≢true}
 use Rattle.index.specs.Index.{used_count}
-use Rattle.store.specs.Mem.{mem, slot_count}
-use Rattle.store.proofs.Parts.{sub_zero}
+use Rattle.store.specs.Mem.{mem}
 use Rattle.formed.proofs.Sizes.{holders_long}
-use Rattle.formed.proofs.Stages.{lent_entries, lent_slots, tables_used, lent_pool, lent_journals, stop_tables, stop_pages, stop_slots, stop_pool, at_journals}
+use Rattle.formed.proofs.Stages.{tables_used}
 use Rattle.formed.proofs.parts_ok.Goals as goal
+use Rattle.formed.proofs.parts_ok.Goals.{Then-slots_ok, then-tables_ok, else-tables_ok, then-pages_ok, else-pages_ok}
 
-pub returns-then-not-tables_ok : goal.returns-then-not-tables_ok
-returns-then-not-tables_ok c =
-    stop_tables (mem c.args.bytes.now c.args.keys.now c.args.order.now c.args.words.now) (sym c.tables_ok.ensures ∙ c.if-not-tables_ok.true)
-
-pub returns-then-not-pages_ok : goal.returns-then-not-pages_ok
-returns-then-not-pages_ok c =
-    stop_pages (mem c.args.bytes.now c.args.keys.now c.args.order.now c.args.words.now) (sym c.tables_ok.ensures ∙ c.if-not-tables_ok.false) (sym (lent_entries (mem c.args.bytes.now c.args.keys.now c.args.order.now c.args.words.now)) ∙ sym c.pages_ok.ensures ∙ c.if-not-pages_ok.true)
-
-pub returns-then-not-slots_ok : goal.returns-then-not-slots_ok
-returns-then-not-slots_ok c =
-    stop_slots (mem c.args.bytes.now c.args.keys.now c.args.order.now c.args.words.now) (sym c.tables_ok.ensures ∙ c.if-not-tables_ok.false) (sym (lent_entries (mem c.args.bytes.now c.args.keys.now c.args.order.now c.args.words.now)) ∙ sym c.pages_ok.ensures ∙ c.if-not-pages_ok.false) (sym (lent_slots (mem c.args.bytes.now c.args.keys.now c.args.order.now c.args.words.now)) ∙ sym c.slots_ok.ensures ∙ c.if-not-slots_ok.true)
-
-pub returns-then-not-pool_ok : goal.returns-then-not-pool_ok
-returns-then-not-pool_ok c =
-    stop_pool (mem c.args.bytes.now c.args.keys.now c.args.order.now c.args.words.now) (sym c.tables_ok.ensures ∙ c.if-not-tables_ok.false) (sym (lent_entries (mem c.args.bytes.now c.args.keys.now c.args.order.now c.args.words.now)) ∙ sym c.pages_ok.ensures ∙ c.if-not-pages_ok.false) (sym (lent_slots (mem c.args.bytes.now c.args.keys.now c.args.order.now c.args.words.now)) ∙ sym c.slots_ok.ensures ∙ c.if-not-slots_ok.false) (sym (lent_pool (mem c.args.bytes.now c.args.keys.now c.args.order.now c.args.words.now)) ∙ sym c.pool_ok.ensures ∙ c.if-not-pool_ok.true)
-
-pub returns : goal.returns
-returns c =
-    c.journals_ok.ensures ∙ lent_journals (mem c.args.bytes.now c.args.keys.now c.args.order.now c.args.words.now) ∙ at_journals (mem c.args.bytes.now c.args.keys.now c.args.order.now c.args.words.now) (sym c.tables_ok.ensures ∙ c.if-not-tables_ok.false) (sym (lent_entries (mem c.args.bytes.now c.args.keys.now c.args.order.now c.args.words.now)) ∙ sym c.pages_ok.ensures ∙ c.if-not-pages_ok.false) (sym (lent_slots (mem c.args.bytes.now c.args.keys.now c.args.order.now c.args.words.now)) ∙ sym c.slots_ok.ensures ∙ c.if-not-slots_ok.false) (sym (lent_pool (mem c.args.bytes.now c.args.keys.now c.args.order.now c.args.words.now)) ∙ sym c.pool_ok.ensures ∙ c.if-not-pool_ok.false)
+tables : (c : Then-slots_ok) → c.tables_ok.result ≡ true
+tables c =
+    elim c.if-pages_ok.branch [
+      | then-pages_ok w ↦ elim c.if-tables_ok.branch [ then-tables_ok v ↦ v.if-tables_ok.true | else-tables_ok v ↦ sym v.value-is ∙ w.if-pages_ok.true ]
+      | else-pages_ok w ↦ absurd (false≢true (sym w.if-pages_ok.false ∙ sym w.value-is ∙ c.if-slots_ok.true))
+    ]
 
 pub pool_ok-requires : goal.pool_ok-requires
 pool_ok-requires c =
-    let cut = ap (λ (x : ℕ). take x c.args.keys.now) (sub_zero (slot_count c.args.words.now)) in
-    (c.requires.lengths.chunks_hi, omega (arith, c.requires.lengths.in_words), ap length cut ∙ holders_long (mem c.args.bytes.now c.args.keys.now c.args.order.now c.args.words.now) c.requires.lengths, ap used_count cut ∙ tables_used (mem c.args.bytes.now c.args.keys.now c.args.order.now c.args.words.now) (sym c.tables_ok.ensures ∙ c.if-not-tables_ok.false))
+    let m = mem c.args.bytes.now c.args.keys.now c.args.order.now c.args.words.now in
+    (c.requires.lengths.chunks_hi, omega (arith, c.requires.lengths.in_words), ap length c.split_at.ensures.front ∙ holders_long m c.requires.lengths, ap used_count c.split_at.ensures.front ∙ tables_used m (sym c.tables_ok.ensures ∙ tables c))

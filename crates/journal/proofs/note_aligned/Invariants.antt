@@ -1,5 +1,5 @@
 use mathlib.Core.Path.{◌≡◌}
-use Prim.Native.Nat.{◌-◌, ◌≤◌}
+use Prim.Native.Nat.{◌≤◌}
 use lib.ListN.{length}
 use Rattle.store.specs.Mem.{mem, layout_of}
 use Rattle.formed.specs.Pages.{journal_page}
@@ -11,9 +11,6 @@ use Rattle.journal.proofs.note_aligned.Given as goal
 
 abbrev pub invariant-loop-i : goal.invariant-loop-i
 invariant-loop-i l =
-    (l.i ≤ l.count) × (length l.bytes ≡ length l.initial.bytes) × (length l.words ≡ length l.initial.words)
+    (length l.bytes ≡ length l.initial.bytes) × (length l.words ≡ length l.initial.words)
     × Shows (setting_of (mem l.initial.bytes l.keys l.order l.initial.words)) (noting l.j (aligned_from (view_of (mem l.initial.bytes l.keys l.order l.initial.words)) (journal_page (layout_of l.initial.words) l.j) l.first l.i) (view_of (mem l.initial.bytes l.keys l.order l.initial.words))) (mem l.bytes l.keys l.order l.words)
     × (l.guess ≤ 65536)
-
-abbrev pub decreases-loop-i : goal.decreases-loop-i
-decreases-loop-i l = l.count - l.i

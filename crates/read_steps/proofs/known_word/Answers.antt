@@ -1,5 +1,4 @@
 use mathlib.Core.Path.{ap, ◌∙◌}
-use mathlib.Core.Bool.{false≢true}
 use native.Mathlib.Omega.{arith}
 use Rattle.word.specs.Value.{big_endian}
 use Rattle.store.specs.Mem.{mem}
@@ -22,10 +21,4 @@ word_in-held-requires c =
 
 pub returns-then-t-c : goal.returns-then-t-c
 returns-then-t-c c =
-    λ _. c.from_big_endian.ensures ∙ ap big_endian (c.word_in-held.ensures ∙ word_held (mem c.args.bytes.now c.args.keys.now c.args.order.now c.args.words.now) c.requires c.args.page.0 c.args.address.0 c.hinted-s.result c.hinted_last-t.result (omega (arith, c.well_formed.1.1.1.1.1)) (c.hinted-s.ensures c.if-s-c.true) (c.hinted_last-t.ensures c.if-t-c.true) c.if-s-c.true c.if-t-c.true)
-
-pub returns-else-t-c : goal.returns-else-t-c
-returns-else-t-c c = λ e. absurd (false≢true e)
-
-pub returns-else-s-c : goal.returns-else-s-c
-returns-else-s-c c = λ e. absurd (false≢true e)
+    c.from_big_endian.ensures ∙ ap big_endian (c.word_in-held.ensures ∙ word_held (mem c.args.bytes.now c.args.keys.now c.args.order.now c.args.words.now) c.requires c.args.page.0 c.args.address.0 c.hinted-s.result c.hinted_last-t.result (omega (arith, c.well_formed.1.1.1.1.1)) (c.hinted-s.ensures c.if-s-c.true) (c.hinted_last-t.ensures c.if-t-c.true) c.if-s-c.true c.if-t-c.true)

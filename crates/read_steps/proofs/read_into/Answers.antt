@@ -19,21 +19,21 @@ pub read_part-requires : goal.read_part-requires
 read_part-requires c =
     let long = c.requires.well_formed.lengths in
     let in_bytes = long.in_bytes in
-    let in_words = long.in_words in record { head_length_in_bounds = (omega arith, long.chunks_hi, omega arith); n_bound = (omega (arith, c.least-n.ensures), omega (arith, c.least-n.ensures, c.loop-pos.invariant.1, c.loop-pos-test.true)) }
+    let in_words = long.in_words in record { head_length_in_bounds = (omega arith, long.chunks_hi, omega arith); n_bound = (omega (arith, c.min-n.ensures), omega (arith, c.min-n.ensures, c.loop-pos.invariant.1, c.loop-pos-test.true)) }
 
 pub loop-pos-preserved : goal.loop-pos-preserved
 loop-pos-preserved c =
     let m = mem c.args.bytes.now c.args.keys.now c.args.order.now c.args.words.now in
     let page = c.args.page.0 in
     let a = c.args.start.0 + c.loop-pos.pos in
-    let n = c.least-n.result in
+    let n = c.min-n.result in
     let s = c.slot_after-s.result in
     let is = c.slot_after-s.ensures c.args.bytes.now in (
-      omega (arith, c.least-n.ensures, c.loop-pos.invariant.1, c.loop-pos-test.true),
+      omega (arith, c.min-n.ensures, c.loop-pos.invariant.1, c.loop-pos-test.true),
       c.read_part.ensures.long ∙ c.loop-pos.invariant.1,
-      part_on m c.requires.well_formed page c.args.start.0 c.loop-pos.pos n c.loop-pos.out _ c.loop-pos.invariant.2 (part_is m c.requires.well_formed page a n s (omega (arith, c.least-n.ensures)) is c.loop-pos.pos c.loop-pos.out _ c.read_part.ensures),
+      part_on m c.requires.well_formed page c.args.start.0 c.loop-pos.pos n c.loop-pos.out _ c.loop-pos.invariant.2 (part_is m c.requires.well_formed page a n s (omega (arith, c.min-n.ensures)) is c.loop-pos.pos c.loop-pos.out _ c.read_part.ensures),
       slot_few m page (a / 256) c.requires.well_formed s is,
-      λ more l. record { chunk = a / 256; next = omega (arith, more, c.least-n.ensures, c.loop-pos.invariant.1); slot = slot_within_lem m page (a / 256) s is l },
+      λ more l. record { chunk = a / 256; next = omega (arith, more, c.min-n.ensures, c.loop-pos.invariant.1); slot = slot_within_lem m page (a / 256) s is l },
     )
 
 pub returns : goal.returns

@@ -5,10 +5,6 @@ use Rattle.view.specs.View.{view_of}
 use Rattle.read_steps.proofs.Padded.{padded_word}
 use Rattle.read_steps.proofs.read_word.Goals as goal
 
-pub returns-then-known : goal.returns-then-known
-returns-then-known c =
-    c.known_word-known.ensures c.if-known.true
-
 pub returns : goal.returns
 returns c =
     let m = mem c.args.bytes.now c.args.keys.now c.args.order.now c.args.words.now in

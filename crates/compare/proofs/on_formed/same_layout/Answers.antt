@@ -1,36 +1,14 @@
-use native.Mathlib.Omega.{arith}
-use borrow.Author.Count.{below_more}
-use Rattle.compare.proofs.Answers.{layout_other, layout_same}
+use Rattle.std.proofs.Common.{rules, tests, refl, ◌∙◌, eqb, get_or}
+use Rattle.std.proofs.lemmas.Iterator.{YieldsList-from_range}
+use Rattle.std.proofs.lemmas.Iterator.Search.{all_from_yields_List}
+use Rattle.formed.proofs.Each.{all_of_range}
+use Rattle.compare.proofs.Answers.{layout_is}
 use Rattle.compare.proofs.on_formed.same_layout.Goals as goal
-
-pub returns-then-left-i : goal.returns-then-left-i
-returns-then-left-i c =
-    layout_other c.args.left.now c.args.right.now c.loop-i.i c.loop-i-test.true c.if-left-i.true
 
 pub returns : goal.returns
 returns c =
-    layout_same c.args.left.now c.args.right.now (λ k l. c.loop-i.invariant.1 k (omega arith))
-
-pub loop-i-init : goal.loop-i-init
-loop-i-init c = (omega arith, λ k l. absurd (omega arith))
-
-pub offset_bounds-left-i : goal.offset_bounds-left-i
-offset_bounds-left-i c = omega arith
-
-pub bounds-left-i : goal.bounds-left-i
-bounds-left-i c = omega arith
-
-pub offset_bounds-right-i : goal.offset_bounds-right-i
-offset_bounds-right-i c = omega arith
-
-pub bounds-right-i : goal.bounds-right-i
-bounds-right-i c = omega arith
-
-pub overflow_add-i : goal.overflow_add-i
-overflow_add-i c = omega arith
-
-pub loop-i-smaller : goal.loop-i-smaller
-loop-i-smaller c = omega arith
-
-pub loop-i-preserved : goal.loop-i-preserved
-loop-i-preserved c = (omega arith, below_more _ _ c.loop-i.invariant.1 c.if-left-i.false)
+    let l = c.args.left.now in
+    let r = c.args.right.now in
+    all_from_yields_List (λ i. eqb (get_or l i 0) (get_or r i 0)) _ _ _ c.all.ensures.ran (YieldsList-from_range 0 6 6 refl refl) (λ x b q k. search (rules, tests))
+    ∙ all_of_range (λ i. eqb (get_or l i 0) (get_or r i 0)) 6
+    ∙ layout_is l r

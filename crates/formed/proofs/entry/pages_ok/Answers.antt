@@ -1,26 +1,13 @@
-use mathlib.Core.Path.{sym, ◌∙◌}
-use native.Mathlib.Omega.{arith}
-use lib.ListN.{length}
-use borrow.Author.Rules.{rules}
-use Rattle.index.proofs.All.{all_none, all_more, all_fails, all_done}
+use Rattle.std.proofs.Common.{rules, tests, refl, arith, ◌∙◌, length}
+use Rattle.std.proofs.lemmas.Iterator.{YieldsList-from_range}
+use Rattle.std.proofs.lemmas.Iterator.Search.{all_from_yields_List}
 use Rattle.formed.specs.Formed.{entry_right}
+use Rattle.formed.proofs.Each.{all_of_range}
 use Rattle.formed.proofs.entry.pages_ok.Goals as goal
-
-pub entry_ok-requires : goal.entry_ok-requires
-entry_ok-requires c =
-    (c.loop-e-test.true, c.requires.0, c.layout_of-layout.ensures)
-
-pub returns-then-not-entry_ok : goal.returns-then-not-entry_ok
-returns-then-not-entry_ok c =
-    sym (all_fails (entry_right c.args.words.now c.args.entries.now) (length c.args.entries.now) c.loop-e.e c.loop-e-test.true (sym c.entry_ok.ensures ∙ c.if-not-entry_ok.true))
-
-pub loop-e-preserved : goal.loop-e-preserved
-loop-e-preserved c =
-    (omega arith, all_more (entry_right c.args.words.now c.args.entries.now) c.loop-e.e c.loop-e.invariant.1 (sym c.entry_ok.ensures ∙ c.if-not-entry_ok.false))
 
 pub returns : goal.returns
 returns c =
-    all_done _ _ c.loop-e.e c.loop-e.invariant.0 c.loop-e-test.false c.loop-e.invariant.1
-
-pub loop-e-init : goal.loop-e-init
-loop-e-init c = (search rules, all_none _)
+    let n = length c.args.entries.now in
+    let p = entry_right c.args.words.now c.args.entries.now in
+    all_from_yields_List p _ _ _ c.all.ensures.ran (YieldsList-from_range 0 n n refl (omega arith)) (λ x b q k. search (rules, tests))
+    ∙ all_of_range p n

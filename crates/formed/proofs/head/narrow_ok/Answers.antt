@@ -1,37 +1,22 @@
-use mathlib.Core.Path.{sym}
-use native.Mathlib.Omega.{arith}
-use Rattle.formed.proofs.Sizes.{width_head, width_length, narrow_by}
-use Rattle.formed.proofs.Bools.{refute}
+use Rattle.std.proofs.Common.{◌≡◌, rules, tests, refl, sym, arith, ◌∙◌, get_or, take}
+use Rattle.std.proofs.lemmas.Iterator.{YieldsList-from_slice}
+use Rattle.std.proofs.lemmas.Iterator.Search.{all_from_yields_List}
+use Rattle.formed.specs.Formed.{fits}
+use Rattle.formed.proofs.Bools.{and_stop, and_pass}
+use Rattle.formed.proofs.Each.{all_of_front}
+use Rattle.formed.proofs.Sizes.{narrow_is}
+use Rattle.index.specs.Index.{all}
 use Rattle.formed.proofs.head.narrow_ok.Goals as goal
+use Rattle.formed.proofs.head.narrow_ok.Goals.{After-all}
 
-pub returns-then-words-gt4294967295 : goal.returns-then-words-gt4294967295
-returns-then-words-gt4294967295 c =
-    refute _ (λ n. omega (arith, width_head c.args.words.now n 0 (omega arith), c.if-words-gt4294967295.true))
+six : (c : After-all) → c.all.result ≡ all (λ i. fits (get_or c.args.words.now i 0)) 6
+six c =
+    let w = c.args.words.now in
+    all_from_yields_List fits _ _ _ c.all.ensures.ran (YieldsList-from_slice (take 6 w) cc) (λ x b q k. search (rules, tests))
+    ∙ all_of_front fits (λ i. fits (get_or w i 0)) w 0 6 (omega (arith, c.requires)) (λ i l. refl)
 
-pub returns-then-words-gt4294967295-2 : goal.returns-then-words-gt4294967295-2
-returns-then-words-gt4294967295-2 c =
-    refute _ (λ n. omega (arith, width_head c.args.words.now n 1 (omega arith), c.if-words-gt4294967295-2.true))
+pub returns-then-all : goal.returns-then-all
+returns-then-all c = and_pass _ _ (sym (six (goal.at.returns-then-all c).After-all) ∙ c.if-all.true) ∙ narrow_is c.args.words.now
 
-pub returns-then-words-gt4294967295-3 : goal.returns-then-words-gt4294967295-3
-returns-then-words-gt4294967295-3 c =
-    refute _ (λ n. omega (arith, width_head c.args.words.now n 2 (omega arith), c.if-words-gt4294967295-3.true))
-
-pub returns-then-words-gt4294967295-4 : goal.returns-then-words-gt4294967295-4
-returns-then-words-gt4294967295-4 c =
-    refute _ (λ n. omega (arith, width_head c.args.words.now n 3 (omega arith), c.if-words-gt4294967295-4.true))
-
-pub returns-then-words-gt4294967295-5 : goal.returns-then-words-gt4294967295-5
-returns-then-words-gt4294967295-5 c =
-    refute _ (λ n. omega (arith, width_head c.args.words.now n 4 (omega arith), c.if-words-gt4294967295-5.true))
-
-pub returns-then-words-gt4294967295-6 : goal.returns-then-words-gt4294967295-6
-returns-then-words-gt4294967295-6 c =
-    refute _ (λ n. omega (arith, width_head c.args.words.now n 5 (omega arith), c.if-words-gt4294967295-6.true))
-
-pub returns-then-words-gt4294967295-7 : goal.returns-then-words-gt4294967295-7
-returns-then-words-gt4294967295-7 c =
-    refute _ (λ n. omega (arith, width_length c.args.words.now n, c.if-words-gt4294967295-7.true))
-
-pub returns : goal.returns
-returns c =
-    sym (narrow_by c.args.words.now c.if-words-gt4294967295.false c.if-words-gt4294967295-2.false c.if-words-gt4294967295-3.false c.if-words-gt4294967295-4.false c.if-words-gt4294967295-5.false c.if-words-gt4294967295-6.false c.if-words-gt4294967295-7.false)
+pub returns-else-all : goal.returns-else-all
+returns-else-all c = c.if-all.false ∙ and_stop _ _ (sym (six (goal.at.returns-else-all c).After-all) ∙ c.if-all.false) ∙ narrow_is c.args.words.now

@@ -1,22 +1,13 @@
-use mathlib.Core.Path.{sym, ◌∙◌}
-use native.Mathlib.Omega.{arith}
-use borrow.Author.Rules.{rules}
-use Rattle.index.proofs.All.{all_none, all_more, all_fails, all_done}
-use Rattle.formed.specs.Pages.{journal_count}
+use Rattle.std.proofs.Common.{rules, tests, refl, ◌∙◌}
+use Rattle.std.proofs.lemmas.Iterator.{YieldsList-from_range}
+use Rattle.std.proofs.lemmas.Iterator.Search.{all_from_yields_List}
 use Rattle.formed.specs.Formed.{journal_right}
+use Rattle.formed.specs.Pages.{journal_count}
+use Rattle.formed.proofs.Each.{all_of_range}
 use Rattle.formed.proofs.journals.journals_ok.Goals as goal
-
-pub returns-then-not-journal_ok : goal.returns-then-not-journal_ok
-returns-then-not-journal_ok c =
-    sym (all_fails (journal_right c.args.holders.now c.args.words.now) journal_count c.loop-j.j c.loop-j-test.true (sym c.journal_ok.ensures ∙ c.if-not-journal_ok.true))
-
-pub loop-j-preserved : goal.loop-j-preserved
-loop-j-preserved c =
-    (omega (arith, c.loop-j-test.true), all_more (journal_right c.args.holders.now c.args.words.now) c.loop-j.j c.loop-j.invariant.1 (sym c.journal_ok.ensures ∙ c.if-not-journal_ok.false))
 
 pub returns : goal.returns
 returns c =
-    all_done _ _ c.loop-j.j c.loop-j.invariant.0 c.loop-j-test.false c.loop-j.invariant.1
-
-pub loop-j-init : goal.loop-j-init
-loop-j-init c = (search rules, all_none _)
+    let p = journal_right c.args.holders.now c.args.words.now in
+    all_from_yields_List p _ _ _ c.all.ensures.ran (YieldsList-from_range 0 journal_count journal_count refl refl) (λ x b q k. search (rules, tests))
+    ∙ all_of_range p journal_count

@@ -1,21 +1,16 @@
-use mathlib.Core.Path.{sym, ◌∙◌}
-use native.Mathlib.Omega.{arith}
-use borrow.Author.Rules.{rules}
-use Rattle.index.proofs.All.{all_none, all_more, all_fails, all_done}
+use Rattle.std.proofs.Common.{rules, tests, ap, arith, ◌∙◌, ◌/◌, [], length, take}
+use Rattle.std.proofs.lemmas.Iterator.{YieldsList-from_slice}
+use Rattle.std.proofs.lemmas.Iterator.Search.{all_from_yields_List}
+use Rattle.std.specs.Simd.{first_chunks}
+use Rattle.formed.proofs.Each.{all_of_front, length-first_chunks}
 use Rattle.formed.specs.Formed.{noted}
+use Rattle.formed.proofs.Noted.{noted_cut}
 use Rattle.formed.proofs.journals.notes_ok.Goals as goal
-
-pub returns-then-not-note_ok : goal.returns-then-not-note_ok
-returns-then-not-note_ok c =
-    sym (all_fails (noted c.args.holders.now c.args.notes.now c.args.k) c.args.n c.loop-i.i c.loop-i-test.true (sym c.note_ok.ensures ∙ c.if-not-note_ok.true))
-
-pub loop-i-preserved : goal.loop-i-preserved
-loop-i-preserved c =
-    (omega arith, all_more (noted c.args.holders.now c.args.notes.now c.args.k) c.loop-i.i c.loop-i.invariant.1 (sym c.note_ok.ensures ∙ c.if-not-note_ok.false))
 
 pub returns : goal.returns
 returns c =
-    all_done _ _ c.loop-i.i c.loop-i.invariant.0 c.loop-i-test.false c.loop-i.invariant.1
-
-pub loop-i-init : goal.loop-i-init
-loop-i-init c = (search rules, all_none _)
+    let ns = c.args.notes.now in
+    let hs = c.args.holders.now in
+    let m = length ns / 3 in
+    all_from_yields_List (λ x. noted hs x c.args.k 0) _ _ _ c.all.ensures.ran (YieldsList-from_slice (take c.args.n (first_chunks 3 m ns)) (c.iter.ensures.rest ∙ ap (take c.args.n) c.as_chunks.ensures.front)) (λ x b q k. search (rules, tests))
+    ∙ all_of_front (λ x. noted hs x c.args.k 0) (noted hs ns c.args.k) (first_chunks 3 m ns) [] c.args.n (let e = length-first_chunks 3 m ns in omega (arith, c.requires)) (λ i l. noted_cut hs ns c.args.k m i (omega (arith, c.requires)))

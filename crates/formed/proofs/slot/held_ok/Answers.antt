@@ -1,39 +1,15 @@
-use mathlib.Core.Path.{◌≡◌, sym, ap, ◌∙◌}
-use mathlib.Core.List.{List}
-use Prim.Native.Nat.{ℕ, ◌<◌}
-use native.Mathlib.Nat.{pos_of_ne-zero}
-use native.Mathlib.Omega.{arith}
-use lib.ListN.{get_or, get_or-eq_default}
+use Rattle.std.proofs.Common.{◌≡◌, ◌<◌, ◌∙◌, ◌-◌, ℕ, sym, ap, arith, length, get_or, take, drop, ltb}
+use borrow.Author.Tests.{ltb-true}
+use Rattle.store.specs.Keys.{key_entry}
 use Rattle.store.proofs.Parts.{rest_part}
 use Rattle.formed.specs.Formed.{zeros}
-use Rattle.formed.proofs.Bools.{refute}
-use Rattle.formed.proofs.Slots.{held_means, held_test, held_last}
+use Rattle.formed.proofs.Slots.{held_last}
 use Rattle.formed.proofs.slot.held_ok.Goals as goal
 
--- an entry that is free holds no chunk, one that is not is in use
-no_entry : (es : List ℕ) {e x : ℕ} → e ≡ x → get_or es e 0 ≡ 0 → 0 < get_or es x 0 → ⊥
-no_entry es q z p = let g = ap (λ (x : ℕ). get_or es x 0) q in omega arith
-
-in_use : (es : List ℕ) {e x : ℕ} → e ≡ x → (get_or es e 0 ≡ 0 → ⊥) → 0 < get_or es x 0
-in_use es q n = pos_of_ne-zero (λ z. n (ap (λ (x : ℕ). get_or es x 0) q ∙ z))
-
-pub returns-then-entries-e : goal.returns-then-entries-e
-returns-then-entries-e c =
-    refute _ (λ h. let z = get_or-eq_default c.args.entries.now 0 c.if-entries-e.true in let p = (held_means c.args.entries.now c.args.k c.args.chunk.now h).0 in absurd (no_entry c.args.entries.now c.key_entry-e.ensures z p))
-
-pub returns-then-entries-e-eq0 : goal.returns-then-entries-e-eq0
-returns-then-entries-e-eq0 c =
-    refute _ (λ h. let p = (held_means c.args.entries.now c.args.k c.args.chunk.now h).0 in absurd (no_entry c.args.entries.now c.key_entry-e.ensures c.if-entries-e-eq0.true p))
-
-pub returns-then-c : goal.returns-then-c
-returns-then-c c =
-    refute _ (λ h. let z = c.if-c.true in let k = c.key_chunk-c.ensures in let p = (held_means c.args.entries.now c.args.k c.args.chunk.now h).1 in omega arith)
-
-pub returns-then-c-2 : goal.returns-then-c-2
-returns-then-c-2 c =
-    c.all_zero.ensures ∙ ap zeros (rest_part c.args.chunk.now 31) ∙ held_last c.args.entries.now c.args.k c.args.chunk.now (in_use c.args.entries.now c.key_entry-e.ensures c.if-entries-e-eq0.false) (sym c.key_chunk-c.ensures ∙ c.if-c-2.true)
-
-pub returns : goal.returns
-returns c =
-    let k = c.key_chunk-c.ensures in
-    sym (held_test c.args.entries.now c.args.k c.args.chunk.now (in_use c.args.entries.now c.key_entry-e.ensures c.if-entries-e-eq0.false) (omega (arith, c.if-c.false)) (λ e. absurd (c.if-c-2.false (k ∙ e))))
+pub returns-then-c-last-2 : goal.returns-then-c-last-2
+returns-then-c-last-2 c =
+    let es = c.args.entries.now in
+    let b = c.args.chunk.now in
+    let rest : 225 ≡ length b - 31 = omega (arith, c.told-chunk) in
+    let used : 0 < get_or es (key_entry c.args.k) 0 = ltb-true _ _ (ap (λ (e : ℕ). ltb 0 (get_or es e 0)) (sym c.key_entry.ensures) ∙ sym c.in_use.ensures ∙ c.if-in_use.true) in
+    c.all_zero.ensures ∙ ap (λ (n : ℕ). zeros (take n (drop 31 b))) rest ∙ ap zeros (rest_part b 31) ∙ held_last es c.args.k b used (sym c.key_chunk-c.ensures ∙ c.if-c-last-2.true)

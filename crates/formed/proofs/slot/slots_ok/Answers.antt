@@ -1,24 +1,19 @@
-use mathlib.Core.Path.{sym, ap, ◌∙◌}
-use Prim.Native.Nat.{◌*◌}
-use native.Mathlib.Omega.{arith}
-use lib.ListN.{length, get_or}
-use borrow.Author.Rules.{rules}
-use Rattle.index.proofs.All.{all_none, all_more, all_fails, all_done}
-use Rattle.store.proofs.Parts.{mid_part}
+use Rattle.std.proofs.Common.{ℕ, Iter, ◌<◌, rules, tests, refl, ap, arith, ◌∙◌, ◌/◌, [], length}
+use Rattle.std.proofs.lemmas.Iterator.{YieldsList-from_slice, YieldsList-from_zip}
+use Rattle.std.proofs.lemmas.Iterator.Search.{all_from_yields_List}
+use Rattle.std.proofs.lemmas.Slice.Zip.{length-zip, get_or-zip}
+use Rattle.std.specs.List.{zip}
+use Rattle.std.specs.Simd.{first_chunks}
+use Rattle.formed.proofs.Each.{all_of_list, get_or-first_chunks, length-first_chunks}
 use Rattle.formed.specs.Formed.{slot_right, slot_at}
 use Rattle.formed.proofs.slot.slots_ok.Goals as goal
 
-pub returns-then-not-slot_ok : goal.returns-then-not-slot_ok
-returns-then-not-slot_ok c =
-    sym (all_fails (slot_at c.args.entries.now c.args.holders.now c.args.bytes.now) (length c.args.holders.now) c.loop-s.s c.loop-s-test.true (ap (slot_right c.args.entries.now (get_or c.args.holders.now c.loop-s.s 0)) (sym (mid_part c.args.bytes.now (256 * c.loop-s.s) 256)) ∙ sym c.slot_ok.ensures ∙ c.if-not-slot_ok.true))
-
-pub loop-s-preserved : goal.loop-s-preserved
-loop-s-preserved c =
-    (omega arith, all_more (slot_at c.args.entries.now c.args.holders.now c.args.bytes.now) c.loop-s.s c.loop-s.invariant.1 (ap (slot_right c.args.entries.now (get_or c.args.holders.now c.loop-s.s 0)) (sym (mid_part c.args.bytes.now (256 * c.loop-s.s) 256)) ∙ sym c.slot_ok.ensures ∙ c.if-not-slot_ok.false))
-
 pub returns : goal.returns
 returns c =
-    all_done _ _ c.loop-s.s c.loop-s.invariant.0 c.loop-s-test.false c.loop-s.invariant.1
-
-pub loop-s-init : goal.loop-s-init
-loop-s-init c = (search rules, all_none _)
+    let es = c.args.entries.now in
+    let hs = c.args.holders.now in
+    let bs = c.args.bytes.now in
+    let cut = first_chunks 256 (length bs / 256) bs in
+    all_from_yields_List (λ (k, b). slot_right es k b) c.all.new.self _ _ c.all.ensures.ran (YieldsList-from_zip (YieldsList-from_slice hs (ap (λ (x : Iter ℕ). x.rest.now) c.zip.ensures.first ∙ c.iter.ensures.rest)) (YieldsList-from_slice cut (c.zip.ensures.second.0 ∙ c.as_chunks.ensures.front))) (λ x b q k. search (rules, tests))
+    ∙ all_of_list _ (slot_at es hs bs) (zip hs cut) (0, []) (length hs) (let z = length-zip hs cut in let f = length-first_chunks 256 (length bs / 256) bs in omega (arith, c.requires)) (λ i l. let m : i < length bs / 256 = omega (arith, c.requires) in
+    let f = length-first_chunks 256 (length bs / 256) bs in rw (get_or-zip hs cut i (0, []) l (omega arith), get_or-first_chunks 256 (length bs / 256) i bs [] m) refl)

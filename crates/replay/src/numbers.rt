@@ -1,68 +1,92 @@
-// Numbers in a list: those of a call, of the answer that a line expects, or of the library's answer.
+// Numbers in a list: those of the answer that a line expects, or of the library's answer.
+ghost use Rattle.std.specs.Prelude.{◌≤◌, length};
 
-// The standard output.
-pub const STDOUT_FILENO: i32 = 1;
+use crate::fields;
+use crate::library::Refusal;
+use arrayvec::ArrayVec;
+use std::fmt;
+use word::Word;
 
-// How many numbers a list holds. An instruction has the most, 19.
-pub const CAPACITY: usize = 19;
+// The most numbers of an answer.
+const MOST: usize = 16;
 
-// The count is that of all numbers, also of those that the list has no place for.
-#[derive(Clone, Copy)]
+#[derive(PartialEq, Eq, Drop)]
 pub struct Numbers {
-    pub count: usize,
-    pub values: [u64; CAPACITY],
+    list: ArrayVec<u64, MOST>,
 }
 
 impl Numbers {
-    pub fn none() -> Self {
-        let values = [0u64; CAPACITY];
-        Self {
-            count: 0,
-            values: values,
+    pub fn new(numbers: &[u64]) -> Self
+        requires { length numbers.now ≤ 16 }
+    {
+        Numbers {
+            list: ArrayVec::try_from(numbers).unwrap(),
         }
     }
 
-    // The list with one number more.
-    pub fn push(self, x: u64) -> Self {
-        let mut longer = self;
-        let count = self.count;
-        if count < CAPACITY {
-            longer.values[count] = x;
+    // Reads numbers, each after a space. There is at least one, and there are not too many.
+    pub fn read(text: &str) -> Option<Self> {
+        let mut list = ArrayVec::new();
+        for field in text.strip_prefix(' ')?.split(' ') {
+            list.try_push(fields::number(field)?).ok()?;
         }
-        longer.count = std::num::wrapping_add_usize(count, 1);
-        longer
+        Some(Numbers { list })
     }
 }
 
-// Whether two lists are the same. Both have 0 in the places past their count.
-pub fn same(a: Numbers, b: Numbers) -> bool {
-    let left = a.values;
-    let right = b.values;
-    let mut i: usize = 0;
-    while i < CAPACITY {
-        if left[i] != right[i] {
-            return false;
+// Each number after a space.
+impl fmt::Display for Numbers {
+    fn fmt<W: fmt::Write>(&self, f: &mut fmt::Formatter<W>) -> fmt::Result {
+        for number in self.list.iter() {
+            write!(f, " {number}")?;
         }
-        i += 1;
+        Ok(())
     }
-    a.count == b.count
 }
 
-fn print_number(x: u64) {
-    io::write_all(STDOUT_FILENO, b" ");
-    io::print_decimal(STDOUT_FILENO, x);
+// ---- of a call's result: 0 and its values, or the number of a refusal alone
+
+impl From<Refusal> for Numbers {
+    fn from(refusal: Refusal) -> Self {
+        Numbers::new(&[u64::from(refusal.0)])
+    }
 }
 
-// Prints the numbers, each after a space.
-pub fn print(numbers: Numbers) {
-    let count = numbers.count;
-    let values = numbers.values;
-    let mut i: usize = 0;
-    while i < CAPACITY {
-        if count <= i {
-            return;
+impl From<Result<(), Refusal>> for Numbers {
+    fn from(answer: Result<(), Refusal>) -> Self {
+        match answer {
+            Ok(()) => Numbers::new(&[0]),
+            Err(refusal) => Numbers::from(refusal),
         }
-        print_number(values[i]);
-        i += 1;
+    }
+}
+
+impl From<Result<u64, Refusal>> for Numbers {
+    fn from(answer: Result<u64, Refusal>) -> Self {
+        match answer {
+            Ok(number) => Numbers::new(&[0, number]),
+            Err(refusal) => Numbers::from(refusal),
+        }
+    }
+}
+
+impl From<Result<(u32, u32), Refusal>> for Numbers {
+    fn from(answer: Result<(u32, u32), Refusal>) -> Self {
+        match answer {
+            Ok((first, second)) => Numbers::new(&[0, u64::from(first), u64::from(second)]),
+            Err(refusal) => Numbers::from(refusal),
+        }
+    }
+}
+
+impl From<Result<Word, Refusal>> for Numbers {
+    fn from(answer: Result<Word, Refusal>) -> Self {
+        match answer {
+            Ok(word) => {
+                let [a, b, c, d] = word.limbs;
+                Numbers::new(&[0, a, b, c, d])
+            }
+            Err(refusal) => Numbers::from(refusal),
+        }
     }
 }

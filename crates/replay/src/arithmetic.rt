@@ -9,11 +9,11 @@ use word::Word;
 
 pub fn decode(layout: Layout, page: PageId) -> Numbers {
     let decoded = library::decoded(page_ids::decode(layout, page));
-    Numbers::from(decoded.map(|page| (page_ids::kind_number(page), page_ids::group_number(page))))
+    Numbers::answer(decoded.map(|page| (page_ids::kind_number(page), page_ids::group_number(page))))
 }
 
 pub fn page_id(function: PageFunction, id: u32, stride: u32) -> Numbers {
-    let page = match function {
+    Numbers::answer(match function {
         PageFunction::HeapPageFromBase => {
             library::page(page_ids::heap_page_from_base(BasePage(id)))
         }
@@ -27,8 +27,7 @@ pub fn page_id(function: PageFunction, id: u32, stride: u32) -> Numbers {
         PageFunction::NextPageGroup => {
             library::base(page_ids::next_page_group(BasePage(id), stride))
         }
-    };
-    Numbers::from(page.map(u64::from))
+    })
 }
 
 pub fn pointer(word: Word) -> Numbers {
@@ -43,12 +42,12 @@ pub fn pointer(word: Word) -> Numbers {
 }
 
 pub fn pointer_word(pointer: FatPointer) -> Numbers {
-    Numbers::from(Ok(fat_pointer::into_u256(pointer)))
+    Numbers::from(fat_pointer::into_u256(pointer))
 }
 
 pub fn use_gas(gas: u32, amount: u32) -> Numbers {
     let gas = state::use_gas(gas, amount);
-    Numbers::new(&[0, u64::from(gas.left), u64::from(gas.paid)])
+    Numbers::from((gas.left, u32::from(gas.paid)))
 }
 
 // Pays for a bound, by the library's `grow_heap` on a frame that it is lent.

@@ -1,10 +1,11 @@
 // A call: a letter and its numbers. rust/README.md describes the line of each.
 use crate::content::Content;
-use crate::fields::Fields;
+use crate::fields::{Fields, Unreadable};
 use crate::instruction::{Given, Instruction};
 use fat_pointer::FatPointer;
 use page_ids::{Address, Layout, PageId};
 use state::{Area, Frame};
+use std::str::FromStr;
 use word::Word;
 
 // ---- calls
@@ -18,6 +19,7 @@ pub enum Call {
     UseGas(u32, u32),
     Grow(Frame, Area, u32),
     SetRegister(u32, Word, bool),
+    Compare(Which, Which),
     OnMemory(Which, MemoryCall),
 }
 
@@ -31,21 +33,23 @@ pub enum PageFunction {
     NextPageGroup,
 }
 
-impl PageFunction {
-    fn read(fields: &mut Fields) -> Option<Self> {
-        match fields.small()? {
-            0 => Some(PageFunction::HeapPageFromBase),
-            1 => Some(PageFunction::AuxHeapPageFromBase),
-            2 => Some(PageFunction::CodePageFromBase),
-            3 => Some(PageFunction::BasePageFromHeap),
-            4 => Some(PageFunction::NextPageGroup),
-            _ => None,
+impl TryFrom<u32> for PageFunction {
+    type Error = Unreadable;
+
+    fn try_from(number: u32) -> Result<Self, Unreadable> {
+        match number {
+            0 => Ok(PageFunction::HeapPageFromBase),
+            1 => Ok(PageFunction::AuxHeapPageFromBase),
+            2 => Ok(PageFunction::CodePageFromBase),
+            3 => Ok(PageFunction::BasePageFromHeap),
+            4 => Ok(PageFunction::NextPageGroup),
+            _ => Err(Unreadable),
         }
     }
 }
 
-fn read_pointer(fields: &mut Fields) -> Option<FatPointer> {
-    Some(FatPointer {
+fn read_pointer(fields: &mut Fields) -> Result<FatPointer, Unreadable> {
+    Ok(FatPointer {
         offset: fields.small()?,
         memory_page: fields.page()?,
         start: fields.small()?,
@@ -53,28 +57,33 @@ fn read_pointer(fields: &mut Fields) -> Option<FatPointer> {
     })
 }
 
-impl Call {
-    // Reads a letter and the numbers of its call; none where they are not as they must be.
-    pub fn read(text: &str) -> Option<Self> {
-        let (letter, numbers) = text.split_once(' ')?;
+// A letter and the numbers of its call, as they must be.
+impl FromStr for Call {
+    type Err = Unreadable;
+
+    fn from_str(text: &str) -> Result<Self, Unreadable> {
+        let (letter, numbers) = text.split_once(' ').ok_or(Unreadable)?;
         let [letter] = letter.as_bytes() else {
-            return None;
+            return Err(Unreadable);
         };
         let mut fields = Fields::new(numbers);
         let call = Call::of_letter(*letter, &mut fields)?;
         fields.end()?;
-        Some(call)
+        Ok(call)
     }
+}
 
-    fn of_letter(letter: u8, fields: &mut Fields) -> Option<Self> {
-        Some(match letter {
+impl Call {
+    fn of_letter(letter: u8, fields: &mut Fields) -> Result<Self, Unreadable> {
+        Ok(match letter {
             b'D' => Call::Decode(fields.page()?),
-            b'h' => Call::PageArithmetic(PageFunction::read(fields)?, fields.small()?),
+            b'h' => Call::PageArithmetic(PageFunction::try_from(fields.small()?)?, fields.small()?),
             b'P' => Call::Pointer(fields.word()?),
             b'Q' => Call::PointerWord(read_pointer(fields)?),
             b'U' => Call::UseGas(fields.small()?, fields.small()?),
             b'G' => Call::Grow(fields.frame()?, fields.area()?, fields.small()?),
             b'R' => Call::SetRegister(fields.small()?, fields.word()?, fields.flag()?),
+            b'e' => Call::Compare(Which::read(fields)?, Which::read(fields)?),
             _ => Call::OnMemory(Which::read(fields)?, MemoryCall::of_letter(letter, fields)?),
         })
     }
@@ -90,8 +99,8 @@ pub enum Which {
 }
 
 impl Which {
-    fn read(fields: &mut Fields) -> Option<Self> {
-        Some(if fields.flag()? {
+    fn read(fields: &mut Fields) -> Result<Self, Unreadable> {
+        Ok(if fields.flag()? {
             Which::Second
         } else {
             Which::First
@@ -101,14 +110,14 @@ impl Which {
 
 // A place in a page.
 #[derive(Clone, Copy)]
-pub struct Place {
+pub struct Location {
     pub page: PageId,
     pub address: Address,
 }
 
-impl Place {
-    fn read(fields: &mut Fields) -> Option<Self> {
-        Some(Place {
+impl Location {
+    fn read(fields: &mut Fields) -> Result<Self, Unreadable> {
+        Ok(Location {
             page: fields.page()?,
             address: fields.address()?,
         })
@@ -121,50 +130,48 @@ pub enum MemoryCall {
     Allocate(PageId),
     AllocateWithContent(PageId, Content),
     Deallocate(PageId),
-    ReadWord(Place),
-    ReadWordPartially(Place, Address),
-    ReadRange(Place, Address),
+    ReadWord(Location),
+    ReadWordPartially(Location, Address),
+    ReadRange(Location, Address),
     ReadChunk(PageId, u32),
-    ReadByte(Place),
-    WriteWord(Place, Word),
-    WriteBytes(Place, Content),
-    CompactToWindow(Place, u32),
+    ReadByte(Location),
+    WriteWord(Location, Word),
+    WriteBytes(Location, Content),
+    CompactToWindow(Location, u32),
     Truncate(u64),
     DynamicLength,
     Snapshot,
     RollBack(u64, u64),
     DeleteHistory,
-    Compare(Which),
     Counts,
     Execute(Given),
     ExecuteKept(Instruction),
 }
 
 impl MemoryCall {
-    fn of_letter(letter: u8, fields: &mut Fields) -> Option<Self> {
-        Some(match letter {
+    fn of_letter(letter: u8, fields: &mut Fields) -> Result<Self, Unreadable> {
+        Ok(match letter {
             b'o' => MemoryCall::Open(fields.layout()?, Content::read(fields)?),
             b'a' => MemoryCall::Allocate(fields.page()?),
             b'A' => MemoryCall::AllocateWithContent(fields.page()?, Content::read(fields)?),
             b'f' => MemoryCall::Deallocate(fields.page()?),
-            b'r' => MemoryCall::ReadWord(Place::read(fields)?),
-            b'p' => MemoryCall::ReadWordPartially(Place::read(fields)?, fields.address()?),
-            b'g' => MemoryCall::ReadRange(Place::read(fields)?, fields.address()?),
+            b'r' => MemoryCall::ReadWord(Location::read(fields)?),
+            b'p' => MemoryCall::ReadWordPartially(Location::read(fields)?, fields.address()?),
+            b'g' => MemoryCall::ReadRange(Location::read(fields)?, fields.address()?),
             b'k' => MemoryCall::ReadChunk(fields.page()?, fields.small()?),
-            b'y' => MemoryCall::ReadByte(Place::read(fields)?),
-            b'w' => MemoryCall::WriteWord(Place::read(fields)?, fields.word()?),
-            b'b' => MemoryCall::WriteBytes(Place::read(fields)?, Content::read(fields)?),
-            b'c' => MemoryCall::CompactToWindow(Place::read(fields)?, fields.small()?),
+            b'y' => MemoryCall::ReadByte(Location::read(fields)?),
+            b'w' => MemoryCall::WriteWord(Location::read(fields)?, fields.word()?),
+            b'b' => MemoryCall::WriteBytes(Location::read(fields)?, Content::read(fields)?),
+            b'c' => MemoryCall::CompactToWindow(Location::read(fields)?, fields.small()?),
             b'T' => MemoryCall::Truncate(fields.wide()?),
             b'l' => MemoryCall::DynamicLength,
             b's' => MemoryCall::Snapshot,
             b'u' => MemoryCall::RollBack(fields.wide()?, fields.wide()?),
             b'd' => MemoryCall::DeleteHistory,
-            b'e' => MemoryCall::Compare(Which::read(fields)?),
             b'v' => MemoryCall::Counts,
             b'x' => MemoryCall::Execute(Given::read(fields)?),
             b'X' => MemoryCall::ExecuteKept(Instruction::read(fields)?),
-            _ => return None,
+            _ => return Err(Unreadable),
         })
     }
 }

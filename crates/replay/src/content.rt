@@ -1,5 +1,5 @@
 // The bytes of a call, which a line has by their number and a seed, and the digest of bytes.
-use crate::fields::Fields;
+use crate::fields::{Fields, Unreadable};
 
 // The most bytes of a call.
 pub const MOST: usize = 1024;
@@ -18,21 +18,21 @@ pub struct Content {
 }
 
 impl Content {
-    pub fn read(fields: &mut Fields) -> Option<Self> {
-        Some(Content {
+    pub fn read(fields: &mut Fields) -> Result<Self, Unreadable> {
+        Ok(Content {
             count: fields.small()?,
             seed: fields.small()?,
         })
     }
 
-    // Makes the bytes in a buffer; the first is the seed. None where they are too many.
-    pub fn bytes<'a>(&self, buffer: &'a mut [u8; MOST]) -> Option<&'a [u8]> {
+    // Makes the bytes in a buffer; the first is the seed. There may be too many.
+    pub fn bytes<'a>(&self, buffer: &'a mut [u8; MOST]) -> Result<&'a [u8], Unreadable> {
         let mut next = (self.seed % 256) as u8;
         for byte in buffer.iter_mut() {
             *byte = next;
             next = next.wrapping_add(STEP);
         }
-        buffer.get(..self.count as usize)
+        buffer.get(..self.count as usize).ok_or(Unreadable)
     }
 }
 

@@ -1,7 +1,6 @@
 // Runs instructions, and tells what they left.
 use crate::instruction::{Given, Instruction, OPERAND, STORED};
 use crate::kept;
-use crate::library::Refusal;
 use crate::memory::Memory;
 use crate::numbers::Numbers;
 use execution::ExecutionStatus;
@@ -74,7 +73,7 @@ pub fn with_own_registers(memory: &mut Memory, given: &Given) -> Numbers {
             u64::from(frame.heap_bound),
             u64::from(frame.aux_bound),
         ]),
-        ExecutionStatus::Refused(number) => Numbers::from(Refusal(number)),
+        ExecutionStatus::Refused(number) => Numbers::new(&[u64::from(number)]),
     }
 }
 

@@ -4,15 +4,19 @@ use state::{Area, Frame};
 use std::str::Split;
 use word::Word;
 
+// A line that cannot be read as a call with an answer, or a call that the library cannot be asked.
+#[derive(Clone, Copy, Debug, PartialEq, Eq)]
+pub struct Unreadable;
+
 // A number of decimal digits. `parse` takes a sign too.
-pub fn number(field: &str) -> Option<u64> {
+pub fn number(field: &str) -> Result<u64, Unreadable> {
     if field.starts_with('+') {
-        return None;
+        return Err(Unreadable);
     }
-    field.parse().ok()
+    field.parse().map_err(|_| Unreadable)
 }
 
-// Each method reads the next numbers, and gives nothing where there are too few or one is not allowed there.
+// Each method reads the next numbers. It fails where there are too few, or where one is not allowed there.
 #[derive(Drop)]
 pub struct Fields<'a> {
     rest: Split<'a, char>,
@@ -25,42 +29,42 @@ impl<'a> Fields<'a> {
         }
     }
 
-    pub fn wide(&mut self) -> Option<u64> {
-        number(self.rest.next()?)
+    pub fn wide(&mut self) -> Result<u64, Unreadable> {
+        number(self.rest.next().ok_or(Unreadable)?)
     }
 
-    pub fn small(&mut self) -> Option<u32> {
-        u32::try_from(self.wide()?).ok()
+    pub fn small(&mut self) -> Result<u32, Unreadable> {
+        u32::try_from(self.wide()?).map_err(|_| Unreadable)
     }
 
-    pub fn flag(&mut self) -> Option<bool> {
+    pub fn flag(&mut self) -> Result<bool, Unreadable> {
         match self.wide()? {
-            0 => Some(false),
-            1 => Some(true),
-            _ => None,
+            0 => Ok(false),
+            1 => Ok(true),
+            _ => Err(Unreadable),
         }
     }
 
     // Four limbs, the lowest first.
-    pub fn word(&mut self) -> Option<Word> {
+    pub fn word(&mut self) -> Result<Word, Unreadable> {
         let limbs = [self.wide()?, self.wide()?, self.wide()?, self.wide()?];
-        Some(Word { limbs })
+        Ok(Word { limbs })
     }
 
-    pub fn page(&mut self) -> Option<PageId> {
-        Some(PageId(self.small()?))
+    pub fn page(&mut self) -> Result<PageId, Unreadable> {
+        Ok(PageId(self.small()?))
     }
 
-    pub fn address(&mut self) -> Option<Address> {
-        Some(Address(self.small()?))
+    pub fn address(&mut self) -> Result<Address, Unreadable> {
+        Ok(Address(self.small()?))
     }
 
-    pub fn area(&mut self) -> Option<Area> {
-        Some(if self.flag()? { Area::Aux } else { Area::Heap })
+    pub fn area(&mut self) -> Result<Area, Unreadable> {
+        Ok(if self.flag()? { Area::Aux } else { Area::Heap })
     }
 
-    pub fn frame(&mut self) -> Option<Frame> {
-        Some(Frame {
+    pub fn frame(&mut self) -> Result<Frame, Unreadable> {
+        Ok(Frame {
             gas: self.small()?,
             heap: self.page()?,
             aux: self.page()?,
@@ -70,8 +74,8 @@ impl<'a> Fields<'a> {
         })
     }
 
-    pub fn layout(&mut self) -> Option<Layout> {
-        Some(Layout {
+    pub fn layout(&mut self) -> Result<Layout, Unreadable> {
+        Ok(Layout {
             static_memory: self.page()?,
             calldata: self.page()?,
             bootloader_heap: self.page()?,
@@ -82,10 +86,10 @@ impl<'a> Fields<'a> {
     }
 
     // Nothing is left.
-    pub fn end(&mut self) -> Option<()> {
+    pub fn end(&mut self) -> Result<(), Unreadable> {
         match self.rest.next() {
-            Some(_) => None,
-            None => Some(()),
+            Some(_) => Err(Unreadable),
+            None => Ok(()),
         }
     }
 }

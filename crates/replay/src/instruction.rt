@@ -6,7 +6,7 @@
 // The answer is the word read (0 of a store) and the operand plus 32 with its tag. A panic has no more than a frame, and a refusal no more than its number.
 ghost use Rattle.std.specs.Prelude.{◌≤◌};
 
-use crate::fields::Fields;
+use crate::fields::{Fields, Unreadable};
 use execution::Hook;
 use page_ids::Address;
 use registers::{LoadPlaces, Operand, StorePlaces};
@@ -23,18 +23,22 @@ pub enum Op {
     StoreStatic,
 }
 
-impl Op {
-    fn read(fields: &mut Fields) -> Option<Self> {
-        match fields.small()? {
-            0 => Some(Op::Load),
-            1 => Some(Op::Store),
-            2 => Some(Op::LoadPointer),
-            3 => Some(Op::LoadStatic),
-            4 => Some(Op::StoreStatic),
-            _ => None,
+impl TryFrom<u32> for Op {
+    type Error = Unreadable;
+
+    fn try_from(number: u32) -> Result<Self, Unreadable> {
+        match number {
+            0 => Ok(Op::Load),
+            1 => Ok(Op::Store),
+            2 => Ok(Op::LoadPointer),
+            3 => Ok(Op::LoadStatic),
+            4 => Ok(Op::StoreStatic),
+            _ => Err(Unreadable),
         }
     }
+}
 
+impl Op {
     pub fn stores(self) -> bool {
         matches!(self, Op::Store | Op::StoreStatic)
     }
@@ -54,8 +58,8 @@ impl Op {
     }
 }
 
-fn read_hook(fields: &mut Fields) -> Option<Hook> {
-    Some(Hook {
+fn read_hook(fields: &mut Fields) -> Result<Hook, Unreadable> {
+    Ok(Hook {
         on: fields.flag()?,
         address: fields.address()?,
     })
@@ -79,9 +83,9 @@ pub struct Instruction {
 }
 
 impl Instruction {
-    pub fn read(fields: &mut Fields) -> Option<Self> {
-        Some(Instruction {
-            op: Op::read(fields)?,
+    pub fn read(fields: &mut Fields) -> Result<Self, Unreadable> {
+        Ok(Instruction {
+            op: Op::try_from(fields.small()?)?,
             frame: fields.frame()?,
             area: fields.area()?,
             source: fields.small()?,
@@ -134,9 +138,9 @@ pub struct Given {
 }
 
 impl Given {
-    pub fn read(fields: &mut Fields) -> Option<Self> {
-        Some(Given {
-            op: Op::read(fields)?,
+    pub fn read(fields: &mut Fields) -> Result<Self, Unreadable> {
+        Ok(Given {
+            op: Op::try_from(fields.small()?)?,
             frame: fields.frame()?,
             area: fields.area()?,
             operand: Operand {

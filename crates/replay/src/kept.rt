@@ -1,15 +1,21 @@
 // The registers that are kept from line to line, all 0 before the first.
+use crate::fields::Unreadable;
 use crate::numbers::Numbers;
 use registers::{FLAGS, LAST_REGISTER, LENGTH};
 use word::Word;
 
-// Sets a register, as an instruction does: register 0 stays 0. No answer where there is no such register.
-pub fn set(registers: &mut [u64; LENGTH], n: u32, word: Word, tagged: bool) -> Option<Numbers> {
+// Sets a register, as an instruction does: register 0 stays 0. There may be no such register.
+pub fn set(
+    registers: &mut [u64; LENGTH],
+    n: u32,
+    word: Word,
+    tagged: bool,
+) -> Result<Numbers, Unreadable> {
     if n > LAST_REGISTER {
-        return None;
+        return Err(Unreadable);
     }
     registers::set(registers, n, word, tagged);
-    Some(Numbers::from(Ok(())))
+    Ok(Numbers::from(()))
 }
 
 pub fn flags(registers: &[u64; LENGTH]) -> u64 {

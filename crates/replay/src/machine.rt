@@ -1,5 +1,6 @@
 // What calls are put to: two memories, the registers that are kept from line to line, and the layout of the latest opening.
 use crate::call::{Call, MemoryCall, Which};
+use crate::fields::Unreadable;
 use crate::memory::Memory;
 use crate::numbers::Numbers;
 use crate::{arithmetic, kept, on_memory};
@@ -32,26 +33,20 @@ impl Machine {
         }
     }
 
-    // The answer to a call; none where the library cannot be asked.
-    pub fn answer(&mut self, call: Call) -> Option<Numbers> {
+    // The answer to a call. Some cannot be put to the library.
+    pub fn answer(&mut self, call: Call) -> Result<Numbers, Unreadable> {
         match call {
-            Call::Decode(page) => Some(arithmetic::decode(self.layout, page)),
+            Call::Decode(page) => Ok(arithmetic::decode(self.layout, page)),
             Call::PageArithmetic(function, id) => {
-                Some(arithmetic::page_id(function, id, self.layout.stride))
+                Ok(arithmetic::page_id(function, id, self.layout.stride))
             }
-            Call::Pointer(word) => Some(arithmetic::pointer(word)),
-            Call::PointerWord(pointer) => Some(arithmetic::pointer_word(pointer)),
-            Call::UseGas(gas, amount) => Some(arithmetic::use_gas(gas, amount)),
-            Call::Grow(frame, area, bound) => Some(arithmetic::grow(frame, area, bound)),
-            Call::SetRegister(n, word, tagged) => {
-                kept::set(&mut self.registers, n, word, tagged)
-            }
-            Call::OnMemory(which, MemoryCall::Compare(other)) => {
-                Some(Numbers::from(
-                    self.memory(which)
-                        .is_equal(self.memory(other))
-                        .map(u64::from),
-                ))
+            Call::Pointer(word) => Ok(arithmetic::pointer(word)),
+            Call::PointerWord(pointer) => Ok(arithmetic::pointer_word(pointer)),
+            Call::UseGas(gas, amount) => Ok(arithmetic::use_gas(gas, amount)),
+            Call::Grow(frame, area, bound) => Ok(arithmetic::grow(frame, area, bound)),
+            Call::SetRegister(n, word, tagged) => kept::set(&mut self.registers, n, word, tagged),
+            Call::Compare(left, right) => {
+                Ok(Numbers::answer(self.memory(left).is_equal(self.memory(right))))
             }
             Call::OnMemory(which, call) => {
                 if let MemoryCall::Open(layout, _) = call {

@@ -1,5 +1,5 @@
 // A memory in four buffers of its own, and the library's calls on it.
-use crate::call::Place;
+use crate::call::Location;
 use crate::instruction::{Instruction, Op};
 use crate::library::Refusal;
 use crate::{content, library};
@@ -92,7 +92,7 @@ impl Memory {
         ))
     }
 
-    pub fn write_word(&mut self, at: Place, word: Word) -> Result<(), Refusal> {
+    pub fn write_word(&mut self, at: Location, word: Word) -> Result<(), Refusal> {
         library::done(writes::write_u256(
             &mut self.bytes,
             &mut self.keys,
@@ -104,7 +104,7 @@ impl Memory {
         ))
     }
 
-    pub fn write_bytes(&mut self, start: Place, content: &[u8]) -> Result<(), Refusal> {
+    pub fn write_bytes(&mut self, start: Location, content: &[u8]) -> Result<(), Refusal> {
         library::done(writes::write_bytes(
             &mut self.bytes,
             &mut self.keys,
@@ -116,7 +116,7 @@ impl Memory {
         ))
     }
 
-    pub fn compact_to_window(&mut self, start: Place, length: u32) -> Result<(), Refusal> {
+    pub fn compact_to_window(&mut self, start: Location, length: u32) -> Result<(), Refusal> {
         library::done(freeing::compact_to_window(
             &mut self.bytes,
             &mut self.keys,
@@ -234,7 +234,7 @@ impl Memory {
 
     // ---- calls that read it
 
-    pub fn read_word(&self, at: Place) -> Result<Word, Refusal> {
+    pub fn read_word(&self, at: Location) -> Result<Word, Refusal> {
         library::word(reads::read_u256(
             &self.bytes,
             &self.keys,
@@ -245,7 +245,7 @@ impl Memory {
         ))
     }
 
-    pub fn read_word_partially(&self, start: Place, end: Address) -> Result<Word, Refusal> {
+    pub fn read_word_partially(&self, start: Location, end: Address) -> Result<Word, Refusal> {
         library::partial_word(reads::read_u256_partially(
             &self.bytes,
             &self.keys,
@@ -257,7 +257,7 @@ impl Memory {
         ))
     }
 
-    pub fn read_range(&self, start: Place, end: Address, out: &mut [u8]) -> Result<(), Refusal> {
+    pub fn read_range(&self, start: Location, end: Address, out: &mut [u8]) -> Result<(), Refusal> {
         library::done(reads::read_range_big_endian(
             &self.bytes,
             &self.keys,
@@ -270,7 +270,7 @@ impl Memory {
         ))
     }
 
-    pub fn read_byte(&self, at: Place) -> Result<u8, Refusal> {
+    pub fn read_byte(&self, at: Location) -> Result<u8, Refusal> {
         library::byte(reads::read_byte(
             &self.bytes,
             &self.keys,

@@ -2,9 +2,11 @@
 ghost use Rattle.std.specs.Prelude.{◌≤◌, length};
 
 use crate::fields;
+use crate::fields::Unreadable;
 use crate::library::Refusal;
 use arrayvec::ArrayVec;
 use std::fmt;
+use std::str::FromStr;
 use word::Word;
 
 // The most numbers of an answer.
@@ -24,17 +26,30 @@ impl Numbers {
         }
     }
 
-    // Reads numbers, each after a space. There is at least one, and there are not too many.
-    pub fn read(text: &str) -> Option<Self> {
-        let mut list = ArrayVec::new();
-        for field in text.strip_prefix(' ')?.split(' ') {
-            list.try_push(fields::number(field)?).ok()?;
+    // What a call answers: 0 and its values, or the number of a refusal alone.
+    pub fn answer<T: Into<Numbers> + Drop>(answer: Result<T, Refusal>) -> Self {
+        match answer {
+            Ok(values) => values.into(),
+            Err(refusal) => Numbers::new(&[u64::from(refusal.0)]),
         }
-        Some(Numbers { list })
     }
 }
 
-// Each number after a space.
+// Each number is after a space. There is at least one, and there are not too many.
+impl FromStr for Numbers {
+    type Err = Unreadable;
+
+    fn from_str(text: &str) -> Result<Self, Unreadable> {
+        let mut list = ArrayVec::new();
+        for field in text.strip_prefix(' ').ok_or(Unreadable)?.split(' ') {
+            list.try_push(fields::number(field)?)
+                .map_err(|_| Unreadable)?;
+        }
+        Ok(Numbers { list })
+    }
+}
+
+// Each number is after a space.
 impl fmt::Display for Numbers {
     fn fmt<W: fmt::Write>(&self, f: &mut fmt::Formatter<W>) -> fmt::Result {
         for number in self.list.iter() {
@@ -44,49 +59,47 @@ impl fmt::Display for Numbers {
     }
 }
 
-// ---- of a call's result: 0 and its values, or the number of a refusal alone
+// ---- the values of a call that was carried out, after a 0
 
-impl From<Refusal> for Numbers {
-    fn from(refusal: Refusal) -> Self {
-        Numbers::new(&[u64::from(refusal.0)])
+impl From<()> for Numbers {
+    fn from(_none: ()) -> Self {
+        Numbers::new(&[0])
     }
 }
 
-impl From<Result<(), Refusal>> for Numbers {
-    fn from(answer: Result<(), Refusal>) -> Self {
-        match answer {
-            Ok(()) => Numbers::new(&[0]),
-            Err(refusal) => Numbers::from(refusal),
-        }
+impl From<bool> for Numbers {
+    fn from(flag: bool) -> Self {
+        Numbers::new(&[0, u64::from(flag)])
     }
 }
 
-impl From<Result<u64, Refusal>> for Numbers {
-    fn from(answer: Result<u64, Refusal>) -> Self {
-        match answer {
-            Ok(number) => Numbers::new(&[0, number]),
-            Err(refusal) => Numbers::from(refusal),
-        }
+impl From<u8> for Numbers {
+    fn from(byte: u8) -> Self {
+        Numbers::new(&[0, u64::from(byte)])
     }
 }
 
-impl From<Result<(u32, u32), Refusal>> for Numbers {
-    fn from(answer: Result<(u32, u32), Refusal>) -> Self {
-        match answer {
-            Ok((first, second)) => Numbers::new(&[0, u64::from(first), u64::from(second)]),
-            Err(refusal) => Numbers::from(refusal),
-        }
+impl From<u32> for Numbers {
+    fn from(number: u32) -> Self {
+        Numbers::new(&[0, u64::from(number)])
     }
 }
 
-impl From<Result<Word, Refusal>> for Numbers {
-    fn from(answer: Result<Word, Refusal>) -> Self {
-        match answer {
-            Ok(word) => {
-                let [a, b, c, d] = word.limbs;
-                Numbers::new(&[0, a, b, c, d])
-            }
-            Err(refusal) => Numbers::from(refusal),
-        }
+impl From<u64> for Numbers {
+    fn from(number: u64) -> Self {
+        Numbers::new(&[0, number])
+    }
+}
+
+impl From<(u32, u32)> for Numbers {
+    fn from(pair: (u32, u32)) -> Self {
+        Numbers::new(&[0, u64::from(pair.0), u64::from(pair.1)])
+    }
+}
+
+impl From<Word> for Numbers {
+    fn from(word: Word) -> Self {
+        let [a, b, c, d] = word.limbs;
+        Numbers::new(&[0, a, b, c, d])
     }
 }

@@ -1,8 +1,10 @@
 // A stored call: a letter, the numbers of the call, ' =', and the numbers of the answer.
 use crate::call::Call;
+use crate::fields::Unreadable;
 use crate::machine::Machine;
 use crate::numbers::Numbers;
 use std::fmt;
+use std::str::FromStr;
 
 // A call, and the answer that its line expects.
 #[derive(Drop)]
@@ -11,14 +13,16 @@ struct StoredCall {
     expected: Numbers,
 }
 
-// None where the line cannot be read.
-fn read(line: &[u8]) -> Option<StoredCall> {
-    let text = str::from_utf8(line).ok()?;
-    let (call, expected) = text.split_once(" =")?;
-    Some(StoredCall {
-        call: Call::read(call)?,
-        expected: Numbers::read(expected)?,
-    })
+impl FromStr for StoredCall {
+    type Err = Unreadable;
+
+    fn from_str(line: &str) -> Result<Self, Unreadable> {
+        let (call, expected) = line.split_once(" =").ok_or(Unreadable)?;
+        Ok(StoredCall {
+            call: call.parse()?,
+            expected: expected.parse()?,
+        })
+    }
 }
 
 // How the call of a line went.
@@ -39,14 +43,18 @@ impl fmt::Display for Verdict {
     }
 }
 
-// Puts the call of a line to the library. One without an answer counts as one that cannot be read.
+// Puts the call of a line to the library.
 pub fn judge(machine: &mut Machine, line: &[u8]) -> Verdict {
-    let Some(StoredCall { call, expected }) = read(line) else {
-        return Verdict::Unreadable;
-    };
-    match machine.answer(call) {
-        Some(got) if got == expected => Verdict::Right,
-        Some(got) => Verdict::Differs { expected, got },
-        None => Verdict::Unreadable,
+    match answered(machine, line) {
+        Ok((expected, got)) if expected == got => Verdict::Right,
+        Ok((expected, got)) => Verdict::Differs { expected, got },
+        Err(Unreadable) => Verdict::Unreadable,
     }
+}
+
+// The answer that the line of a call expects, and the one that the library gives.
+fn answered(machine: &mut Machine, line: &[u8]) -> Result<(Numbers, Numbers), Unreadable> {
+    let text = str::from_utf8(line).map_err(|_| Unreadable)?;
+    let StoredCall { call, expected } = text.parse()?;
+    Ok((expected, machine.answer(call)?))
 }

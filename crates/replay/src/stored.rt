@@ -45,10 +45,13 @@ impl fmt::Display for Verdict {
 
 // Puts the call of a line to the library.
 pub fn judge(machine: &mut Machine, line: &[u8]) -> Verdict {
-    match answered(machine, line) {
-        Ok((expected, got)) if expected == got => Verdict::Right,
-        Ok((expected, got)) => Verdict::Differs { expected, got },
-        Err(Unreadable) => Verdict::Unreadable,
+    let Ok((expected, got)) = answered(machine, line) else {
+        return Verdict::Unreadable;
+    };
+    if got == expected {
+        Verdict::Right
+    } else {
+        Verdict::Differs { expected, got }
     }
 }
 

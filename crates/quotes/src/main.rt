@@ -16,18 +16,8 @@ fn line(rt: &impl Print, memory: &Memory, list: &[u32], gas: u32, bound: u32) ->
     let asked = Question { list, gas, bound };
     match memory::quote(&asked) {
         Ok(quoted) => {
-            let heap = loads::run(memory, &asked, Area::Heap);
-            let heap = Beside {
-                asked,
-                quoted,
-                ran: heap,
-            };
-            let aux = loads::run(memory, &asked, Area::Aux);
-            let aux = Beside {
-                asked,
-                quoted,
-                ran: aux,
-            };
+            let heap = Beside::new(memory, asked, quoted, Area::Heap);
+            let aux = Beside::new(memory, asked, quoted, Area::Aux);
             let RunEnd {
                 spent,
                 bound,

@@ -1,5 +1,8 @@
 // What a quote is asked for, and what is printed of it and of its loads.
+use crate::loads;
 use crate::loads::Ran;
+use crate::memory::Memory;
+use state::Area;
 use state::quote::RunEnd;
 use std::fmt;
 
@@ -30,12 +33,20 @@ impl fmt::Display for Question<'_> {
 // A quote, beside the loads that it speaks of.
 #[derive(Clone, Copy)]
 pub struct Beside<'a> {
-    pub asked: Question<'a>,
-    pub quoted: RunEnd,
-    pub ran: Ran,
+    asked: Question<'a>,
+    quoted: RunEnd,
+    ran: Ran,
 }
 
-impl Beside<'_> {
+impl<'a> Beside<'a> {
+    pub fn new(memory: &Memory, asked: Question<'a>, quoted: RunEnd, area: Area) -> Self {
+        Beside {
+            asked,
+            quoted,
+            ran: loads::run(memory, &asked, area),
+        }
+    }
+
     // Whether the loads ended as the quote says, and panicked if they ended before the list.
     fn is_same(&self) -> bool {
         let Beside { asked, quoted, ran } = *self;

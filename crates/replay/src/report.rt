@@ -1,5 +1,5 @@
 // Counts the calls of each group and of all groups, and how many answers differ.
-use crate::stored::Verdict;
+use crate::stored::Failure;
 use std::alloc::Global;
 use std::io::Write;
 use std::{fmt, io};
@@ -82,11 +82,18 @@ impl Report {
 
     // ---- answers
 
-    // Counts the call of a line, and prints how it went unless its answer is right.
-    pub fn count(&mut self, out: &mut impl Write, line: u64, verdict: &Verdict) -> io::Result<()> {
-        let is_right = matches!(verdict, Verdict::Right);
-        if !is_right && self.all.differ < PRINTED {
-            writeln!(out, "line {line}: {verdict}")?;
+    // Counts the call of a line, and prints why its answer is not right.
+    pub fn count(
+        &mut self,
+        out: &mut impl Write,
+        line: u64,
+        checked: Result<(), Failure>,
+    ) -> io::Result<()> {
+        let is_right = checked.is_ok();
+        if let Err(failure) = checked
+            && self.all.differ < PRINTED
+        {
+            writeln!(out, "line {line}: {failure}")?;
         }
         self.group.count(is_right);
         self.all.count(is_right);

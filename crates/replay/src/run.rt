@@ -18,7 +18,7 @@ pub fn replay(alloc: Global, reader: &mut impl BufRead, out: &mut impl Write) ->
             [] | [b'#', ..] => {}
             // The title is after a letter and a space.
             [b't', title @ ..] => report.begin_group(out, title.get(1..).unwrap_or(&[]))?,
-            call => report.count(out, number, &stored::judge(&mut machine, call))?,
+            call => report.count(out, number, stored::check(&mut machine, call))?,
         }
     }
     report.end(out)

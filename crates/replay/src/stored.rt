@@ -25,39 +25,36 @@ impl FromStr for StoredCall {
     }
 }
 
-// How the call of a line went.
+// Why a line does not count as right.
 #[derive(Drop)]
-pub enum Verdict {
-    Right,
-    Differs { expected: Numbers, got: Numbers },
+pub enum Failure {
     Unreadable,
+    Differs { expected: Numbers, got: Numbers },
 }
 
-impl fmt::Display for Verdict {
+impl From<Unreadable> for Failure {
+    fn from(_unreadable: Unreadable) -> Self {
+        Failure::Unreadable
+    }
+}
+
+impl fmt::Display for Failure {
     fn fmt<W: fmt::Write>(&self, f: &mut fmt::Formatter<W>) -> fmt::Result {
         match self {
-            Verdict::Right => write!(f, "as expected"),
-            Verdict::Differs { expected, got } => write!(f, "expected{expected}, got{got}"),
-            Verdict::Unreadable => write!(f, "cannot be read"),
+            Failure::Unreadable => write!(f, "cannot be read"),
+            Failure::Differs { expected, got } => write!(f, "expected{expected}, got{got}"),
         }
     }
 }
 
-// Puts the call of a line to the library.
-pub fn judge(machine: &mut Machine, line: &[u8]) -> Verdict {
-    let Ok((expected, got)) = answered(machine, line) else {
-        return Verdict::Unreadable;
-    };
-    if got == expected {
-        Verdict::Right
-    } else {
-        Verdict::Differs { expected, got }
-    }
-}
-
-// The answer that the line of a call expects, and the one that the library gives.
-fn answered(machine: &mut Machine, line: &[u8]) -> Result<(Numbers, Numbers), Unreadable> {
+// Puts the call of a line to the library, and compares the answers.
+pub fn check(machine: &mut Machine, line: &[u8]) -> Result<(), Failure> {
     let text = str::from_utf8(line).map_err(|_| Unreadable)?;
     let StoredCall { call, expected } = text.parse()?;
-    Ok((expected, machine.answer(call)?))
+    let got = machine.answer(call)?;
+    if got == expected {
+        Ok(())
+    } else {
+        Err(Failure::Differs { expected, got })
+    }
 }

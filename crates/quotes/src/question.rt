@@ -51,7 +51,7 @@ impl<'a> Beside<'a> {
     fn is_same(&self) -> bool {
         let Beside { asked, quoted, ran } = *self;
         (ran.count < asked.list.len()) == ran.panicked
-            && u64::from(quoted.spent) + u64::from(ran.gas) == u64::from(asked.gas)
+            && quoted.spent.checked_add(ran.gas) == Some(asked.gas)
             && quoted.bound == ran.bound
             && quoted.position as usize == ran.count
     }

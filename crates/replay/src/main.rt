@@ -1,26 +1,27 @@
 // Puts the calls of a file to the library, and counts the answers that differ from those of vm2. rust/README.md describes the lines.
 #![tactic(auto)]
 
-mod answers;
 mod arithmetic;
-mod calls;
-mod changes;
+mod call;
 mod content;
-mod forms;
+mod execute;
+mod fields;
 mod input;
+mod instruction;
 mod kept;
+mod library;
 mod machine;
-mod memories;
+mod memory;
 mod numbers;
-mod parse;
-mod queries;
+mod on_memory;
 mod report;
 mod run;
+mod stored;
 
-fn main(rt: HostRuntime) {
-    let mut bytes = [0u8; memories::ALL_BYTES];
-    let mut keys = [0u64; memories::ALL_KEYS];
-    let mut order = [0u32; memories::ALL_ORDER];
-    let mut words = [0u64; memories::ALL_WORDS];
-    run::replay(rt.stdin(), &mut bytes, &mut keys, &mut order, &mut words);
+use std::io;
+use std::io::BufReader;
+
+fn main(rt: HostRuntime) -> io::Result<()> {
+    let mut reader = BufReader::new(rt.alloc(), rt.reader())?;
+    run::replay(rt.alloc(), &mut reader, &mut io::writer(&rt))
 }

@@ -1,68 +1,105 @@
-// Numbers in a list: those of a call, of the answer that a line expects, or of the library's answer.
+// Numbers in a list: those of the answer that a line expects, or of the library's answer.
+ghost use Rattle.std.specs.Prelude.{◌≤◌, length};
 
-// The standard output.
-pub const STDOUT_FILENO: i32 = 1;
+use crate::fields;
+use crate::fields::Unreadable;
+use crate::library::Refusal;
+use arrayvec::ArrayVec;
+use std::fmt;
+use std::str::FromStr;
+use word::Word;
 
-// How many numbers a list holds. An instruction has the most, 19.
-pub const CAPACITY: usize = 19;
+// The most numbers of an answer.
+const MOST: usize = 16;
 
-// The count is that of all numbers, also of those that the list has no place for.
-#[derive(Clone, Copy)]
+#[derive(PartialEq, Eq, Drop)]
 pub struct Numbers {
-    pub count: usize,
-    pub values: [u64; CAPACITY],
+    list: ArrayVec<u64, MOST>,
 }
 
 impl Numbers {
-    pub fn none() -> Self {
-        let values = [0u64; CAPACITY];
-        Self {
-            count: 0,
-            values: values,
+    pub fn new(numbers: &[u64]) -> Self
+        requires { length numbers.now ≤ 16 }
+    {
+        Numbers {
+            list: ArrayVec::try_from(numbers).unwrap(),
         }
     }
 
-    // The list with one number more.
-    pub fn push(self, x: u64) -> Self {
-        let mut longer = self;
-        let count = self.count;
-        if count < CAPACITY {
-            longer.values[count] = x;
+    // What a call answers: 0 and its values, or the number of a refusal alone.
+    pub fn answer<T: Into<Numbers> + Drop>(answer: Result<T, Refusal>) -> Self {
+        match answer {
+            Ok(values) => values.into(),
+            Err(refusal) => Numbers::new(&[u64::from(refusal.0)]),
         }
-        longer.count = std::num::wrapping_add_usize(count, 1);
-        longer
     }
 }
 
-// Whether two lists are the same. Both have 0 in the places past their count.
-pub fn same(a: Numbers, b: Numbers) -> bool {
-    let left = a.values;
-    let right = b.values;
-    let mut i: usize = 0;
-    while i < CAPACITY {
-        if left[i] != right[i] {
-            return false;
+// Each number is after a space. There is at least one, and there are not too many.
+impl FromStr for Numbers {
+    type Err = Unreadable;
+
+    fn from_str(text: &str) -> Result<Self, Unreadable> {
+        let mut list = ArrayVec::new();
+        for field in text.strip_prefix(' ').ok_or(Unreadable)?.split(' ') {
+            list.try_push(fields::number(field)?)
+                .map_err(|_| Unreadable)?;
         }
-        i += 1;
+        Ok(Numbers { list })
     }
-    a.count == b.count
 }
 
-fn print_number(x: u64) {
-    io::write_all(STDOUT_FILENO, b" ");
-    io::print_decimal(STDOUT_FILENO, x);
-}
-
-// Prints the numbers, each after a space.
-pub fn print(numbers: Numbers) {
-    let count = numbers.count;
-    let values = numbers.values;
-    let mut i: usize = 0;
-    while i < CAPACITY {
-        if count <= i {
-            return;
+// Each number is after a space.
+impl fmt::Display for Numbers {
+    fn fmt<W: fmt::Write>(&self, f: &mut fmt::Formatter<W>) -> fmt::Result {
+        for number in self.list.iter() {
+            write!(f, " {number}")?;
         }
-        print_number(values[i]);
-        i += 1;
+        Ok(())
+    }
+}
+
+// ---- the values of a call that was carried out, after a 0
+
+impl From<()> for Numbers {
+    fn from(_none: ()) -> Self {
+        Numbers::new(&[0])
+    }
+}
+
+impl From<bool> for Numbers {
+    fn from(flag: bool) -> Self {
+        Numbers::new(&[0, u64::from(flag)])
+    }
+}
+
+impl From<u8> for Numbers {
+    fn from(byte: u8) -> Self {
+        Numbers::new(&[0, u64::from(byte)])
+    }
+}
+
+impl From<u32> for Numbers {
+    fn from(number: u32) -> Self {
+        Numbers::new(&[0, u64::from(number)])
+    }
+}
+
+impl From<u64> for Numbers {
+    fn from(number: u64) -> Self {
+        Numbers::new(&[0, number])
+    }
+}
+
+impl From<(u32, u32)> for Numbers {
+    fn from(pair: (u32, u32)) -> Self {
+        Numbers::new(&[0, u64::from(pair.0), u64::from(pair.1)])
+    }
+}
+
+impl From<Word> for Numbers {
+    fn from(word: Word) -> Self {
+        let [a, b, c, d] = word.limbs;
+        Numbers::new(&[0, a, b, c, d])
     }
 }

@@ -1,8 +1,0 @@
-use Rattle.std.proofs.Common.{◌-◌, ◌≤◌}
-use Rattle.replay.proofs.parse.equals_sign.Given as goal
-
-abbrev pub invariant-loop-i : goal.invariant-loop-i
-invariant-loop-i l = l.i ≤ l.length
-
-abbrev pub decreases-loop-i : goal.decreases-loop-i
-decreases-loop-i l = l.length - l.i

@@ -1,0 +1,60 @@
+// A stored call: a letter, the numbers of the call, ' =', and the numbers of the answer.
+use crate::call::Call;
+use crate::fields::Unreadable;
+use crate::machine::Machine;
+use crate::numbers::Numbers;
+use std::fmt;
+use std::str::FromStr;
+
+// A call, and the answer that its line expects.
+#[derive(Drop)]
+struct StoredCall {
+    call: Call,
+    expected: Numbers,
+}
+
+impl FromStr for StoredCall {
+    type Err = Unreadable;
+
+    fn from_str(line: &str) -> Result<Self, Unreadable> {
+        let (call, expected) = line.split_once(" =").ok_or(Unreadable)?;
+        Ok(StoredCall {
+            call: call.parse()?,
+            expected: expected.parse()?,
+        })
+    }
+}
+
+// Why a line does not count as right.
+#[derive(Drop)]
+pub enum Failure {
+    Unreadable,
+    Differs { expected: Numbers, got: Numbers },
+}
+
+impl From<Unreadable> for Failure {
+    fn from(_unreadable: Unreadable) -> Self {
+        Failure::Unreadable
+    }
+}
+
+impl fmt::Display for Failure {
+    fn fmt<W: fmt::Write>(&self, f: &mut fmt::Formatter<W>) -> fmt::Result {
+        match self {
+            Failure::Unreadable => write!(f, "cannot be read"),
+            Failure::Differs { expected, got } => write!(f, "expected{expected}, got{got}"),
+        }
+    }
+}
+
+// Puts the call of a line to the library, and compares the answers.
+pub fn check(machine: &mut Machine, line: &[u8]) -> Result<(), Failure> {
+    let text = str::from_utf8(line).map_err(|_| Unreadable)?;
+    let StoredCall { call, expected } = text.parse()?;
+    let got = machine.answer(call)?;
+    if got == expected {
+        Ok(())
+    } else {
+        Err(Failure::Differs { expected, got })
+    }
+}

@@ -14,7 +14,7 @@ use std::io;
 // The five lines, and how many paths are right.
 fn main(rt: HostRuntime) -> io::Result<()> {
     let mut memory = Memory::new();
-    let mut right = 0;
+    let mut right: usize = 0;
     for path in Path::ALL {
         print!(rt; "{path}:")?;
         match path.walk(&mut memory) {

@@ -8,7 +8,7 @@ use page_ids::{Address, PageId};
 const NOT_WELL_FORMED: Failure = Failure::Refused(3);
 
 // The page that the calls are made on.
-const PAGE: u64 = 66;
+const PAGE: u32 = 66;
 
 // The elements that a line damages are fewer than this.
 const DAMAGED: u64 = 2000;
@@ -66,7 +66,7 @@ impl From<&[u64; PLACES]> for Damage {
     fn from(numbers: &[u64; PLACES]) -> Self {
         let [_, buffer, mode, elements, letter, ..] = *numbers;
         let mut arguments = [0; PLACES];
-        arguments[1] = PAGE;
+        arguments[1] = u64::from(PAGE);
         Damage {
             buffer: Buffer::from(buffer),
             mode: Mode::from(mode),
@@ -112,7 +112,7 @@ impl Tally {
 
 // What a damaged memory gets.
 fn judged(memory: &mut Memory, call: Call) -> Verdict {
-    match memory.parts().word(PageId(PAGE as u32), Address(0)) {
+    match memory.parts().word(PageId(PAGE), Address(0)) {
         Ok(_) if naive::shows(memory.parts()) => Verdict::Accepted,
         Ok(_) => Verdict::Wrong,
         Err(refusal) => match memory.call(call) {

@@ -2,7 +2,7 @@
 ghost use Rattle.std.specs.Prelude.{◌≤◌};
 
 use crate::call::{Call, Change, Look, Opening};
-use crate::memory::{CHUNK, Lengths, Memory, Parts, narrow};
+use crate::memory::{BYTES, CHUNK, KEYS, Lengths, Memory, ORDER, Parts, WORDS, narrow};
 use outcome::Answer;
 use page_ids::{Address, PageId};
 use word::Word;
@@ -182,6 +182,54 @@ fn handed(length: u64) -> usize
     length.min(HANDED as u64) as usize
 }
 
+// Opens or changes the memory of these lengths. The library is lent its own parts of the buffers.
+fn changed(
+    bytes: &mut [u8; BYTES],
+    keys: &mut [u64; KEYS],
+    order: &mut [u32; ORDER],
+    words: &mut [u64; WORDS],
+    lengths: Lengths,
+    change: Change,
+) -> Answer {
+    let bytes = &mut bytes[..lengths.bytes];
+    let keys = &mut keys[..lengths.keys];
+    let order = &mut order[..lengths.order];
+    let words = &mut words[..lengths.words];
+    match change {
+        Change::Open(opening) => opening::open(
+            bytes,
+            keys,
+            order,
+            words,
+            opening.layout,
+            narrow(opening.chunks),
+            narrow(opening.pages),
+            narrow(opening.room),
+            &[CALLDATA; HANDED][..handed(opening.calldata)],
+        ),
+        Change::WriteWord {
+            page,
+            address,
+            word,
+        } => writes::write_u256(bytes, keys, order, words, page, address, word),
+        Change::WriteBytes {
+            page,
+            start,
+            length,
+        } => {
+            let source = &[WRITTEN; HANDED][..handed(length)];
+            writes::write_bytes(bytes, keys, order, words, page, start, source)
+        }
+        Change::Allocate { page } => writes::allocate_at(bytes, keys, order, words, page),
+        Change::AllocateWithContent { page, length } => {
+            let source = &[CONTENT; HANDED][..handed(length)];
+            writes::allocate_with_content_at(bytes, keys, order, words, page, source)
+        }
+        Change::RollBack { heap, aux } => history::rollback(bytes, keys, order, words, heap, aux),
+        Change::DeleteHistory => history::delete_history(bytes, keys, order, words),
+    }
+}
+
 impl Memory {
     // Opens the memory anew or changes it. A refused opening leaves the lengths of the open memory.
     fn change(&mut self, change: Change) -> Result<(), Failure> {
@@ -189,46 +237,14 @@ impl Memory {
             Change::Open(opening) => Lengths::new(opening.chunks, opening.pages, opening.room),
             _ => self.lengths,
         };
-        let bytes = &mut self.bytes[..lengths.bytes];
-        let keys = &mut self.keys[..lengths.keys];
-        let order = &mut self.order[..lengths.order];
-        let words = &mut self.words[..lengths.words];
-        let answer = match change {
-            Change::Open(opening) => opening::open(
-                bytes,
-                keys,
-                order,
-                words,
-                opening.layout,
-                narrow(opening.chunks),
-                narrow(opening.pages),
-                narrow(opening.room),
-                &[CALLDATA; HANDED][..handed(opening.calldata)],
-            ),
-            Change::WriteWord {
-                page,
-                address,
-                word,
-            } => writes::write_u256(bytes, keys, order, words, page, address, word),
-            Change::WriteBytes {
-                page,
-                start,
-                length,
-            } => {
-                let source = &[WRITTEN; HANDED][..handed(length)];
-                writes::write_bytes(bytes, keys, order, words, page, start, source)
-            }
-            Change::Allocate { page } => writes::allocate_at(bytes, keys, order, words, page),
-            Change::AllocateWithContent { page, length } => {
-                let source = &[CONTENT; HANDED][..handed(length)];
-                writes::allocate_with_content_at(bytes, keys, order, words, page, source)
-            }
-            Change::RollBack { heap, aux } => {
-                history::rollback(bytes, keys, order, words, heap, aux)
-            }
-            Change::DeleteHistory => history::delete_history(bytes, keys, order, words),
-        };
-        carried_out(answer)?;
+        carried_out(changed(
+            &mut self.bytes,
+            &mut self.keys,
+            &mut self.order,
+            &mut self.words,
+            lengths,
+            change,
+        ))?;
         self.lengths = lengths;
         Ok(())
     }

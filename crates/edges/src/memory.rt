@@ -26,13 +26,13 @@ const HEAD: usize = 16;
 const POOL_BITS: usize = 64;
 
 // The lengths of the buffers with the highest counts.
-const BYTES: usize = CHUNK * LENT_CHUNKS + OLD_BYTES * MOST;
+pub const BYTES: usize = CHUNK * LENT_CHUNKS + OLD_BYTES * MOST;
 
-const KEYS: usize = LENT_CHUNKS + MOST + FIXED_PAGES;
+pub const KEYS: usize = LENT_CHUNKS + MOST + FIXED_PAGES;
 
-const ORDER: usize = ORDER_PLACES * LENT_CHUNKS + MOST + FIXED_PAGES;
+pub const ORDER: usize = ORDER_PLACES * LENT_CHUNKS + MOST + FIXED_PAGES;
 
-const WORDS: usize = HEAD + NOTES * MOST + (LENT_CHUNKS + POOL_BITS - 1) / POOL_BITS;
+pub const WORDS: usize = HEAD + NOTES * MOST + (LENT_CHUNKS + POOL_BITS - 1) / POOL_BITS;
 
 // Names a buffer by its number; any other number is that of the words.
 #[derive(Clone, Copy)]

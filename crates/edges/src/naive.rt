@@ -1,4 +1,6 @@
 // What an accepted memory must answer, by a plain scan of its keys as docs/BUFFERS.md describes them. It shares nothing with the library's lookup.
+ghost use Rattle.std.specs.Prelude.{◌≤◌};
+
 use crate::memory::{CHUNK, Parts};
 use page_ids::{Address, PageId};
 
@@ -37,31 +39,42 @@ fn held<'a>(parts: Parts<'a>, page: u32, k: u32) -> Option<&'a [u8]> {
     let chunks = *parts.words.get(CHUNKS)? as usize;
     let (slots, entries) = parts.keys.split_at_checked(chunks)?;
     let entry = entries.iter().position(|key| *key == u64::from(page) + 1)?;
-    let key = entry as u64 * CHUNK_NUMBERS + u64::from(k) + 1;
+    let first = (entry as u64).checked_mul(CHUNK_NUMBERS)?;
+    let key = first.checked_add(u64::from(k) + 1)?;
     let slot = slots.iter().position(|other| *other == key)?;
-    parts.bytes.get(CHUNK * slot..CHUNK * slot + CHUNK)
+    parts.bytes.chunks_exact(CHUNK).nth(slot)
 }
 
 // Whether the lookup shows the bytes of a chunk as the scan finds them, and one of them is read so.
 fn shows_chunk(parts: Parts<'_>, page: u32, k: u32) -> bool {
     let zeros = [0; CHUNK];
     let bytes = held(parts, page, k).unwrap_or(&zeros);
-    if parts.chunk(PageId(page), k, &zeros) != Ok(bytes) {
+    let Ok(part) = parts.chunk(PageId(page), k, &zeros) else {
         return false;
-    }
-    k > LAST_ADDRESSED
-        || {
-            let address = Address(k * CHUNK as u32 + BYTE);
-            parts.byte(PageId(page), address).ok() == bytes.get(BYTE as usize).copied()
-        }
+    };
+    part == bytes && (k > LAST_ADDRESSED || shows_byte(parts, page, k, bytes))
+}
+
+// Whether one byte of a chunk is read as one of these.
+fn shows_byte(parts: Parts<'_>, page: u32, k: u32, bytes: &[u8]) -> bool
+    requires { k ≤ LAST_ADDRESSED }
+{
+    let address = Address(k * CHUNK as u32 + BYTE);
+    parts.byte(PageId(page), address).ok() == bytes.get(BYTE as usize).copied()
 }
 
 // Whether what is read from the head is the head's.
 fn shows_head(parts: Parts<'_>) -> bool {
-    let number = |place: usize| parts.words.get(place).copied();
-    parts.dynamic_length().ok().map(u64::from) == number(DYNAMIC_LENGTH)
-        && parts.journals().ok().map(|(heap, _)| u64::from(heap)) == number(HEAP_JOURNAL)
-        && parts.journals().ok().map(|(_, aux)| u64::from(aux)) == number(AUX_JOURNAL)
+    let (Ok(length), Ok((heap, aux))) = (parts.dynamic_length(), parts.journals()) else {
+        return false;
+    };
+    let numbers = [
+        (DYNAMIC_LENGTH, length),
+        (HEAP_JOURNAL, heap),
+        (AUX_JOURNAL, aux),
+    ];
+    numbers.iter().all(|(place, number)| parts.words.get(*place).copied()
+        == Some(u64::from(*number)))
 }
 
 // Whether a memory answers reads as its parts of the buffers say.

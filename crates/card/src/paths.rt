@@ -1,166 +1,143 @@
 // The five paths. Each opens its memory anew, in buffers that have whatever the last path left.
-use crate::buffers::{BYTES, KEYS, ORDER, WORDS};
-use crate::{calls, frames, report, samples};
+use crate::frames::{self, Touch};
+use crate::memory::Memory;
+use crate::report::Wrong;
+use crate::samples;
 use fat_pointer::FatPointer;
-use page_ids::{Address, PageId};
+use page_ids::PageId;
+use std::fmt;
 
 // The heap and the aux heap of the first far call, the heap of the second, and the bootloader's.
-const HEAP: u32 = 66;
+const HEAP: PageId = PageId(66);
 
-const AUX: u32 = 67;
+const AUX: PageId = PageId(67);
 
-const NEXT_HEAP: u32 = 74;
+const NEXT_HEAP: PageId = PageId(74);
 
-const BOOTLOADER: u32 = 5;
+const BOOTLOADER: PageId = PageId(5);
 
-// The words on both sides of the edge at 256: half of the word at 240, and the last byte of that at 225.
-fn sides(
-    right: bool,
-    bytes: &[u8; BYTES],
-    keys: &[u64; KEYS],
-    order: &[u32; ORDER],
-    words: &[u64; WORDS],
-) -> bool {
-    let whole = samples::counting();
-    let front = samples::front_half();
-    let back = samples::back_half();
-    let end = samples::last_byte();
-    let right = calls::read(right, bytes, keys, order, words, HEAP, 240, whole);
-    let right = calls::read(right, bytes, keys, order, words, HEAP, 224, front);
-    let right = calls::read(right, bytes, keys, order, words, HEAP, 256, back);
-    let right = calls::read(right, bytes, keys, order, words, AUX, 225, whole);
-    calls::read(right, bytes, keys, order, words, AUX, 256, end)
+// The window of 257 bytes from 256 on, which ends with the first byte of a chunk.
+const START: u32 = 256;
+
+const LENGTH: u32 = 257;
+
+#[derive(Clone, Copy)]
+pub enum Path {
+    Edge,
+    Fresh,
+    Paid,
+    Window,
+    Rollback,
 }
 
-// Words over a chunk edge, read on both sides. Catches a half-written word.
-pub fn edge(
-    bytes: &mut [u8; BYTES],
-    keys: &mut [u64; KEYS],
-    order: &mut [u32; ORDER],
-    words: &mut [u64; WORDS],
-) -> bool {
-    let right = calls::open(bytes, keys, order, words);
-    let whole = samples::counting();
-    let right = calls::write(right, bytes, keys, order, words, HEAP, 240, whole);
-    let right = calls::write(right, bytes, keys, order, words, AUX, 225, whole);
-    sides(right, bytes, keys, order, words)
+impl fmt::Display for Path {
+    fn fmt<W: fmt::Write>(&self, f: &mut fmt::Formatter<W>) -> fmt::Result {
+        f.write_str(match self {
+            Path::Edge => "1 word over a chunk edge",
+            Path::Fresh => "2 new page after a freed one",
+            Path::Paid => "3 second touch of paid memory",
+            Path::Window => "4 pointer into a window",
+            Path::Rollback => "5 rollback of overlapping writes",
+        })
+    }
 }
 
-// Fills all eight chunks, and frees them.
-fn leave(
-    bytes: &mut [u8; BYTES],
-    keys: &mut [u64; KEYS],
-    order: &mut [u32; ORDER],
-    words: &mut [u64; WORDS],
-) -> bool {
-    let right = calls::open(bytes, keys, order, words);
-    let right = calls::fill(right, bytes, keys, order, words, HEAP);
-    let freed = freeing::deallocate(bytes, keys, order, words, PageId(HEAP));
-    report::freed(right, freed)
+impl Path {
+    pub const ALL: [Path; 5] = [
+        Path::Edge,
+        Path::Fresh,
+        Path::Paid,
+        Path::Window,
+        Path::Rollback,
+    ];
+
+    // Walks the path, up to the first answer that is wrong.
+    pub fn walk(self, memory: &mut Memory) -> Result<(), Wrong> {
+        memory.open()?;
+        match self {
+            Path::Edge => edge(memory),
+            Path::Fresh => fresh(memory),
+            Path::Paid => paid(memory),
+            Path::Window => window(memory),
+            Path::Rollback => rollback(memory),
+        }
+    }
+}
+
+// Words over a chunk edge, read on both sides: half of the word at 240, and the last byte of that at 225. Catches a half-written word.
+fn edge(memory: &mut Memory) -> Result<(), Wrong> {
+    memory.write(HEAP, 240, samples::COUNTING)?;
+    memory.write(AUX, 225, samples::COUNTING)?;
+    memory.has_word(HEAP, 240, samples::COUNTING)?;
+    memory.has_word(HEAP, 224, samples::FRONT_HALF)?;
+    memory.has_word(HEAP, 256, samples::BACK_HALF)?;
+    memory.has_word(AUX, 225, samples::COUNTING)?;
+    memory.has_word(AUX, 256, samples::LAST_BYTE)
 }
 
 // A page takes over the eight chunks of a freed one. Catches old bytes in a new call.
-pub fn fresh(
-    bytes: &mut [u8; BYTES],
-    keys: &mut [u64; KEYS],
-    order: &mut [u32; ORDER],
-    words: &mut [u64; WORDS],
-) -> bool {
-    let right = leave(bytes, keys, order, words);
-    let allocated = writes::allocate_at(bytes, keys, order, words, PageId(NEXT_HEAP));
-    let right = report::allocated(right, allocated);
-    let right = calls::hold(right, bytes, keys, order, words, NEXT_HEAP);
-    calls::blank(right, bytes, keys, order, words, NEXT_HEAP)
+fn fresh(memory: &mut Memory) -> Result<(), Wrong> {
+    memory.fill(HEAP)?;
+    memory.free(HEAP)?;
+    memory.allocate(NEXT_HEAP)?;
+    memory.hold(NEXT_HEAP)?;
+    memory.is_blank(NEXT_HEAP)
 }
 
 // Paid memory is touched again. Catches a second growth charge.
 // The word at 100 ends at 132: of 1,000 gas 868 is left, also after the second touch. That at 101 has one byte that is not paid.
-pub fn paid(
-    bytes: &mut [u8; BYTES],
-    keys: &mut [u64; KEYS],
-    order: &mut [u32; ORDER],
-    words: &mut [u64; WORDS],
-) -> bool {
-    let new = frames::untouched(calls::open(bytes, keys, order, words));
-    let first = frames::store(new, bytes, keys, order, words, 100, 1, 868, 132);
-    let second = frames::store(first, bytes, keys, order, words, 100, 2, 868, 132);
-    let third = frames::load(second, bytes, keys, order, words, 100, 3, 868, 132);
-    let last = frames::load(third, bytes, keys, order, words, 101, 4, 867, 133);
-    last.right
+fn paid(memory: &mut Memory) -> Result<(), Wrong> {
+    let first = Touch {
+        number: 1,
+        address: 100,
+        gas: 868,
+        bound: 132,
+    };
+    let second = Touch { number: 2, ..first };
+    let third = Touch { number: 3, ..first };
+    let last = Touch {
+        number: 4,
+        address: 101,
+        gas: 867,
+        bound: 133,
+    };
+    let frame = frames::store(memory, frames::NEW, first)?;
+    let frame = frames::store(memory, frame, second)?;
+    let frame = frames::load(memory, frame, third)?;
+    frames::load(memory, frame, last)?;
+    Ok(())
 }
 
 // A pointer to the window, at an offset.
 fn pointer(offset: u32) -> FatPointer {
     FatPointer {
-        offset: offset,
-        memory_page: PageId(HEAP),
-        start: 256,
-        length: 257,
+        offset,
+        memory_page: HEAP,
+        start: START,
+        length: LENGTH,
     }
 }
 
+// A page is shrunk to the window. Catches a lost last byte.
 // What is left of the page: 256 + 225 is 481, where the word was written, and 256 + 256 is 512, its last byte. The bytes at 800 are freed.
-fn shown(
-    right: bool,
-    bytes: &[u8; BYTES],
-    keys: &[u64; KEYS],
-    order: &[u32; ORDER],
-    words: &[u64; WORDS],
-) -> bool {
-    let whole = samples::counting();
-    let end = samples::last_byte();
-    let right = frames::show(right, bytes, keys, order, words, pointer(225), whole, 32);
-    let right = frames::show(right, bytes, keys, order, words, pointer(256), end, 1);
-    calls::read(right, bytes, keys, order, words, HEAP, 800, samples::zero())
+fn window(memory: &mut Memory) -> Result<(), Wrong> {
+    memory.write(HEAP, 481, samples::COUNTING)?;
+    memory.write(HEAP, 800, samples::COUNTING)?;
+    memory.shrink(HEAP, START, LENGTH)?;
+    frames::shows(memory, pointer(225), samples::COUNTING, 32)?;
+    frames::shows(memory, pointer(256), samples::LAST_BYTE, 1)?;
+    memory.has_word(HEAP, 800, samples::ZERO)
 }
 
-// The window of 257 bytes from 256 on ends with the first byte of a chunk. Catches a lost last byte.
-pub fn window(
-    bytes: &mut [u8; BYTES],
-    keys: &mut [u64; KEYS],
-    order: &mut [u32; ORDER],
-    words: &mut [u64; WORDS],
-) -> bool {
-    let right = calls::open(bytes, keys, order, words);
-    let whole = samples::counting();
-    let right = calls::write(right, bytes, keys, order, words, HEAP, 481, whole);
-    let right = calls::write(right, bytes, keys, order, words, HEAP, 800, whole);
-    let start = Address(256);
-    let shrunk = freeing::compact_to_window(bytes, keys, order, words, PageId(HEAP), start, 257);
-    let right = report::shrunk(right, shrunk);
-    shown(right, bytes, keys, order, words)
-}
-
-// A word, a snapshot, and two writes that overlap it and each other.
-fn overlap(
-    bytes: &mut [u8; BYTES],
-    keys: &mut [u64; KEYS],
-    order: &mut [u32; ORDER],
-    words: &mut [u64; WORDS],
-) -> bool {
-    let right = calls::open(bytes, keys, order, words);
-    let whole = samples::counting();
-    let right = calls::write(right, bytes, keys, order, words, BOOTLOADER, 0, whole);
-    let right = calls::snapshot(right, bytes, keys, order, words, 1);
-    let first = samples::many_171();
-    let right = calls::write(right, bytes, keys, order, words, BOOTLOADER, 8, first);
-    let second = samples::many_205();
-    calls::write(right, bytes, keys, order, words, BOOTLOADER, 16, second)
-}
-
-// The two writes are rolled back. Catches undoing oldest first, after which the bytes from 16 to 39 would be 171.
-pub fn rollback(
-    bytes: &mut [u8; BYTES],
-    keys: &mut [u64; KEYS],
-    order: &mut [u32; ORDER],
-    words: &mut [u64; WORDS],
-) -> bool {
-    let right = overlap(bytes, keys, order, words);
-    let undone = history::rollback(bytes, keys, order, words, 1, 0);
-    let right = report::undone(right, undone);
-    let right = calls::snapshot(right, bytes, keys, order, words, 1);
-    let whole = samples::counting();
-    let right = calls::read(right, bytes, keys, order, words, BOOTLOADER, 0, whole);
-    let zero = samples::zero();
-    calls::read(right, bytes, keys, order, words, BOOTLOADER, 32, zero)
+// A word, a snapshot, and two writes that overlap it and each other, which are rolled back.
+// Catches undoing oldest first, after which the bytes from 16 to 39 would be 171.
+fn rollback(memory: &mut Memory) -> Result<(), Wrong> {
+    memory.write(BOOTLOADER, 0, samples::COUNTING)?;
+    memory.has_history(1)?;
+    memory.write(BOOTLOADER, 8, samples::MANY_171)?;
+    memory.write(BOOTLOADER, 16, samples::MANY_205)?;
+    memory.roll_back(1, 0)?;
+    memory.has_history(1)?;
+    memory.has_word(BOOTLOADER, 0, samples::COUNTING)?;
+    memory.has_word(BOOTLOADER, 32, samples::ZERO)
 }

@@ -1,13 +1,11 @@
 // What an accepted memory must answer, by a plain scan of its keys as docs/BUFFERS.md describes them. It shares nothing with the library's lookup.
-use crate::buffers::Lengths;
-use crate::{buffers, step};
+ghost use Rattle.std.specs.Prelude.{◌≤◌};
+
+use crate::memory::{CHUNK, Parts};
 use page_ids::{Address, PageId};
 
 // The key of chunk k of entry e is e times this number plus k plus 1.
 const CHUNK_NUMBERS: u64 = 33554432;
-
-// The most chunks, which bounds the products.
-const MOST_CHUNKS: usize = 65536;
 
 // The last chunk all of whose bytes have addresses of 32 bits. One more chunk follows it.
 const LAST_ADDRESSED: u32 = 16777215;
@@ -24,158 +22,65 @@ const HEAP_JOURNAL: usize = 12;
 
 const AUX_JOURNAL: usize = 13;
 
-// How many places are looked at.
-const PLACES: usize = 8;
+// The chunks that are looked at: 0 and 1 of pages 66, 67 and 5, and the last two of page 66.
+const LOOKED_AT: [(u32, u32); 8] = [
+    (66, 0),
+    (66, 1),
+    (67, 0),
+    (67, 1),
+    (5, 0),
+    (5, 1),
+    (66, LAST_ADDRESSED),
+    (66, LAST_ADDRESSED + 1),
+];
 
-// The first place of x among the numbers from `from` to `to`, or `to`.
-fn find(numbers: &[u64], from: usize, to: usize, x: u64) -> usize {
-    let mut i = from;
-    while i < to {
-        if buffers::peek_wide(numbers, i) == x {
-            return i;
-        }
-        i += 1;
-    }
-    to
+// The bytes of chunk k of a page, if it is held: the page's entry, and the slot whose key names entry and chunk.
+fn held<'a>(parts: Parts<'a>, page: u32, k: u32) -> Option<&'a [u8]> {
+    let chunks = *parts.words.get(CHUNKS)? as usize;
+    let (slots, entries) = parts.keys.split_at_checked(chunks)?;
+    let entry = entries.iter().position(|key| *key == u64::from(page) + 1)?;
+    let first = (entry as u64).checked_mul(CHUNK_NUMBERS)?;
+    let key = first.checked_add(u64::from(k) + 1)?;
+    let slot = slots.iter().position(|other| *other == key)?;
+    parts.bytes.chunks_exact(CHUNK).nth(slot)
 }
 
-// Where the bytes of a chunk begin: the page's entry, then the slot whose key names entry and chunk. Past all bytes where either is missing.
-fn start(keys: &[u64], chunks: usize, page: u32, k: u32) -> usize {
-    let entry = find(keys, chunks, keys.len(), page as u64 + 1);
-    if keys.len() <= entry {
-        return buffers::NOWHERE;
-    }
-    let e = std::num::wrapping_sub_usize(entry, chunks) % MOST_CHUNKS;
-    let slot = find(keys, 0, chunks, e as u64 * CHUNK_NUMBERS + k as u64 + 1);
-    if chunks <= slot {
-        return buffers::NOWHERE;
-    }
-    slot % MOST_CHUNKS * buffers::CHUNK
+// Whether the lookup shows the bytes of a chunk as the scan finds them, and one of them is read so.
+fn shows_chunk(parts: Parts<'_>, page: u32, k: u32) -> bool {
+    let zeros = [0; CHUNK];
+    let bytes = held(parts, page, k).unwrap_or(&zeros);
+    let Ok(part) = parts.chunk(PageId(page), k, &zeros) else {
+        return false;
+    };
+    part == bytes && (k > LAST_ADDRESSED || shows_byte(parts, page, k, bytes))
 }
 
-// Byte i of those that begin at a place, and 0 for a place past all bytes.
-fn byte_from(bytes: &[u8], at: usize, i: usize) -> u64 {
-    if bytes.len() <= at {
-        return 0;
-    }
-    buffers::peek_byte(bytes, std::num::wrapping_add_usize(at, i))
+// Whether one byte of a chunk is read as one of these.
+fn shows_byte(parts: Parts<'_>, page: u32, k: u32, bytes: &[u8]) -> bool
+    requires { k ≤ LAST_ADDRESSED }
+{
+    let address = Address(k * CHUNK as u32 + BYTE);
+    parts.byte(PageId(page), address).ok() == bytes.get(BYTE as usize).copied()
 }
 
-// 1 where two numbers differ, and else what was found before.
-fn worse(before: u64, a: u64, b: u64) -> u64 {
-    if a == b {
-        return before;
-    }
-    1
+// Whether what is read from the head is the head's.
+fn shows_head(parts: Parts<'_>) -> bool {
+    let (Ok(length), Ok((heap, aux))) = (parts.dynamic_length(), parts.journals()) else {
+        return false;
+    };
+    let numbers = [
+        (DYNAMIC_LENGTH, length),
+        (HEAP_JOURNAL, heap),
+        (AUX_JOURNAL, aux),
+    ];
+    numbers.iter().all(|(place, number)| parts.words.get(*place).copied()
+        == Some(u64::from(*number)))
 }
 
-// 0 for a part of a chunk's length whose bytes are those from a place on.
-fn wrong_part(part: &[u8], bytes: &[u8], at: usize) -> u64 {
-    let mut wrong = worse(0, part.len() as u64, buffers::CHUNK as u64);
-    let mut i: usize = 0;
-    while i < buffers::CHUNK {
-        wrong = worse(wrong, buffers::peek_byte(part, i), byte_from(bytes, at, i));
-        i += 1;
-    }
-    wrong
-}
-
-// 0 for a byte that is read as it must be.
-fn wrong_byte(
-    bytes: &[u8],
-    keys: &[u64],
-    order: &[u32],
-    words: &[u64],
-    page: u32,
-    k: u32,
-    must: u64,
-) -> u64 {
-    if LAST_ADDRESSED < k {
-        return 0;
-    }
-    let r = reads::read_byte(
-        bytes,
-        keys,
-        order,
-        words,
-        PageId(page),
-        Address(k * buffers::CHUNK as u32 + BYTE),
-    );
-    let byte = step::wide(r.byte);
-    worse(step::widened(r.refusal), byte, must)
-}
-
-// 0 for a chunk whose bytes the lookup shows, and one of which is read, as the scan finds them.
-fn wrong_chunk(bytes: &[u8], keys: &[u64], order: &[u32], words: &[u64], page: u32, k: u32) -> u64 {
-    let block = [0u8; buffers::CHUNK];
-    let chunks = buffers::peek_wide(words, CHUNKS) as usize % (MOST_CHUNKS + 1);
-    let at = start(keys, chunks, page, k);
-    let part = reads::chunk(bytes, keys, order, words, PageId(page), k, &block);
-    let shown = wrong_part(part, bytes, at);
-    let read = wrong_byte(
-        bytes,
-        keys,
-        order,
-        words,
-        page,
-        k,
-        byte_from(bytes, at, BYTE as usize),
-    );
-    worse(shown, read, 0)
-}
-
-// The places that are looked at: chunks 0 and 1 of pages 66, 67 and 5, and the last two chunks of page 66.
-fn page_of(q: usize) -> u32 {
-    let pages = [66u32, 66, 67, 67, 5, 5, 66, 66];
-    pages[q % PLACES]
-}
-
-fn chunk_of(q: usize) -> u32 {
-    let chunks = [0u32, 1, 0, 1, 0, 1, LAST_ADDRESSED, LAST_ADDRESSED + 1];
-    chunks[q % PLACES]
-}
-
-// 0 where the numbers that are read from the head are the head's.
-fn wrong_head(bytes: &[u8], keys: &[u64], order: &[u32], words: &[u64]) -> u64 {
-    let length = reads::dynamic_len(bytes, keys, order, words);
-    let marks = reads::snapshot(bytes, keys, order, words);
-    let l = worse(
-        0,
-        step::widened(length.length),
-        buffers::peek_wide(words, DYNAMIC_LENGTH),
-    );
-    let h = worse(
-        l,
-        step::widened(marks.heap),
-        buffers::peek_wide(words, HEAP_JOURNAL),
-    );
-    worse(
-        h,
-        step::widened(marks.aux),
-        buffers::peek_wide(words, AUX_JOURNAL),
-    )
-}
-
-// 0 for a memory that answers reads as its parts of the buffers say, else 1.
-fn wrong_parts(bytes: &[u8], keys: &[u64], order: &[u32], words: &[u64]) -> u64 {
-    let mut wrong = wrong_head(bytes, keys, order, words);
-    let mut q: usize = 0;
-    while q < PLACES {
-        wrong = worse(
-            wrong,
-            wrong_chunk(bytes, keys, order, words, page_of(q), chunk_of(q)),
-            0,
-        );
-        q += 1;
-    }
-    wrong
-}
-
-// The same for the memory in the leading parts of the buffers.
-pub fn wrong(bytes: &[u8], keys: &[u64], order: &[u32], words: &[u64], lengths: Lengths) -> u64 {
-    let b = buffers::least(lengths.bytes, bytes.len());
-    let k = buffers::least(lengths.keys, keys.len());
-    let o = buffers::least(lengths.order, order.len());
-    let w = buffers::least(lengths.words, words.len());
-    wrong_parts(&bytes[0..b], &keys[0..k], &order[0..o], &words[0..w])
+// Whether a memory answers reads as its parts of the buffers say.
+pub fn shows(parts: Parts<'_>) -> bool {
+    shows_head(parts)
+        && LOOKED_AT
+            .iter()
+            .all(|(page, k)| shows_chunk(parts, *page, *k))
 }

@@ -4,7 +4,7 @@ use mathlib.Core.Path.{◌≡◌, refl, sym, ap, ◌∙◌}
 use mathlib.Core.Logic.{⊎_elim}
 use mathlib.Core.Bool.{Bool, true, false, ◌&&◌, false≢true}
 use mathlib.Core.List.{List, [], ◌∷◌, ◌++◌}
-use mathlib.Core.Option.{some}
+use Rattle.std.specs.Prelude.{Some}
 use Prim.Native.Nat.{ℕ, zero, suc, ◌+◌, ◌*◌, ◌-◌, ◌/◌, ◌%◌, ◌≤◌, ◌<◌, ◌^◌}
 use native.Mathlib.Nat.{zero-mul, pow-zero, pow-suc, div-lt_iff_lt-mul, div-add-mod', mod-lt, lt_of_le_of_lt}
 use native.Mathlib.Omega.{arith}
@@ -118,11 +118,11 @@ module _ (b : ℕ) (two : 1 < b) (small : b ≤ 16) where
   numeral_led m (suc n) l = starts_well (numeral b (suc m) (suc n)) (numeral_starts (suc m) (suc n) (omega arith) l)
 
 -- ---- THE LAWS
-pub decimal_back : (n : ℕ) → n ≤ 4294967295 → decimal (decimal_text n) ≡ some n
+pub decimal_back : (n : ℕ) → n ≤ 4294967295 → decimal (decimal_text n) ≡ Some n
 decimal_back n l =
     let f : n < 10 ^ 64 = lt_of_le_of_lt l (lit< tt) in
     sym (decimal_is (decimal_text n) n (numeral_led 10 (omega arith) (omega arith) 63 n f) (numeral_digital 10 (omega arith) (omega arith) 64 n) (numeral_number 10 (omega arith) (omega arith) 64 n f) l)
 
-pub hexadecimal_back : (n : ℕ) → n < 2 ^ 256 → hexadecimal (hexadecimal_text n) ≡ some n
+pub hexadecimal_back : (n : ℕ) → n < 2 ^ 256 → hexadecimal (hexadecimal_text n) ≡ Some n
 hexadecimal_back n l =
     sym (hexadecimal_is (hexadecimal_text n) n (numeral_led 16 (omega arith) (omega arith) 63 n l) (numeral_digital 16 (omega arith) (omega arith) 64 n) (numeral_number 16 (omega arith) (omega arith) 64 n l) (numeral_length 16 64 n))

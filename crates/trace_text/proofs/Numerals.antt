@@ -13,7 +13,7 @@ use lib.Pointwise.{pointwise}
 use lib.Seq.{take_all}
 use borrow.Author.Tests.{lt-ltb, le-ltb, eq-eqb, ne_eqb}
 use Rattle.word.specs.Value.{value, limbs_value}
-use Rattle.index.proofs.Logic.{lt_or_ge, same_or_not}
+use Rattle.std.proofs.lemmas.Bool.{cases_lt, cases_eq}
 use Rattle.trace_text.specs.Text.{glyph, numeral, decimal_text, Reported, unread, done, word, marks, refused, text_of, Wrote}
 
 -- ---- one digit
@@ -42,7 +42,7 @@ numeral_length b (suc m) n =
     (λ l.
     let h = numeral_length b m (n / b) in
     rw (numeral_more b m n l, length-append (numeral b m (n / b)) (glyph (n % b) ∷ [])) (omega arith))
-    (lt_or_ge n b)
+    (cases_lt n b)
 
 -- ---- the loop
 append_nil : (xs : List ℕ) → xs ++ [] ≡ xs
@@ -72,7 +72,7 @@ module _ (b v r : ℕ) (has : (1 < b) × (b ≤ 16)) (shorter : r ≡ v / b) (te
   below e = let z : v / b * b ≡ 0 = rw (sym shorter ∙ e) (zero-mul b) in let m = mod-lt v {m = b} (omega arith) in let w = div-add-mod' v b in omega arith
 
   above : (r ≡ 0 → ⊥) → b ≤ v
-  above n = ⊎_elim (λ l. absurd (n (shorter ∙ div-eq_of_lt l))) (λ l. l) (lt_or_ge v b)
+  above n = ⊎_elim (λ l. absurd (n (shorter ∙ div-eq_of_lt l))) (λ l. l) (cases_lt v b)
 
   -- it is the first digit
   pub numeral_ends : r ≡ 0 → numeral b i v ++ drop i text ≡ drop (i - 1) (set text (i - 1) g)
@@ -110,8 +110,8 @@ shorter a b c d =
 -- a word is 0 where its limbs are
 sum_zero : (a h : ℕ) (r : Bool) → r ≡ eqb h 0 → (eqb a 0 && r) ≡ eqb (a + 2 ^ 64 * h) 0
 sum_zero a h r e =
-    ⊎_elim (λ (z : a ≡ 0). ap (λ (t : Bool). t && r) (eq-eqb a 0 z) ∙ e ∙ ⊎_elim (λ (y : h ≡ 0). eq-eqb h 0 y ∙ sym (eq-eqb (a + 2 ^ 64 * h) 0 (omega arith))) (λ (n : h ≡ 0 → ⊥). ne_eqb h 0 n ∙ sym (ne_eqb (a + 2 ^ 64 * h) 0 (λ (q : a + 2 ^ 64 * h ≡ 0). n (omega arith)))) (same_or_not h 0))
-    (λ (n : a ≡ 0 → ⊥). ap (λ (t : Bool). t && r) (ne_eqb a 0 n) ∙ sym (ne_eqb (a + 2 ^ 64 * h) 0 (λ (q : a + 2 ^ 64 * h ≡ 0). n (omega arith)))) (same_or_not a 0)
+    ⊎_elim (λ (z : a ≡ 0). ap (λ (t : Bool). t && r) (eq-eqb a 0 z) ∙ e ∙ ⊎_elim (λ (y : h ≡ 0). eq-eqb h 0 y ∙ sym (eq-eqb (a + 2 ^ 64 * h) 0 (omega arith))) (λ (n : h ≡ 0 → ⊥). ne_eqb h 0 n ∙ sym (ne_eqb (a + 2 ^ 64 * h) 0 (λ (q : a + 2 ^ 64 * h ≡ 0). n (omega arith)))) (cases_eq h 0))
+    (λ (n : a ≡ 0 → ⊥). ap (λ (t : Bool). t && r) (ne_eqb a 0 n) ∙ sym (ne_eqb (a + 2 ^ 64 * h) 0 (λ (q : a + 2 ^ 64 * h ≡ 0). n (omega arith)))) (cases_eq a 0)
 
 and-true : (t : Bool) → (t && true) ≡ t
 and-true true = refl

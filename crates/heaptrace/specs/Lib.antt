@@ -1,2 +1,3 @@
--- The definitions that the contracts of this crate cite: what the program keeps.
-pub mod Bounds
+-- The definitions that the contracts of this crate cite: what an answered line does.
+pub mod Puts
+pub mod Answers

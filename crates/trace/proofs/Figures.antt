@@ -1,14 +1,13 @@
 -- Digits and numbers, one byte after the other.
 -- Assumes nothing.
-use mathlib.Core.Path.{◌≡◌, refl}
-use mathlib.Core.Bool.{true, false, not, and-false}
+use mathlib.Core.Path.{◌≡◌}
+use mathlib.Core.Bool.{true, false, and-false}
 use mathlib.Core.List.{List, [], ◌∷◌}
-use mathlib.Core.Option.{none, some}
+use Rattle.std.specs.Prelude.{None, Some}
 use Prim.Native.Nat.{ℕ, ◌+◌, ◌*◌, ◌-◌, ◌≤◌, ◌<◌, ◌^◌}
 use native.Mathlib.Nat.{le_refl, le_trans, pow-suc, pow-le-pow_right, lt_of_lt_of_le}
 use native.Mathlib.Numerals.{add-one}
 use native.Mathlib.Omega.{arith}
-use lib.Dec.{eqb}
 use lib.ListN.{length, get_or, drop}
 use lib.Seq.{drop-cons, drop-length}
 use borrow.Author.Tests.{lt-ltb, le-ltb, le-leb, lt-leb}
@@ -66,54 +65,36 @@ number_grows n (b ∷ bs) = le_trans (up n (digit b)) (number_grows (n * 10 + di
     up : (n d : ℕ) → n ≤ n * 10 + d
     up n d = omega arith
 
--- ---- what leads
-pub led_none : (f : List ℕ) → length f ≡ 0 → false ≡ led_well f
-unfolding led_well
-led_none [] e = refl
-led_none (b ∷ bs) e = let z : ◌≡◌ {A = ℕ} 0 1 = omega arith in absurd (omega arith)
-
-pub led_one : (f : List ℕ) → length f ≡ 1 → true ≡ led_well f
-unfolding led_well
-led_one [] e = absurd (omega arith)
-led_one (b ∷ []) e = refl
-led_one (b ∷ c ∷ bs) e = absurd (omega arith)
-
-pub led_more : (f : List ℕ) → (length f ≡ 0 → ⊥) → (length f ≡ 1 → ⊥) → not (eqb (get_or f 0 0) 48) ≡ led_well f
-unfolding led_well
-led_more [] n m = absurd (n refl)
-led_more (b ∷ []) n m = absurd (m refl)
-led_more (b ∷ c ∷ bs) n m = refl
-
 -- ---- fields as numbers
-pub decimal_led : (f : List ℕ) → led_well f ≡ false → none ≡ decimal f
+pub decimal_led : (f : List ℕ) → led_well f ≡ false → None ≡ decimal f
 unfolding decimal
 decimal_led f e = rw e
 
-pub decimal_digit : (f : List ℕ) → digital 10 f ≡ false → none ≡ decimal f
+pub decimal_digit : (f : List ℕ) → digital 10 f ≡ false → None ≡ decimal f
 unfolding decimal
 decimal_digit f e = rw (e, and-false (led_well f))
 
-pub decimal_wide : (f : List ℕ) → 4294967295 < numeral_value 10 f → none ≡ decimal f
+pub decimal_wide : (f : List ℕ) → 4294967295 < numeral_value 10 f → None ≡ decimal f
 unfolding decimal
 decimal_wide f l = rw (lt-leb (numeral_value 10 f) 4294967295 l, and-false (digital 10 f), and-false (led_well f))
 
-pub decimal_is : (f : List ℕ) (n : ℕ) → led_well f ≡ true → digital 10 f ≡ true → numeral_value 10 f ≡ n → n ≤ 4294967295 → some n ≡ decimal f
+pub decimal_is : (f : List ℕ) (n : ℕ) → led_well f ≡ true → digital 10 f ≡ true → numeral_value 10 f ≡ n → n ≤ 4294967295 → Some n ≡ decimal f
 unfolding decimal
 decimal_is f n e d q l = rw (e, d, q, le-leb n 4294967295 l)
 
-pub hexadecimal_led : (f : List ℕ) → led_well f ≡ false → none ≡ hexadecimal f
+pub hexadecimal_led : (f : List ℕ) → led_well f ≡ false → None ≡ hexadecimal f
 unfolding hexadecimal
 hexadecimal_led f e = rw e
 
-pub hexadecimal_digit : (f : List ℕ) → digital 16 f ≡ false → none ≡ hexadecimal f
+pub hexadecimal_digit : (f : List ℕ) → digital 16 f ≡ false → None ≡ hexadecimal f
 unfolding hexadecimal
 hexadecimal_digit f e = rw (e, and-false (led_well f))
 
-pub hexadecimal_long : (f : List ℕ) → 64 < length f → none ≡ hexadecimal f
+pub hexadecimal_long : (f : List ℕ) → 64 < length f → None ≡ hexadecimal f
 unfolding hexadecimal
 hexadecimal_long f l = rw (lt-leb (length f) 64 l, and-false (digital 16 f), and-false (led_well f))
 
-pub hexadecimal_is : (f : List ℕ) (n : ℕ) → led_well f ≡ true → digital 16 f ≡ true → numeral_value 16 f ≡ n → length f ≤ 64 → some n ≡ hexadecimal f
+pub hexadecimal_is : (f : List ℕ) (n : ℕ) → led_well f ≡ true → digital 16 f ≡ true → numeral_value 16 f ≡ n → length f ≤ 64 → Some n ≡ hexadecimal f
 unfolding hexadecimal
 hexadecimal_is f n e d q l = rw (e, d, q, le-leb (length f) 64 l)
 

@@ -1,5 +1,5 @@
 -- The laws that the proofs of this crate share.
-pub mod Fields
+pub mod Spaces
 pub mod Figures
 pub mod Shifts
 pub mod Lines

@@ -2,22 +2,23 @@
 -- Assumes nothing.
 use mathlib.Core.Path.{◌≡◌, refl, sym, ap, ◌∙◌}
 use mathlib.Core.Logic.{⊎_elim}
-use mathlib.Core.Bool.{false}
+use mathlib.Core.Bool.{Bool, true, false}
 use mathlib.Core.List.{List, [], ◌∷◌}
-use mathlib.Core.Option.{Option, none, some}
+use Rattle.std.specs.Prelude.{Option, None}
 use Prim.Native.Nat.{ℕ, ◌+◌, ◌*◌, ◌≤◌, ◌<◌, ◌^◌}
 use native.Mathlib.Nat.{le_trans, pow-succ', pow-le-pow_right, mul-le-mul_right, mul_assoc}
 use native.Mathlib.Omega.{arith}
 use lib.ListN.{length, take}
 use lib.Seq.{take_all, length-take-le}
+use lib.Dec.{eqb}
+use lib.Pointwise.{pointwise_long}
 use borrow.Author.Tests.{eq-eqb, ne_eqb}
-use Rattle.trace.specs.declared.Kind.{Kind}
-use Rattle.trace.specs.declared.Kind.TheVariants.{Unread, Open, Write, Read, Snapshot, Rollback}
-use Rattle.trace.specs.Language.{unread, fields, on_first, digit, number_after, numeral_value, led_well, decimal, hexadecimal, line_kind, form_of, numbers, line_if, line_of_fields, meaning}
-use Rattle.trace.proofs.Fields.{same_lengths_lem}
+use Rattle.std.specs.Str.{bytes_eq}
+use Rattle.trace.specs.Language.{Kind, Unread, Open, Write, Read, Snapshot, Rollback}
+use Rattle.trace.specs.Language.{unread, fields, on_first, digit, number_after, numeral_value, led_well, decimal, hexadecimal, line_kind, form_of, numbers, line_of_fields, meaning}
 use Rattle.trace.proofs.Figures.{decimal_led, decimal_wide, hexadecimal_long, digit_low, digit_figure, digit_gap, digit_letter, digit_high}
-use Rattle.index.proofs.Logic.{lt_or_ge, same_or_not}
-use Rattle.trace.proofs.Lines.{kind_none, also_none}
+use Rattle.std.proofs.lemmas.Bool.{cases_lt, cases_eq}
+use Rattle.trace.proofs.Lines.{no_line, also_none}
 
 -- ---- a decimal has ten digits at most
 -- only `0` stands for 0
@@ -25,11 +26,11 @@ digit_zero : (b : ℕ) → digit b ≡ 0 → b ≡ 48
 digit_zero b e =
     ⊎_elim (λ l. let h = digit_low b l in absurd (omega arith))
     (λ l. ⊎_elim (λ m. ⊎_elim (λ n. let h = digit_gap b m n in absurd (omega arith))
-    (λ n. ⊎_elim (λ o. let h = digit_high b o in absurd (omega arith)) (λ o. let h = digit_letter b n o in absurd (omega arith)) (lt_or_ge 102 b))
-    (lt_or_ge b 97))
+    (λ n. ⊎_elim (λ o. let h = digit_high b o in absurd (omega arith)) (λ o. let h = digit_letter b n o in absurd (omega arith)) (cases_lt 102 b))
+    (cases_lt b 97))
     (λ m. let h = digit_figure b l m in omega arith)
-    (lt_or_ge 57 b))
-    (lt_or_ge b 48)
+    (cases_lt 57 b))
+    (cases_lt b 48)
 
 number_scale : (n : ℕ) (f : List ℕ) → n * 10 ^ length f ≤ number_after 10 n f
 unfolding number_after
@@ -41,7 +42,7 @@ number_scale n (b ∷ bs) =
     up n d = omega arith
 
 first_positive : (b : ℕ) → (b ≡ 48 → ⊥) → 1 ≤ 0 * 10 + digit b
-first_positive b n = ⊎_elim (λ e. absurd (n (digit_zero b e))) (λ p. omega arith) (same_or_not (digit b) 0)
+first_positive b n = ⊎_elim (λ e. absurd (n (digit_zero b e))) (λ p. omega arith) (cases_eq (digit b) 0)
 
 -- eleven digits that are led well make a number above the limit
 wide_number : (b : ℕ) (bs : List ℕ) → 10 ≤ length bs → (b ≡ 48 → ⊥) → 4294967295 < numeral_value 10 (b ∷ bs)
@@ -56,13 +57,13 @@ led_zero : (b c : ℕ) (bs : List ℕ) → b ≡ 48 → led_well (b ∷ c ∷ bs
 unfolding led_well
 led_zero b c bs e = rw (eq-eqb b 48 e)
 
-pub decimal_short : (f : List ℕ) → 11 < length f + 1 → decimal f ≡ none
+pub decimal_short : (f : List ℕ) → 11 < length f + 1 → decimal f ≡ None
 decimal_short [] l = absurd (omega arith)
 decimal_short (b ∷ []) l = absurd (omega arith)
 decimal_short (b ∷ c ∷ bs) l =
-    ⊎_elim (λ e. sym (decimal_led (b ∷ c ∷ bs) (led_zero b c bs e))) (λ n. sym (decimal_wide (b ∷ c ∷ bs) (wide_number b (c ∷ bs) (omega arith) n))) (same_or_not b 48)
+    ⊎_elim (λ e. sym (decimal_led (b ∷ c ∷ bs) (led_zero b c bs e))) (λ n. sym (decimal_wide (b ∷ c ∷ bs) (wide_number b (c ∷ bs) (omega arith) n))) (cases_eq b 48)
 
-pub hexadecimal_short : (f : List ℕ) → 65 < length f + 1 → hexadecimal f ≡ none
+pub hexadecimal_short : (f : List ℕ) → 65 < length f + 1 → hexadecimal f ≡ None
 hexadecimal_short f l = sym (hexadecimal_long f (omega arith))
 
 -- ---- fields and the spaces between them
@@ -80,20 +81,20 @@ unfolding spread fields
 fields_spread [] = refl
 fields_spread (b ∷ bs) =
     let h = fields_spread bs in
-    ⊎_elim (λ e. rw (eq-eqb b 32 e) (omega arith)) (λ n. rw (ne_eqb b 32 n) (let g = on_first_lem b (fields bs) (omega arith) in omega arith)) (same_or_not b 32)
+    ⊎_elim (λ e. rw (eq-eqb b 32 e) (omega arith)) (λ n. rw (ne_eqb b 32 n) (let g = on_first_lem b (fields bs) (omega arith) in omega arith)) (cases_eq b 32)
 
 -- ---- forms and the widths of what they read, with a space before each
 data Fits : List (List ℕ → Option ℕ) → ℕ → Type 0 where
   nothing : Fits [] 0
-  one : {form : List ℕ → Option ℕ} {forms : List (List ℕ → Option ℕ)} {w n : ℕ} → ((f : List ℕ) → w < length f + 1 → form f ≡ none) → Fits forms n → Fits (form ∷ forms) (w + n)
+  one : {form : List ℕ → Option ℕ} {forms : List (List ℕ → Option ℕ)} {w n : ℕ} → ((f : List ℕ) → w < length f + 1 → form f ≡ None) → Fits forms n → Fits (form ∷ forms) (w + n)
 
-wide_none : {forms : List (List ℕ → Option ℕ)} {n : ℕ} → Fits forms n → (fs : List (List ℕ)) → n < spread fs → numbers forms fs ≡ none
+wide_none : {forms : List (List ℕ → Option ℕ)} {n : ℕ} → Fits forms n → (fs : List (List ℕ)) → n < spread fs → numbers forms fs ≡ None
 unfolding spread
 wide_none nothing [] l = absurd (omega arith)
 wide_none nothing (f ∷ fs) l = refl
 wide_none (one short rest) [] l = refl
 wide_none (one {form} {forms} {w} {n} short rest) (f ∷ fs) l =
-    ⊎_elim (λ g. rw (short f g)) (λ g. rw (wide_none rest fs (omega arith)) (also_none (form f))) (lt_or_ge w (length f + 1))
+    ⊎_elim (λ g. rw (short f g)) (λ g. rw (wide_none rest fs (omega arith)) (also_none (form f))) (cases_lt w (length f + 1))
 
 width : Kind → ℕ
 width Open = 11 + (11 + (11 + (11 + (11 + (11 + (11 + (11 + (11 + 0))))))))
@@ -125,23 +126,25 @@ width_le Rollback = omega arith
 width_le Unread = omega arith
 
 -- ---- names
-long_name : (n : List ℕ) → 4 < length n → line_kind n ≡ Unread
-long_name n l =
-    sym
-    (kind_none n (sym (same_lengths_lem n (111 ∷ 112 ∷ 101 ∷ 110 ∷ []) (λ e. omega arith))) (sym (same_lengths_lem n (119 ∷ []) (λ e. omega arith)))
-    (sym (same_lengths_lem n (114 ∷ []) (λ e. omega arith))) (sym (same_lengths_lem n (115 ∷ []) (λ e. omega arith))) (sym (same_lengths_lem n (98 ∷ []) (λ e. omega arith))))
+other_name : (n name : List ℕ) → length name < length n → bytes_eq n name ≡ false
+other_name n name l = not_same (bytes_eq n name) refl
+  where
+    not_same : (t : Bool) → bytes_eq n name ≡ t → t ≡ false
+    not_same true e = let h = pointwise_long eqb n name e in absurd (omega arith)
+    not_same false e = refl
 
-no_kind : (x : Option (List ℕ)) → line_if Unread x ≡ unread
-no_kind none = refl
-no_kind (some ns) = refl
+long_name : (n : List ℕ) → 4 < length n → line_kind n ≡ Unread
+unfolding line_kind
+long_name n l =
+    rw (other_name n (111 ∷ 112 ∷ 101 ∷ 110 ∷ []) l, other_name n (119 ∷ []) (omega arith), other_name n (114 ∷ []) (omega arith), other_name n (115 ∷ []) (omega arith), other_name n (98 ∷ []) (omega arith))
 
 wide_line : (fs : List (List ℕ)) → 104 < spread fs → line_of_fields fs ≡ unread
 unfolding spread
 wide_line [] l = absurd (omega arith)
 wide_line (name ∷ rest) l =
-    ⊎_elim (λ g. rw (long_name name g) (no_kind (numbers [] rest)))
+    ⊎_elim (λ g. rw (long_name name g) (no_line (numbers [] rest)))
     (λ g. rw (wide_none (form_fits (line_kind name)) rest (let h = width_le (line_kind name) in omega arith)))
-    (lt_or_ge 4 (length name))
+    (cases_lt 4 (length name))
 
 -- ---- THE LAWS
 pub too_long : (line : List ℕ) → 103 < length line → meaning line ≡ unread
@@ -151,4 +154,4 @@ pub cut : (line : List ℕ) → meaning (take 104 line) ≡ meaning line
 cut line =
     ⊎_elim (λ g. let h = length-take-le 104 line (omega arith) in too_long (take 104 line) (omega arith) ∙ sym (too_long line (omega arith)))
     (λ g. ap meaning (take_all 104 line g))
-    (lt_or_ge 104 (length line))
+    (cases_lt 104 (length line))

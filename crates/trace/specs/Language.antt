@@ -1,11 +1,10 @@
 -- THE LANGUAGE of traces: what a line means. Document 01, 'The trace program'.
 -- Assumes nothing.
-use Rattle.std.specs.Prelude.{Bool, true, false, cond, not, ◌&&◌, List, [], ◌∷◌, ℕ, ◌+◌, ◌*◌, ◌-◌, eqb, leb, ltb, length, get_or, replicate}
-use Rattle.std.proofs.Math.Option.{Option, none, some}
+use Rattle.std.specs.Prelude.{Bool, true, false, cond, not, ◌&&◌, List, [], ◌∷◌, ℕ, ◌+◌, ◌*◌, ◌-◌, eqb, leb, ltb, length, get_or, replicate, Option, None, Some}
+use Rattle.std.specs.Str.{bytes_eq}
 use Rattle.word.specs.Value.{value}
-use Rattle.trace.specs.declared.Kind.{Kind}
-use Rattle.trace.specs.declared.Kind.TheVariants.{Unread, Open, Write, Read, Snapshot, Rollback}
 use Rattle.trace.specs.declared.Command.{Command}
+use Rattle.trace.specs.declared.Command.TheVariants as command
 
 -- A line is a list of bytes, its end not among them. This is what it asks.
 pub data Line : Type 0 where
@@ -28,7 +27,7 @@ fields [] = [] ∷ []
 fields (b ∷ bs) = cond (eqb b 32) ([] ∷ fields bs) (on_first b (fields bs))
 
 -- ---- numbers
--- the digit that a byte stands for: `0` to `9`, and `a` to `f` for 10 to 15; 16 says that it stands for none
+-- the digit that a byte stands for: `0` to `9`, and `a` to `f` for 10 to 15; 16 says that it stands for None
 unfoldable pub digit : ℕ → ℕ
 digit b = cond (leb 48 b && leb b 57) (b - 48) (cond (leb 97 b && leb b 102) (b - 87) 16)
 
@@ -51,26 +50,29 @@ led_well (b ∷ []) = true
 led_well (b ∷ c ∷ bs) = not (eqb b 48)
 
 unfoldable pub decimal : List ℕ → Option ℕ
-decimal f = cond (led_well f && (digital 10 f && leb (numeral_value 10 f) 4294967295)) (some (numeral_value 10 f)) none
+decimal f = cond (led_well f && (digital 10 f && leb (numeral_value 10 f) 4294967295)) (Some (numeral_value 10 f)) None
 
 unfoldable pub hexadecimal : List ℕ → Option ℕ
-hexadecimal f = cond (led_well f && (digital 16 f && leb (length f) 64)) (some (numeral_value 16 f)) none
+hexadecimal f = cond (led_well f && (digital 16 f && leb (length f) 64)) (Some (numeral_value 16 f)) None
 
 -- ---- lines
-abbrev pub same_bytes : List ℕ → List ℕ → Bool
-same_bytes [] [] = true
-same_bytes [] (c ∷ cs) = false
-same_bytes (b ∷ bs) [] = false
-same_bytes (b ∷ bs) (c ∷ cs) = eqb b c && same_bytes bs cs
+-- the form of a line
+pub data Kind : Type 0 where
+  Unread : Kind
+  Open : Kind
+  Write : Kind
+  Read : Kind
+  Snapshot : Kind
+  Rollback : Kind
 
 -- `open`, `w`, `r`, `s`, `b`
 unfoldable pub line_kind : List ℕ → Kind
 line_kind name =
-    cond (same_bytes name (111 ∷ 112 ∷ 101 ∷ 110 ∷ [])) Open
-    (cond (same_bytes name (119 ∷ [])) Write
-    (cond (same_bytes name (114 ∷ [])) Read
-    (cond (same_bytes name (115 ∷ [])) Snapshot
-    (cond (same_bytes name (98 ∷ [])) Rollback Unread))))
+    cond (bytes_eq name (111 ∷ 112 ∷ 101 ∷ 110 ∷ [])) Open
+    (cond (bytes_eq name (119 ∷ [])) Write
+    (cond (bytes_eq name (114 ∷ [])) Read
+    (cond (bytes_eq name (115 ∷ [])) Snapshot
+    (cond (bytes_eq name (98 ∷ [])) Rollback Unread))))
 
 -- what stands after the name, field by field
 abbrev pub form_of : Kind → List (List ℕ → Option ℕ)
@@ -82,15 +84,15 @@ form_of Rollback = decimal ∷ decimal ∷ []
 form_of Unread = []
 
 abbrev pub also : Option ℕ → Option (List ℕ) → Option (List ℕ)
-also none ns = none
-also (some n) none = none
-also (some n) (some ns) = some (n ∷ ns)
+also None ns = None
+also (Some n) None = None
+also (Some n) (Some ns) = Some (n ∷ ns)
 
--- the fields' numbers; none where a field is not of its form, or there are more fields or fewer
+-- the fields' numbers; None where a field is not of its form, or there are more fields or fewer
 abbrev pub numbers : List (List ℕ → Option ℕ) → List (List ℕ) → Option (List ℕ)
-numbers [] [] = some []
-numbers [] (f ∷ fs) = none
-numbers (form ∷ forms) [] = none
+numbers [] [] = Some []
+numbers [] (f ∷ fs) = None
+numbers (form ∷ forms) [] = None
 numbers (form ∷ forms) (f ∷ fs) = also (form f) (numbers forms fs)
 
 -- the line of a kind with these numbers
@@ -104,8 +106,8 @@ line_of Rollback ns = rolls_back (get_or ns 0 0) (get_or ns 1 0)
 line_of Unread ns = unread
 
 abbrev pub line_if : Kind → Option (List ℕ) → Line
-line_if k none = unread
-line_if k (some ns) = line_of k ns
+line_if k None = unread
+line_if k (Some ns) = line_of k ns
 
 abbrev pub line_of_fields : List (List ℕ) → Line
 line_of_fields [] = unread
@@ -116,14 +118,15 @@ abbrev pub meaning : List ℕ → Line
 meaning line = line_of_fields (fields line)
 
 -- ---- what the code gives
--- the line that a command stands for: its numbers in their order, and the word of a write beside them
-abbrev pub command_line : Kind → List ℕ → ℕ → Line
-command_line Open ns w = line_of Open ns
-command_line Write ns w = writes (get_or ns 0 0) (get_or ns 1 0) w
-command_line Read ns w = line_of Read ns
-command_line Snapshot ns w = takes_snapshot
-command_line Rollback ns w = line_of Rollback ns
-command_line Unread ns w = unread
+abbrev pub command_line : Command → Line
+command_line (command.Open o) =
+    opens o.static_memory o.calldata o.bootloader_heap o.bootloader_aux o.base o.stride o.counts.chunks o.counts.pages o.counts.journal_words
+command_line (command.Write page address word) = writes page address (value word.limbs)
+command_line (command.Read page address) = reads page address
+command_line command.Snapshot = takes_snapshot
+command_line (command.Rollback heap aux) = rolls_back heap aux
 
-abbrev pub command_of : Command → Line
-command_of c = command_line c.kind c.numbers (value c.word.limbs)
+-- the line that a command stands for; there is none where the line is not read
+abbrev pub command_of : Option Command → Line
+command_of None = unread
+command_of (Some c) = command_line c

@@ -1,57 +1,49 @@
 -- What the steps of reading a line do.
 -- Assumes nothing.
-use Rattle.std.specs.Prelude.{◌≡◌, Bool, true, false, cond, List, [], ◌∷◌, ◌++◌, ℕ, suc, eqb, leb, length, take, drop, replicate}
-use Rattle.std.proofs.Math.Option.{Option, none, some}
+use Rattle.std.specs.Prelude.{◌≡◌, List, [], ◌∷◌, ◌++◌, ℕ, replicate, Option, None, Some, option_map}
+use Rattle.std.specs.Borrow.{Bor}
 use Rattle.word.specs.Value.{value}
-use Rattle.trace.specs.declared.Kind.{Kind}
-use Rattle.trace.specs.declared.Kind.TheVariants.{Unread, Open, Write, Read, Snapshot, Rollback}
-use Rattle.trace.specs.declared.Number.{Number}
-use Rattle.trace.specs.declared.WordNumber.{WordNumber}
-use Rattle.trace.specs.declared.Numbers.{Numbers}
-use Rattle.trace.specs.Language.{fields, decimal, hexadecimal, numbers}
+use Rattle.word.specs.declared.Word.{Word}
+use Rattle.trace.specs.declared.Fields.{Fields}
+use Rattle.trace.specs.declared.Command.{Command}
+use Rattle.trace.specs.Language.{Line, unread, fields, decimal, numbers, Kind, form_of, line_if, command_line}
 
--- how many bytes stand before the first space, or before the end
-unfoldable pub space_at : List ℕ → ℕ
-space_at [] = 0
-space_at (b ∷ bs) = cond (eqb b 32) 0 (suc (space_at bs))
+-- the fields that are left; after the last there are none
+abbrev pub fields_if : Option (Bor (List ℕ)) → List (List ℕ)
+fields_if None = []
+fields_if (Some line) = fields line.now
 
--- the fields from place `at` on; past the end there are none
-abbrev pub fields_from : List ℕ → ℕ → List (List ℕ)
-fields_from line at = cond (leb at (length line)) (fields (drop at line)) []
+abbrev pub fields_left : Fields → List (List ℕ)
+fields_left fs = fields_if fs.left
 
--- a number that may be missing
-abbrev pub number_if : Bool → ℕ → Option ℕ
-number_if true n = some n
-number_if false n = none
+-- a field, if there is one, before others
+abbrev pub before : Option (Bor (List ℕ)) → List (List ℕ) → List (List ℕ)
+before None fs = []
+before (Some f) fs = f.now ∷ fs
 
-abbrev pub parsed_number : Number → Option ℕ
-parsed_number r = number_if r.ok r.value
-
-abbrev pub parsed_word : WordNumber → Option ℕ
-parsed_word r = number_if r.ok (value r.word.limbs)
-
+-- numbers, if they are there, before others
 abbrev pub ahead : List ℕ → Option (List ℕ) → Option (List ℕ)
-ahead ms none = none
-ahead ms (some ns) = some (ms ++ ns)
+ahead ms None = None
+ahead ms (Some ns) = Some (ms ++ ns)
 
--- n decimals are read from place `at` on: those that r has, and what is left starts at its place; or one of the n fields is no decimal, or is missing
-pub record Decimals (line : List ℕ) (at n : ℕ) (r : Numbers) : Type 0 where
-  pub good : r.ok ≡ true → (forms : List (List ℕ → Option ℕ)) → numbers (replicate n decimal ++ forms) (fields_from line at) ≡ ahead (take n r.values) (numbers forms (fields_from line r.at))
-  pub bad : r.ok ≡ false → (forms : List (List ℕ → Option ℕ)) → numbers (replicate n decimal ++ forms) (fields_from line at) ≡ none
+abbrev pub ahead_if : Option (List ℕ) → Option (List ℕ) → Option (List ℕ)
+ahead_if None ns = None
+ahead_if (Some ms) ns = ahead ms ns
 
--- how many decimals a kind has, and what stands after them
-abbrev pub count_of : Kind → ℕ
-count_of Open = 9
-count_of Write = 2
-count_of Read = 2
-count_of Snapshot = 0
-count_of Rollback = 2
-count_of Unread = 0
+-- n decimals are read: those that r has, and gs is left of the fields fs; or one of the n fields is no decimal, or is missing
+abbrev pub Decimals : (n : ℕ) (fs : List (List ℕ)) (r : Option (List ℕ)) (gs : List (List ℕ)) → Type 0
+Decimals n fs r gs = (forms : List (List ℕ → Option ℕ)) → numbers (replicate n decimal ++ forms) fs ≡ ahead_if r (numbers forms gs)
 
-abbrev pub after_of : Kind → List (List ℕ → Option ℕ)
-after_of Open = []
-after_of Write = hexadecimal ∷ []
-after_of Read = []
-after_of Snapshot = []
-after_of Rollback = []
-after_of Unread = []
+-- a word's number
+abbrev pub word_number : Option Word → Option ℕ
+word_number w = option_map (λ w. value w.limbs) w
+
+-- the line of a command, if no fields are left
+abbrev pub ended : Option Command → Option (List ℕ) → Line
+ended None ns = unread
+ended (Some c) None = unread
+ended (Some c) (Some ns) = command_line c
+
+-- a command of kind k is read: gs is left of the fields fs
+abbrev pub Reads : (k : Kind) (fs : List (List ℕ)) (r : Option Command) (gs : List (List ℕ)) → Type 0
+Reads k fs r gs = line_if k (numbers (form_of k) fs) ≡ ended r (numbers [] gs)

@@ -1,348 +1,250 @@
-// Reads a line of a trace: specs/Language.antt says what a line means. The module `text` writes the answers.
+// Reads a line of a trace: specs/Language.antt says what a line means. The crate `trace_text` writes the answers.
 #![tactic(auto)]
 
-ghost use Rattle.std.specs.Prelude.{◌≡◌, [], ◌∷◌, ◌+◌, ◌*◌, ◌≤◌, ◌<◌, ◌^◌, length, take, drop};
-ghost use Rattle.std.proofs.Math.Option.{none};
-ghost use Rattle.word.specs.Value.{value, limbs_value};
+ghost use Rattle.std.specs.Prelude.{◌≡◌, ◌+◌, ◌*◌, ◌<◌, ◌^◌, ◌==◌, length, SomeIff, IfSome};
+ghost use Rattle.std.specs.List.{position};
+ghost use Rattle.word.specs.Value.{value};
 ghost use Rattle.trace.specs.Language as language;
-ghost use Rattle.trace.specs.Language.{line_kind, led_well, meaning, command_of, line_if, numbers, hexadecimal as hexadecimal_of};
-ghost use Rattle.trace.specs.Reading.{space_at, fields_from, parsed_number, parsed_word, ahead, Decimals, count_of};
+ghost use Rattle.trace.specs.Language.{line_kind, led_well, meaning, command_of, hexadecimal as hexadecimal_of};
+ghost use Rattle.trace.specs.Reading.{fields_left, before, Decimals, word_number, Reads};
 
 use word::Word;
 
-// The form of a line.
+// The counts of a memory.
 #[derive(Clone, Copy)]
-pub enum Kind {
-    Unread,
-    Open,
-    Write,
-    Read,
+pub struct Counts {
+    pub chunks: u32,
+    pub pages: u32,
+    pub journal_words: u32,
+}
+
+// A memory that is asked for: the four fixed ids, base and stride, and the counts.
+#[derive(Clone, Copy)]
+pub struct Opening {
+    pub static_memory: u32,
+    pub calldata: u32,
+    pub bootloader_heap: u32,
+    pub bootloader_aux: u32,
+    pub base: u32,
+    pub stride: u32,
+    pub counts: Counts,
+}
+
+// What a line asks.
+#[derive(Clone, Copy)]
+pub enum Command {
+    Open(Opening),
+    Write { page: u32, address: u32, word: Word },
+    Read { page: u32, address: u32 },
     Snapshot,
-    Rollback,
-}
-
-// What a line asks: the numbers of its form, in their order, and the word of a write.
-#[derive(Clone, Copy)]
-pub struct Command {
-    pub kind: Kind,
-    pub numbers: [u32; 9],
-    pub word: Word,
-}
-
-// A number, if there is one.
-#[derive(Clone, Copy)]
-pub struct Number {
-    pub ok: bool,
-    pub value: u32,
-}
-
-#[derive(Clone, Copy)]
-pub struct WordNumber {
-    pub ok: bool,
-    pub word: Word,
-}
-
-// Numbers, if all of them are there, and the place after them.
-#[derive(Clone, Copy)]
-pub struct Numbers {
-    pub ok: bool,
-    pub values: [u32; 9],
-    pub at: usize,
-}
-
-// ---- fields
-
-// The first space from place `from` on, or the end.
-fn field_end(line: &[u8], from: usize) -> usize
-    requires { from ≤ length line.now }
-    ensures { (result ≡ from + space_at (drop from line.now)) × (from ≤ result) × (result ≤ length line.now) }
-{
-    let mut i = from;
-    while i < line.len() {
-        if line[i] == b' ' {
-            return i;
-        }
-        i += 1;
-    }
-    i
-}
-
-fn same(a: &[u8], b: &[u8]) -> bool
-    ensures { result ≡ language.same_bytes a.now b.now }
-{
-    if a.len() != b.len() {
-        return false;
-    }
-    let mut i = 0;
-    while i < a.len() {
-        if a[i] != b[i] {
-            return false;
-        }
-        i += 1;
-    }
-    true
-}
-
-// The kind that a name stands for.
-fn kind_of(name: &[u8]) -> Kind
-    ensures { result ≡ line_kind name.now }
-{
-    if same(name, b"open") {
-        return Kind::Open;
-    }
-    if same(name, b"w") {
-        return Kind::Write;
-    }
-    if same(name, b"r") {
-        return Kind::Read;
-    }
-    if same(name, b"s") {
-        return Kind::Snapshot;
-    }
-    if same(name, b"b") {
-        return Kind::Rollback;
-    }
-    Kind::Unread
+    Rollback { heap: u32, aux: u32 },
 }
 
 // ---- numbers
 
-// The digit that a byte stands for, or 16.
+// The digit that a byte stands for.
 #[tactic(auto, unfolding(crate::specs::Language::digit))]
-fn digit(b: u8) -> u64
-    ensures { result ≡ language.digit b }
+fn digit(byte: u8) -> Option<u64>
+    ensures { SomeIff result (language.digit byte < 16) (language.digit byte) }
 {
-    if b < 48 {
-        return 16;
+    match byte {
+        b'0'..=b'9' => Some(u64::from(byte - b'0')),
+        b'a'..=b'f' => Some(u64::from(byte - b'a' + 10)),
+        _ => None,
     }
-    if b <= 57 {
-        return (b - 48) as u64;
-    }
-    if b < 97 {
-        return 16;
-    }
-    if b <= 102 {
-        return (b - 87) as u64;
-    }
-    16
 }
 
 // Whether there is a digit, and no zero leads another.
+#[tactic(auto, unfolding(crate::specs::Language::led_well))]
 fn led_well(field: &[u8]) -> bool
     ensures { result ≡ led_well field.now }
 {
-    if field.len() == 0 {
-        return false;
+    match field {
+        [] => false,
+        [_] => true,
+        [first, ..] => *first != b'0',
     }
-    if field.len() == 1 {
-        return true;
-    }
-    field[0] != b'0'
 }
+
+// The largest number of 32 bits.
+const LARGEST: u64 = 4294967295;
 
 // A field as a decimal number of 32 bits.
-fn decimal(field: &[u8]) -> Number
-    ensures { parsed_number result ≡ language.decimal field.now }
+fn decimal(field: &[u8]) -> Option<u32>
+    ensures { result ≡ language.decimal field.now }
 {
-    let no = Number {
-        ok: false,
-        value: 0,
-    };
     if !led_well(field) {
-        return no;
+        return None;
     }
     let mut n: u64 = 0;
-    let mut i = 0;
-    while i < field.len() {
-        let d = digit(field[i]);
-        if 10 <= d {
-            return no;
+    for byte in field {
+        let d = digit(*byte)?;
+        if d >= 10 {
+            return None;
         }
         n = n * 10 + d;
-        if 4294967295 < n {
-            return no;
+        if n > LARGEST {
+            return None;
         }
-        i += 1;
     }
-    Number {
-        ok: true,
-        value: n as u32,
-    }
+    Some(n as u32)
 }
 
-// The word of four limbs and one hexadecimal digit more at its low end.
-fn longer(a: u64, b: u64, c: u64, d: u64, low: u64) -> Word
-    requires { (limbs_value a b c d < 16 ^ 63) × (low < 16) }
-    ensures { value result.limbs ≡ limbs_value a b c d * 16 + low }
-{
-    let m = [
-        (a % 1152921504606846976) * 16 + low,
-        (b % 1152921504606846976) * 16 + a / 1152921504606846976,
-        (c % 1152921504606846976) * 16 + b / 1152921504606846976,
-        (d % 1152921504606846976) * 16 + c / 1152921504606846976,
-    ];
-    Word { limbs: m }
-}
-
+// The word with one hexadecimal digit more at its low end.
 fn lengthened(w: Word, low: u64) -> Word
     requires { (value w.limbs < 16 ^ 63) × (low < 16) }
     ensures { value result.limbs ≡ value w.limbs * 16 + low }
 {
-    let l = w.limbs;
-    longer(l[0], l[1], l[2], l[3], low)
-}
-
-// No word: 0, and not ok.
-fn no_word() -> WordNumber
-    ensures { (parsed_word result ≡ none) × (value result.word.limbs ≡ 0) }
-{
-    let limbs = [0u64; 4];
-    WordNumber {
-        ok: false,
-        word: Word { limbs: limbs },
+    let [a, b, c, d] = w.limbs;
+    Word {
+        limbs: [
+            a % (1 << 60) * 16 + low,
+            b % (1 << 60) * 16 + a / (1 << 60),
+            c % (1 << 60) * 16 + b / (1 << 60),
+            d % (1 << 60) * 16 + c / (1 << 60),
+        ],
     }
 }
 
 // A field as a hexadecimal number of 256 bits.
-fn hexadecimal(field: &[u8]) -> WordNumber
-    ensures { parsed_word result ≡ hexadecimal_of field.now }
+fn hexadecimal(field: &[u8]) -> Option<Word>
+    ensures { word_number result ≡ hexadecimal_of field.now }
 {
-    let no = no_word();
-    if !led_well(field) {
-        return no;
+    if !led_well(field) || field.len() > 64 {
+        return None;
     }
-    if 64 < field.len() {
-        return no;
+    let mut word = Word { limbs: [0; 4] };
+    for byte in field {
+        word = lengthened(word, digit(*byte)?);
     }
-    let mut w = no.word;
-    let mut i = 0;
-    while i < field.len() {
-        let d = digit(field[i]);
-        if 16 <= d {
-            return no;
-        }
-        w = lengthened(w, d);
-        i += 1;
-    }
-    WordNumber { ok: true, word: w }
+    Some(word)
 }
 
 // ---- lines
 
-// The n decimals that stand from place `from` on.
-fn decimals(line: &[u8], from: usize, n: usize) -> Numbers
-    requires { n ≤ 9 }
-    ensures { Decimals line.now from n result }
+// The fields of a line that are not read yet, with the spaces between them: none after the last.
+#[derive(Drop)]
+struct Fields<'a> {
+    left: Option<&'a [u8]>,
+}
+
+// The place of the first space.
+fn first_space(line: &[u8]) -> Option<usize>
+    ensures { result ≡ position (λ b. b == 32) line.now }
 {
-    let mut values = [0u32; 9];
-    let mut at = from;
-    let mut i = 0;
-    while i < n {
-        if line.len() < at {
-            return Numbers {
-                ok: false,
-                values: values,
-                at: at,
-            };
+    line.iter().position(|byte| *byte == b' ')
+}
+
+impl<'a> Fields<'a> {
+    // Takes the next field.
+    fn next_field(&mut self) -> Option<&'a [u8]>
+        ensures { fields_left self.old ≡ before result (fields_left self.new) }
+    {
+        let line = self.left?;
+        match first_space(line) {
+            Some(end) => {
+                self.left = Some(&line[end + 1..]);
+                Some(&line[..end])
+            }
+            None => {
+                self.left = None;
+                Some(line)
+            }
         }
-        let end = field_end(line, at);
-        let number = decimal(&line[at..end]);
-        if !number.ok {
-            return Numbers {
-                ok: false,
-                values: values,
-                at: at,
-            };
+    }
+
+    // Takes N decimals.
+    fn decimals<const N: usize>(&mut self) -> Option<[u32; N]>
+        ensures read { Decimals N (fields_left self.old) result (fields_left self.new) }
+        ensures long { IfSome result (λ numbers. length numbers ≡ N) }
+    {
+        let mut values = [0u32; N];
+        for value in values.iter_mut() {
+            *value = decimal(self.next_field()?)?;
         }
-        values[i] = number.value;
-        at = end + 1;
-        i += 1;
-    }
-    Numbers {
-        ok: true,
-        values: values,
-        at: at,
+        Some(values)
     }
 }
 
-// How many decimals a kind has.
-fn count(kind: Kind) -> usize
-    ensures { result ≡ count_of kind }
+fn open(fields: &mut Fields) -> Option<Command>
+    ensures { Reads language.Open (fields_left fields.old) result (fields_left fields.new) }
 {
-    match kind {
-        Kind::Open => 9,
-        Kind::Write => 2,
-        Kind::Read => 2,
-        Kind::Snapshot => 0,
-        Kind::Rollback => 2,
-        Kind::Unread => 0,
-    }
+    let [
+        static_memory,
+        calldata,
+        bootloader_heap,
+        bootloader_aux,
+        base,
+        stride,
+        chunks,
+        pages,
+        journal_words,
+    ] = fields.decimals::<9>()?;
+    Some(Command::Open(Opening {
+        static_memory,
+        calldata,
+        bootloader_heap,
+        bootloader_aux,
+        base,
+        stride,
+        counts: Counts {
+            chunks,
+            pages,
+            journal_words,
+        },
+    }))
 }
 
-fn unread() -> Command
-    ensures { command_of result ≡ language.unread }
+fn write(fields: &mut Fields) -> Option<Command>
+    ensures { Reads language.Write (fields_left fields.old) result (fields_left fields.new) }
 {
-    let numbers = [0u32; 9];
-    let limbs = [0u64; 4];
-    Command {
-        kind: Kind::Unread,
-        numbers: numbers,
-        word: Word { limbs: limbs },
-    }
+    let [page, address] = fields.decimals::<2>()?;
+    let word = hexadecimal(fields.next_field()?)?;
+    Some(Command::Write {
+        page,
+        address,
+        word,
+    })
 }
 
-// A write whose two decimals are read, and whose word stands from place `at` to the end.
-fn write_of(line: &[u8], values: [u32; 9], at: usize) -> Command
-    ensures { command_of result ≡ line_if Kind.Write (ahead (take 2 values) (numbers (hexadecimal_of ∷ []) (fields_from line.now at))) }
+fn read(fields: &mut Fields) -> Option<Command>
+    ensures { Reads language.Read (fields_left fields.old) result (fields_left fields.new) }
 {
-    if line.len() < at {
-        return unread();
-    }
-    let end = field_end(line, at);
-    if end < line.len() {
-        return unread();
-    }
-    let number = hexadecimal(&line[at..]);
-    if !number.ok {
-        return unread();
-    }
-    let word = number.word;
-    Command {
-        kind: Kind::Write,
-        numbers: values,
-        word: word,
-    }
+    let [page, address] = fields.decimals::<2>()?;
+    Some(Command::Read { page, address })
 }
 
-// A line of decimals alone, which are read: it must end there.
-fn numbers_of(line: &[u8], kind: Kind, values: [u32; 9], at: usize) -> Command
-    ensures { command_of result ≡ line_if kind (ahead (take (count_of kind) values) (numbers [] (fields_from line.now at))) }
+fn roll_back(fields: &mut Fields) -> Option<Command>
+    ensures { Reads language.Rollback (fields_left fields.old) result (fields_left fields.new) }
 {
-    if at <= line.len() {
-        return unread();
-    }
-    let limbs = [0u64; 4];
-    Command {
-        kind: kind,
-        numbers: values,
-        word: Word { limbs: limbs },
+    let [heap, aux] = fields.decimals::<2>()?;
+    Some(Command::Rollback { heap, aux })
+}
+
+// The command that has this name.
+#[tactic(auto, unfolding(crate::specs::Language::line_kind), using(crate::proofs::Lines::no_line, crate::proofs::Lines::snapshot_line))]
+fn named_command(name: &[u8], fields: &mut Fields) -> Option<Command>
+    ensures { Reads (line_kind name.now) (fields_left fields.old) result (fields_left fields.new) }
+{
+    match name {
+        b"open" => open(fields),
+        b"w" => write(fields),
+        b"r" => read(fields),
+        b"s" => Some(Command::Snapshot),
+        b"b" => roll_back(fields),
+        _ => None,
     }
 }
 
 // What a line asks: for every line, the meaning that the language gives it.
-pub fn parse(line: &[u8]) -> Command
+pub fn parse(line: &[u8]) -> Option<Command>
     ensures { command_of result ≡ meaning line.now }
 {
-    let end = field_end(line, 0);
-    let kind = kind_of(&line[0..end]);
-    let read = decimals(line, end + 1, count(kind));
-    if !read.ok {
-        return unread();
+    let mut fields = Fields { left: Some(line) };
+    let name = fields.next_field()?;
+    let command = named_command(name, &mut fields)?;
+    match fields.left {
+        None => Some(command),
+        Some(_) => None,
     }
-    let values = read.values;
-    let at = read.at;
-    if let Kind::Write = kind {
-        return write_of(line, values, at);
-    }
-    numbers_of(line, kind, values, at)
 }

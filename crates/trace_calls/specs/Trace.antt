@@ -1,6 +1,6 @@
 -- WHAT A LINE OF A TRACE DOES, and how it is answered. Document 01, 'The trace program'.
 -- Assumes nothing.
-use Rattle.std.specs.Prelude.{◌≡◌, true, false, [], ℕ, min, take, drop}
+use Rattle.std.specs.Prelude.{◌≡◌, [], ℕ, min, take, drop, Option, None, Some}
 use Rattle.outcome.specs.Outcome.{Outcome, first_of}
 use Rattle.outcome.specs.Outcome as outcome
 use Rattle.store.specs.Mem.{Mem, mem}
@@ -13,7 +13,9 @@ use Rattle.opening.specs.Opening.{setting_from}
 use Rattle.trace.specs.Language.{Line, opens, writes, reads, takes_snapshot, rolls_back}
 use Rattle.trace.specs.Language as language
 use Rattle.trace_text.specs.Text.{Reported, unread, done, word, marks, refused}
-use Rattle.trace_calls.specs.declared.Run.{Run}
+use Rattle.trace.specs.declared.Counts.{Counts}
+use Rattle.trace.specs.declared.Opening.{Opening}
+use Rattle.page_ids.specs.declared.Layout.{Layout}
 
 -- the answer that tells an outcome; no call of a trace gives bytes, compares memories, is a partial read or an instruction
 abbrev pub reported : Outcome Value → Reported
@@ -38,6 +40,13 @@ open_outcome m s = first_of (opening_checks s (lengths_right s m) 0) (outcome.do
 
 abbrev pub OpenTells : Mem → Setting → Reported → Mem → Type 0
 OpenTells m s t m' = (t ≡ reported (open_outcome m s)) × OpenDoes m s [] (open_outcome m s) m'
+
+-- what an opening's numbers ask
+abbrev pub opening_layout : Opening → Layout
+opening_layout o = layout_from o.static_memory o.calldata o.bootloader_heap o.bootloader_aux o.base o.stride
+
+abbrev pub opening_setting : Opening → Setting
+opening_setting o = setting_from (opening_layout o) o.counts.chunks o.counts.pages o.counts.journal_words
 
 abbrev pub LineTells : Mem → Line → Reported → Mem → Type 0
 LineTells m (opens a b c d e f x y z) t m' = OpenTells m (setting_from (layout_from a b c d e f) x y z) t m'
@@ -74,20 +83,20 @@ pub record PartsTell (c p j : ℕ) (m : Mem) (line : Line) (t : Reported) (m' : 
 
 -- ---- the trace: r has the counts of the open memory, if one is open
 -- an accepted opening gives new counts, a refused one keeps them
-abbrev pub after_opening : Run → (chunks pages journal_words : ℕ) → Reported → Run
+abbrev pub after_opening : Option Counts → (chunks pages journal_words : ℕ) → Reported → Option Counts
 after_opening r c p j unread = r
-after_opening r c p j done = record { begun = true; chunks = c; pages = p; journal_words = j }
+after_opening r c p j done = Some (record { chunks = c; pages = p; journal_words = j })
 after_opening r c p j (word n) = r
 after_opening r c p j (marks h a) = r
 after_opening r c p j (refused n) = r
 
 -- a line that needs an open memory
-pub record OnOpen (r : Run) (m : Mem) (line : Line) (r' : Run) (t : Reported) (m' : Mem) : Type 0 where
+pub record OnOpen (r : Option Counts) (m : Mem) (line : Line) (r' : Option Counts) (t : Reported) (m' : Mem) : Type 0 where
   pub run : r' ≡ r
-  pub before : r.begun ≡ false → (t ≡ unread) × (m' ≡ m)
-  pub call : r.begun ≡ true → PartsTell r.chunks r.pages r.journal_words m line t m'
+  pub before : r ≡ None → (t ≡ unread) × (m' ≡ m)
+  pub call : (k : Counts) → r ≡ Some k → PartsTell k.chunks k.pages k.journal_words m line t m'
 
-abbrev pub TraceTells : Run → Mem → Line → Run → Reported → Mem → Type 0
+abbrev pub TraceTells : Option Counts → Mem → Line → Option Counts → Reported → Mem → Type 0
 TraceTells r m (opens a b c d e f x y z) r' t m' = (r' ≡ after_opening r x y z t) × PartsTell x y z m (opens a b c d e f x y z) t m'
 TraceTells r m (writes p a w) r' t m' = OnOpen r m (writes p a w) r' t m'
 TraceTells r m (reads p a) r' t m' = OnOpen r m (reads p a) r' t m'

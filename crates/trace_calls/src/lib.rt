@@ -1,24 +1,21 @@
 // What a line does to the memory. specs/Trace.antt says it; every number of a refusal is the library's own.
 #![tactic(auto)]
 
-ghost use Rattle.std.specs.Prelude.{◌≡◌, min, get_or};
+ghost use Rattle.std.specs.Prelude.{◌≡◌};
 ghost use Rattle.outcome.specs.Outcome.{answer_outcome};
 ghost use Rattle.word.specs.Value.{value};
 ghost use Rattle.store.specs.Mem.{mem};
 ghost use Rattle.view.specs.Calls.{WriteWord, ReadWord, Snapshot, Rollback, nothing};
-ghost use Rattle.page_ids.specs.Decode.{layout_from};
-ghost use Rattle.opening.specs.Opening.{setting_from};
-ghost use Rattle.trace.specs.Language.{meaning, command_of};
+ghost use Rattle.trace.specs.Language.{meaning, command_line};
 ghost use Rattle.trace_text.specs.Text.{reply_of};
-ghost use Rattle.trace_calls.specs.Space.{Space};
-ghost use Rattle.trace_calls.specs.Trace.{reported, CallTells, OpenTells, LineTells, PartsTell, TraceTells, after_opening};
+ghost use Rattle.trace_calls.specs.Space.{Space, mem_of};
+ghost use Rattle.trace_calls.specs.Trace.{reported, opening_layout, opening_setting, CallTells, OpenTells, LineTells, PartsTell, TraceTells};
 
-use opening::Capacity;
 use outcome::Answer;
 use page_ids::{Address, BasePage, Layout, PageId};
 use store::head;
-use trace::{Command, Kind};
-use trace_text::{Answered, Reply};
+use trace::{Command, Counts, Opening};
+use trace_text::Reply;
 use word::Word;
 
 // What a word of each journal takes: 32 bytes and three numbers a journal.
@@ -26,20 +23,13 @@ const WORD_BYTES: usize = 32 * head::JOURNAL_COUNT;
 
 const WORD_NUMBERS: usize = 3 * head::JOURNAL_COUNT;
 
-// The open memory's counts of chunks, pages and journal words, if one is open.
-#[derive(Clone, Copy)]
-pub struct Run {
-    pub begun: bool,
-    pub chunks: u32,
-    pub pages: u32,
-    pub journal_words: u32,
-}
-
-// The answer to a line, and the counts after it.
-#[derive(Clone, Copy)]
-pub struct Taken {
-    pub run: Run,
-    pub reply: Reply,
+// Space for 128 chunks, 64 pages and 256 words of each journal, of the lengths that docs/BUFFERS.md states.
+#[derive(Drop)]
+pub struct Buffers {
+    pub bytes: [u8; 49152],
+    pub keys: [u64; 196],
+    pub order: [u32; 452],
+    pub words: [u64; 1554],
 }
 
 // ---- the calls, of a memory in just these buffers
@@ -48,8 +38,8 @@ fn said(answer: Answer) -> Reply
     ensures { reply_of result ≡ reported (answer_outcome nothing answer) }
 {
     match answer {
-        Answer::Done => trace_text::done(),
-        Answer::Refused(n) => trace_text::refused(n),
+        Answer::Done => Reply::Done,
+        Answer::Refused(n) => Reply::Refused(n),
     }
 }
 
@@ -80,10 +70,9 @@ fn read(bytes: &[u8], keys: &[u64], order: &[u32], words: &[u64], page: u32, add
 {
     let r = reads::read_u256(bytes, keys, order, words, PageId(page), Address(address));
     if r.refusal != 0 {
-        return trace_text::refused(r.refusal);
+        return Reply::Refused(r.refusal);
     }
-    let word = r.word;
-    trace_text::word(word)
+    Reply::Word(r.word)
 }
 
 fn snapshot(bytes: &[u8], keys: &[u64], order: &[u32], words: &[u64]) -> Reply
@@ -91,9 +80,12 @@ fn snapshot(bytes: &[u8], keys: &[u64], order: &[u32], words: &[u64]) -> Reply
 {
     let r = reads::snapshot(bytes, keys, order, words);
     if r.refusal != 0 {
-        return trace_text::refused(r.refusal);
+        return Reply::Refused(r.refusal);
     }
-    trace_text::marks(r.heap, r.aux)
+    Reply::Marks {
+        heap: r.heap,
+        aux: r.aux,
+    }
 }
 
 fn roll_back(
@@ -109,16 +101,16 @@ fn roll_back(
     said(history::rollback(bytes, keys, order, words, heap as u64, aux as u64))
 }
 
-fn layout_of(n: [u32; 9]) -> Layout
-    ensures { result ≡ layout_from (get_or n 0 0) (get_or n 1 0) (get_or n 2 0) (get_or n 3 0) (get_or n 4 0) (get_or n 5 0) }
+fn layout_of(opening: Opening) -> Layout
+    ensures { result ≡ opening_layout opening }
 {
     Layout {
-        static_memory: PageId(n[0]),
-        calldata: PageId(n[1]),
-        bootloader_heap: PageId(n[2]),
-        bootloader_aux: PageId(n[3]),
-        base: BasePage(n[4]),
-        stride: n[5],
+        static_memory: PageId(opening.static_memory),
+        calldata: PageId(opening.calldata),
+        bootloader_heap: PageId(opening.bootloader_heap),
+        bootloader_aux: PageId(opening.bootloader_aux),
+        base: BasePage(opening.base),
+        stride: opening.stride,
     }
 }
 
@@ -127,13 +119,22 @@ fn begin(
     keys: &mut [u64],
     order: &mut [u32],
     words: &mut [u64],
-    layout: Layout,
-    capacity: Capacity,
+    opening: Opening,
 ) -> Reply
-    ensures { OpenTells (mem bytes.old keys.old order.old words.old) (setting_from layout capacity.chunks capacity.pages capacity.journal_words) (reply_of result) (mem bytes.new keys.new order.new words.new) }
+    ensures { OpenTells (mem bytes.old keys.old order.old words.old) (opening_setting opening) (reply_of result) (mem bytes.new keys.new order.new words.new) }
 {
-    let none = [0u8; 1];
-    said(opening::open(bytes, keys, order, words, layout, capacity, &none[0..0]))
+    let counts = opening.counts;
+    said(opening::open(
+        bytes,
+        keys,
+        order,
+        words,
+        layout_of(opening),
+        counts.chunks,
+        counts.pages,
+        counts.journal_words,
+        &[],
+    ))
 }
 
 // The call that a command asks.
@@ -144,127 +145,92 @@ fn called(
     words: &mut [u64],
     command: Command,
 ) -> Reply
-    ensures { LineTells (mem bytes.old keys.old order.old words.old) (command_of command) (reply_of result) (mem bytes.new keys.new order.new words.new) }
+    ensures { LineTells (mem bytes.old keys.old order.old words.old) (command_line command) (reply_of result) (mem bytes.new keys.new order.new words.new) }
 {
-    let kind = command.kind;
-    let n = command.numbers;
-    let word = command.word;
-    match kind {
-        Kind::Open => {
-            let capacity = Capacity {
-                chunks: n[6],
-                pages: n[7],
-                journal_words: n[8],
-            };
-            begin(bytes, keys, order, words, layout_of(n), capacity)
-        },
-        Kind::Write => write(bytes, keys, order, words, n[0], n[1], word),
-        Kind::Read => read(bytes, keys, order, words, n[0], n[1]),
-        Kind::Snapshot => snapshot(bytes, keys, order, words),
-        Kind::Rollback => roll_back(bytes, keys, order, words, n[0], n[1]),
-        Kind::Unread => trace_text::unread(),
+    match command {
+        Command::Open(opening) => begin(bytes, keys, order, words, opening),
+        Command::Write {
+            page,
+            address,
+            word,
+        } => write(bytes, keys, order, words, page, address, word),
+        Command::Read { page, address } => read(bytes, keys, order, words, page, address),
+        Command::Snapshot => snapshot(bytes, keys, order, words),
+        Command::Rollback { heap, aux } => roll_back(bytes, keys, order, words, heap, aux),
     }
 }
 
 // ---- the space
 
-fn least(a: u32, b: u32) -> usize
-    ensures { result ≡ min a b }
-{
-    if a < b {
-        return a as usize;
-    }
-    b as usize
-}
-
 // The call, in the leading parts of the space that these counts ask for; of counts beyond the space, in parts that are too short for them, which an
 // opening refuses by itself.
-fn lent(
+fn in_parts(
     bytes: &mut [u8],
     keys: &mut [u64],
     order: &mut [u32],
     words: &mut [u64],
-    capacity: Capacity,
+    counts: Counts,
     command: Command,
 ) -> Reply
     requires { Space bytes.old keys.old order.old words.old }
-    ensures { PartsTell capacity.chunks capacity.pages capacity.journal_words (mem bytes.old keys.old order.old words.old) (command_of command) (reply_of result) (mem bytes.new keys.new order.new words.new) }
+    ensures { PartsTell counts.chunks counts.pages counts.journal_words (mem bytes.old keys.old order.old words.old) (command_line command) (reply_of result) (mem bytes.new keys.new order.new words.new) }
 {
-    let c = least(capacity.chunks, 128);
-    let p = least(capacity.pages, 64);
-    let j = least(capacity.journal_words, 256);
-    let b = 256 * c + WORD_BYTES * j;
-    let k = c + p + head::FIXED_ENTRIES;
-    let o = 3 * c + p + head::FIXED_ENTRIES;
-    let w = head::LENGTH + WORD_NUMBERS * j + store::pool_length(c as u64) as usize;
+    let chunks = counts.chunks.min(128) as usize;
+    let pages = counts.pages.min(64) as usize;
+    let journal_words = counts.journal_words.min(256) as usize;
+    let b = 256 * chunks + WORD_BYTES * journal_words;
+    let k = chunks + pages + head::FIXED_ENTRIES;
+    let o = 3 * chunks + pages + head::FIXED_ENTRIES;
+    let w = head::LENGTH
+        + WORD_NUMBERS * journal_words
+        + store::pool_length(chunks as u64) as usize;
     called(
-        &mut bytes[0..b],
-        &mut keys[0..k],
-        &mut order[0..o],
-        &mut words[0..w],
+        &mut bytes[..b],
+        &mut keys[..k],
+        &mut order[..o],
+        &mut words[..w],
         command,
     )
 }
 
-// ---- lines
-
-// The counts after an opening: the new ones where it was carried out.
-fn after(run: Run, n: [u32; 9], reply: Reply) -> Run
-    ensures { result ≡ after_opening run (get_or n 6 0) (get_or n 7 0) (get_or n 8 0) (reply_of reply) }
+// The same, in the buffers' space.
+fn lent(buffers: &mut Buffers, counts: Counts, command: Command) -> Reply
+    ensures { PartsTell counts.chunks counts.pages counts.journal_words (mem_of buffers.old) (command_line command) (reply_of result) (mem_of buffers.new) }
 {
-    let answered = reply.answered;
-    if let Answered::Done = answered {
-        return Run {
-            begun: true,
-            chunks: n[6],
-            pages: n[7],
-            journal_words: n[8],
-        };
-    }
-    run
+    let Buffers {
+        bytes,
+        keys,
+        order,
+        words,
+    } = buffers;
+    in_parts(bytes, keys, order, words, counts, command)
 }
 
-// What a line does, and its answer. Before an accepted opening only an opening is read.
-pub fn take(
-    bytes: &mut [u8],
-    keys: &mut [u64],
-    order: &mut [u32],
-    words: &mut [u64],
-    run: Run,
-    line: &[u8],
-) -> Taken
-    requires { Space bytes.old keys.old order.old words.old }
-    ensures { TraceTells run (mem bytes.old keys.old order.old words.old) (meaning line.now) result.run (reply_of result.reply) (mem bytes.new keys.new order.new words.new) }
+// ---- lines
+
+// What a command does, and its answer. Before an accepted opening only an opening is carried out; `open` has the open memory's counts, if one is open.
+fn carry_out(buffers: &mut Buffers, open: &mut Option<Counts>, command: Command) -> Reply
+    ensures { TraceTells open.old (mem_of buffers.old) (command_line command) open.new (reply_of result) (mem_of buffers.new) }
 {
-    let command = trace::parse(line);
-    let kind = command.kind;
-    let n = command.numbers;
-    if let Kind::Open = kind {
-        let capacity = Capacity {
-            chunks: n[6],
-            pages: n[7],
-            journal_words: n[8],
-        };
-        let reply = lent(bytes, keys, order, words, capacity, command);
-        return Taken {
-            run: after(run, n, reply),
-            reply: reply,
-        };
+    if let Command::Open(opening) = command {
+        let reply = lent(buffers, opening.counts, command);
+        if let Reply::Done = reply {
+            *open = Some(opening.counts);
+        }
+        return reply;
     }
-    if !run.begun {
-        return Taken {
-            run: run,
-            reply: trace_text::unread(),
-        };
+    match *open {
+        Some(counts) => lent(buffers, counts, command),
+        None => Reply::Unread,
     }
-    let capacity = Capacity {
-        chunks: run.chunks,
-        pages: run.pages,
-        journal_words: run.journal_words,
-    };
-    let reply = lent(bytes, keys, order, words, capacity, command);
-    Taken {
-        run: run,
-        reply: reply,
+}
+
+// What a line does, and its answer.
+pub fn take(buffers: &mut Buffers, open: &mut Option<Counts>, line: &[u8]) -> Reply
+    ensures { TraceTells open.old (mem_of buffers.old) (meaning line.now) open.new (reply_of result) (mem_of buffers.new) }
+{
+    match trace::parse(line) {
+        Some(command) => carry_out(buffers, open, command),
+        None => Reply::Unread,
     }
 }

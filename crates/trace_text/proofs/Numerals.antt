@@ -2,17 +2,18 @@
 -- Assumes nothing.
 use mathlib.Core.Path.{◌≡◌, refl, sym, ap, ◌∙◌}
 use mathlib.Core.Logic.{⊎_elim}
-use mathlib.Core.Bool.{false}
+use mathlib.Core.Bool.{Bool, true, false, ◌&&◌}
 use lib.Dec.{eqb}
 use mathlib.Core.List.{List, [], ◌∷◌, ◌++◌, append_assoc}
 use Prim.Native.Nat.{ℕ, zero, suc, ◌+◌, ◌*◌, ◌-◌, ◌/◌, ◌%◌, ◌≤◌, ◌<◌, ◌^◌, zero-le}
-use native.Mathlib.Numerals.{add-one}
+use native.Mathlib.Nat.{zero-mul, mod-lt, mod-eq_of_lt, div-add-mod', div-eq_of_lt}
 use native.Mathlib.Omega.{arith}
-use lib.ListN.{length, get_or, take, drop, set, length-append, length-drop}
-use lib.Seq.{drop-length, take-suc, take-suc-set, take-length, take_all}
-use borrow.Author.Tests.{lt-ltb, le-ltb, ne_eqb}
-use Rattle.word.specs.Value.{limbs_value}
-use Rattle.index.proofs.Logic.{lt_or_ge}
+use lib.ListN.{length, take, drop, set, length-append, length-drop}
+use lib.Pointwise.{pointwise}
+use lib.Seq.{take_all}
+use borrow.Author.Tests.{lt-ltb, le-ltb, eq-eqb, ne_eqb}
+use Rattle.word.specs.Value.{value, limbs_value}
+use Rattle.std.proofs.lemmas.Bool.{cases_lt, cases_eq}
 use Rattle.trace_text.specs.Text.{glyph, numeral, decimal_text, Reported, unread, done, word, marks, refused, text_of, Wrote}
 
 -- ---- one digit
@@ -41,15 +42,15 @@ numeral_length b (suc m) n =
     (λ l.
     let h = numeral_length b m (n / b) in
     rw (numeral_more b m n l, length-append (numeral b m (n / b)) (glyph (n % b) ∷ [])) (omega arith))
-    (lt_or_ge n b)
+    (cases_lt n b)
 
 -- ---- the loop
 append_nil : (xs : List ℕ) → xs ++ [] ≡ xs
 append_nil [] = refl
 append_nil (x ∷ xs) = ap (λ (r : List ℕ). x ∷ r) (append_nil xs)
 
-pub numeral_start : (b n : ℕ) (text : List ℕ) → length text ≡ 64 → numeral b 64 n ≡ numeral b 64 n ++ drop 64 text
-numeral_start b n text e = rw (sym e, drop-length text, append_nil (numeral b (length text) n))
+pub numeral_start : (b n : ℕ) → numeral b 64 n ≡ numeral b 64 n ++ []
+numeral_start b n = sym (append_nil (numeral b 64 n))
 
 put_front : (text : List ℕ) (j g : ℕ) → j < length text → drop j (set text j g) ≡ g ∷ drop (suc j) text
 put_front text j g l = set_drop text j g l
@@ -59,27 +60,35 @@ put_front text j g l = set_drop text j g l
     set_drop (x ∷ xs) zero g l = refl
     set_drop (x ∷ xs) (suc j) g l = set_drop xs j g (omega arith)
 
-module _ (b v : ℕ) (text : List ℕ) (i g : ℕ) (pos : 0 < i) (fits : i ≤ length text) (is : g ≡ glyph (v % b)) where
+-- a digit is written before the others: v is what is left to write, and r what is left after it
+module _ (b v r : ℕ) (has : (1 < b) × (b ≤ 16)) (shorter : r ≡ v / b) (text : List ℕ) (i g : ℕ) (pos : 0 < i) (fits : i ≤ length text) (is : g ≡ glyph (v % b)) where
   before : i ≡ suc (i - 1)
   before = omega arith
 
   front : drop (i - 1) (set text (i - 1) g) ≡ g ∷ drop i text
   front = put_front text (i - 1) g (omega arith) ∙ ap (λ (k : ℕ). g ∷ drop k text) (sym before)
 
-  -- the first digit is written
-  pub numeral_ends : v < b → v % b ≡ v → drop (i - 1) (set text (i - 1) g) ≡ numeral b i v ++ drop i text
-  numeral_ends l e =
-      front ∙ ap (λ (d : ℕ). d ∷ drop i text) (is ∙ ap glyph e)
-      ∙ ap (λ (t : List ℕ). t ++ drop i text) (sym (ap (λ (k : ℕ). numeral b k v) before ∙ numeral_one b (i - 1) v l))
+  below : r ≡ 0 → v < b
+  below e = let z : v / b * b ≡ 0 = rw (sym shorter ∙ e) (zero-mul b) in let m = mod-lt v {m = b} (omega arith) in let w = div-add-mod' v b in omega arith
 
-  -- another digit is written
-  pub numeral_goes : b ≤ v → numeral b i v ++ drop i text ≡ numeral b (i - 1) (v / b) ++ drop (i - 1) (set text (i - 1) g)
-  numeral_goes l =
-      ap (λ (t : List ℕ). t ++ drop i text) (ap (λ (k : ℕ). numeral b k v) before ∙ numeral_more b (i - 1) v l)
-      ∙ append_assoc (numeral b (i - 1) (v / b)) (glyph (v % b) ∷ []) (drop i text)
-      ∙ ap (λ (t : List ℕ). numeral b (i - 1) (v / b) ++ t) (ap (λ (d : ℕ). d ∷ drop i text) (sym is) ∙ sym front)
+  above : (r ≡ 0 → ⊥) → b ≤ v
+  above n = ⊎_elim (λ l. absurd (n (shorter ∙ div-eq_of_lt l))) (λ l. l) (cases_lt v b)
 
-pub numeral_full : (b v i : ℕ) (text : List ℕ) → i ≤ 0 → drop i text ≡ numeral b i v ++ drop i text
+  -- it is the first digit
+  pub numeral_ends : r ≡ 0 → numeral b i v ++ drop i text ≡ drop (i - 1) (set text (i - 1) g)
+  numeral_ends e =
+      ap (λ (t : List ℕ). t ++ drop i text) (ap (λ (k : ℕ). numeral b k v) before ∙ numeral_one b (i - 1) v (below e))
+      ∙ ap (λ (d : ℕ). d ∷ drop i text) (ap glyph (sym (mod-eq_of_lt (below e))) ∙ sym is) ∙ sym front
+
+  -- it is another digit
+  pub numeral_goes : (r ≡ 0 → ⊥) → numeral b i v ++ drop i text ≡ numeral b (i - 1) r ++ drop (i - 1) (set text (i - 1) g)
+  numeral_goes n =
+      ap (λ (t : List ℕ). t ++ drop i text) (ap (λ (k : ℕ). numeral b k v) before ∙ numeral_more b (i - 1) v (above n) ∙ ap (λ (q : ℕ). numeral b (i - 1) q ++ (glyph (v % b) ∷ [])) (sym shorter))
+      ∙ append_assoc (numeral b (i - 1) r) (glyph (v % b) ∷ []) (drop i text)
+      ∙ ap (λ (t : List ℕ). numeral b (i - 1) r ++ t) (ap (λ (d : ℕ). d ∷ drop i text) (sym is) ∙ sym front)
+
+-- there is room for no more
+pub numeral_full : (b v i : ℕ) (text : List ℕ) → i ≤ 0 → numeral b i v ++ drop i text ≡ text
 numeral_full b v i text l = let z : i ≡ 0 = omega arith in rw (z, numeral_none b v)
 
 -- ---- words
@@ -98,37 +107,33 @@ shorter a b c d =
     ∙ ap (λ (r : ℕ). a / 16 + r * 1152921504606846976 + 2 ^ 64 * ((b + 2 ^ 64 * (c + 2 ^ 64 * d)) / 16)) (low_of b (c + 2 ^ 64 * d))
     ∙ limb_down a (b + 2 ^ 64 * (c + 2 ^ 64 * d))
 
+-- a word is 0 where its limbs are
+sum_zero : (a h : ℕ) (r : Bool) → r ≡ eqb h 0 → (eqb a 0 && r) ≡ eqb (a + 2 ^ 64 * h) 0
+sum_zero a h r e =
+    ⊎_elim (λ (z : a ≡ 0). ap (λ (t : Bool). t && r) (eq-eqb a 0 z) ∙ e ∙ ⊎_elim (λ (y : h ≡ 0). eq-eqb h 0 y ∙ sym (eq-eqb (a + 2 ^ 64 * h) 0 (omega arith))) (λ (n : h ≡ 0 → ⊥). ne_eqb h 0 n ∙ sym (ne_eqb (a + 2 ^ 64 * h) 0 (λ (q : a + 2 ^ 64 * h ≡ 0). n (omega arith)))) (cases_eq h 0))
+    (λ (n : a ≡ 0 → ⊥). ap (λ (t : Bool). t && r) (ne_eqb a 0 n) ∙ sym (ne_eqb (a + 2 ^ 64 * h) 0 (λ (q : a + 2 ^ 64 * h ≡ 0). n (omega arith)))) (cases_eq a 0)
+
+and-true : (t : Bool) → (t && true) ≡ t
+and-true true = refl
+and-true false = refl
+
+pub word_zero : (l : List ℕ) → length l ≡ 4 → pointwise eqb l (0 ∷ 0 ∷ 0 ∷ 0 ∷ []) ≡ eqb (value l) 0
+unfolding value
+word_zero [] e = absurd (omega arith)
+word_zero (a ∷ []) e = absurd (omega arith)
+word_zero (a ∷ b ∷ []) e = absurd (omega arith)
+word_zero (a ∷ b ∷ c ∷ []) e = absurd (omega arith)
+word_zero (a ∷ b ∷ c ∷ d ∷ []) e = sum_zero a _ _ (sum_zero b _ _ (sum_zero c d _ (and-true (eqb d 0))))
+word_zero (a ∷ b ∷ c ∷ d ∷ x ∷ l) e = absurd (omega arith)
+
 -- ---- texts
-pub put_more : (o d text : List ℕ) (at i : ℕ) → at + i < length d → i < length text → take (at + i) d ≡ take at o ++ take i text
-    → take (at + (i + 1)) (set d (at + i) (get_or text i 0)) ≡ take at o ++ take (i + 1) text
-put_more o d text at i l m e =
-    let z : at + (i + 1) ≡ suc (at + i) = omega arith in
-    rw (z, take-suc-set d (at + i) (get_or text i 0) l, e, add-one i, take-suc text i 0 m) (append_assoc (take at o) (take i text) (get_or text i 0 ∷ []))
+-- the same of an equal text and of equal bytes before
+pub as_text : {s t o p d : List ℕ} {at end : ℕ} → s ≡ t → o ≡ p → Wrote s at o d end → Wrote t at p d end
+as_text e f w = rw (e, f) at w
 
-pub put_done : (o d text : List ℕ) (at i : ℕ) → i ≤ length text → length text ≤ i → length d ≡ length o → take (at + i) d ≡ take at o ++ take i text → Wrote text at o d (at + i)
-put_done o d text at i l m k e =
-    let z : i ≡ length text = omega arith in
-    record { place = ap (λ (n : ℕ). at + n) z; long = k; stands = e ∙ ap (λ (t : List ℕ). take at o ++ t) (ap (λ (n : ℕ). take n text) z ∙ take-length text) }
-
-pub then : {s t : List ℕ} {at mid end : ℕ} {o d f : List ℕ} → Wrote s at o d mid → Wrote t mid d f end → Wrote (s ++ t) at o f end
-then {s} {t} {at} {mid} {end} {o} {d} {f} p q =
-    let a = p.place in
-    let b = q.place in
-    let z = length-append s t in
-    record { place = omega arith; long = q.long ∙ p.long; stands = q.stands ∙ ap (λ (x : List ℕ). x ++ t) p.stands ∙ append_assoc (take at o) s t }
-
-pub as_text : {s t : List ℕ} {at end : ℕ} {o d : List ℕ} → s ≡ t → Wrote s at o d end → Wrote t at o d end
-as_text e p = rw e at p
-
-pub not_zero : (v : ℕ) → 0 < v → false ≡ eqb v 0
-not_zero v l = sym (ne_eqb v 0 (λ e. omega arith))
-
--- the part of a text from a place on
-pub part_text : (text t : List ℕ) (from : ℕ) → length text ≡ 64 → drop from text ≡ t → take (64 - from) (drop from text) ≡ t
-part_text text t from e q = take_all (64 - from) (drop from text) (omega (arith, length-drop from text)) ∙ q
-
-pub put_start : (o : List ℕ) (at : ℕ) → take (at + 0) o ≡ take at o ++ []
-put_start o at = let z : at + 0 ≡ at = omega arith in rw (z, append_nil (take at o))
+-- a text's part from a place on, as a slice has it
+pub part_text : (text : List ℕ) (from : ℕ) → length text ≡ 64 → take (64 - from) (drop from text) ≡ drop from text
+part_text text from e = take_all (64 - from) (drop from text) (omega (arith, length-drop from text))
 
 -- the longest answer
 pub reply_length : (t : Reported) → length (text_of t) ≤ 134

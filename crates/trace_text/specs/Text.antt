@@ -2,9 +2,8 @@
 -- Assumes nothing.
 use Rattle.std.specs.Prelude.{◌≡◌, cond, List, [], ◌∷◌, ◌++◌, ℕ, zero, suc, ◌+◌, ◌/◌, ◌%◌, ltb, length, take}
 use Rattle.word.specs.Value.{value}
-use Rattle.trace_text.specs.declared.Answered.{Answered}
-use Rattle.trace_text.specs.declared.Answered.TheVariants.{Unread, Done, Word, Marks, Refused}
 use Rattle.trace_text.specs.declared.Reply.{Reply}
+use Rattle.trace_text.specs.declared.Reply.TheVariants.{Unread, Done, Word, Marks, Refused}
 
 -- what a line is answered with
 pub data Reported : Type 0 where
@@ -41,15 +40,12 @@ text_of (marks h a) = (115 ∷ 110 ∷ 97 ∷ 112 ∷ 32 ∷ []) ++ (decimal_tex
 text_of (refused n) = (114 ∷ 101 ∷ 102 ∷ 117 ∷ 115 ∷ 101 ∷ 100 ∷ 32 ∷ []) ++ decimal_text n
 
 -- ---- what the code has
-abbrev pub reply_with : Answered → ℕ → ℕ → ℕ → Reported
-reply_with Unread w x y = unread
-reply_with Done w x y = done
-reply_with Word w x y = word w
-reply_with Marks w x y = marks x y
-reply_with Refused w x y = refused x
-
 abbrev pub reply_of : Reply → Reported
-reply_of r = reply_with r.answered (value r.word.limbs) r.first r.second
+reply_of Unread = unread
+reply_of Done = done
+reply_of (Word w) = word (value w.limbs)
+reply_of (Marks h a) = marks h a
+reply_of (Refused n) = refused n
 
 -- a text stands in d from place `at` on, after what o has there, and the next place is `end`; what follows is open
 pub record Wrote (text : List ℕ) (at : ℕ) (o d : List ℕ) (end : ℕ) : Type 0 where

@@ -1,273 +1,169 @@
 // The text of an answer. specs/Text.antt says what it is.
 #![tactic(auto)]
 
-ghost use Rattle.std.specs.Prelude.{◌≡◌, [], ◌∷◌, ◌++◌, ◌+◌, ◌/◌, ◌%◌, ◌≤◌, ◌<◌, eqb, length, drop};
-ghost use Rattle.word.specs.Value.{value, limbs_value};
+ghost use Rattle.std.specs.Prelude.{◌≡◌, ℕ, [], ◌∷◌, ◌++◌, ◌+◌, ◌/◌, ◌%◌, ◌≤◌, ◌<◌, eqb, length};
+ghost use Rattle.word.specs.Value.{value};
 ghost use Rattle.trace_text.specs.Text.{glyph as glyph_of, numeral, Reported, reply_of, text_of, Wrote};
+ghost use Rattle.std.proofs.Common.{lit<, lit≤};
 
 use word::Word;
 
 // What a line is answered with.
 #[derive(Clone, Copy)]
-pub enum Answered {
+pub enum Reply {
     Unread,
     Done,
-    Word,
-    Marks,
-    Refused,
-}
-
-// An answer with its values: the word, the two lengths of a snapshot, or the number of a refusal, which is `first`.
-#[derive(Clone, Copy)]
-pub struct Reply {
-    pub answered: Answered,
-    pub word: Word,
-    pub first: u32,
-    pub second: u32,
-}
-
-// ---- answers
-
-fn plain(answered: Answered, first: u32, second: u32) -> Reply
-    ensures { (result.answered ≡ answered) × (result.first ≡ first) × (result.second ≡ second) }
-{
-    let limbs = [0u64; 4];
-    Reply {
-        answered: answered,
-        word: Word { limbs: limbs },
-        first: first,
-        second: second,
-    }
-}
-
-pub fn unread() -> Reply
-    ensures { reply_of result ≡ Reported.unread }
-{
-    plain(Answered::Unread, 0, 0)
-}
-
-pub fn done() -> Reply
-    ensures { reply_of result ≡ Reported.done }
-{
-    plain(Answered::Done, 0, 0)
-}
-
-pub fn word(w: Word) -> Reply
-    ensures { reply_of result ≡ Reported.word (value w.limbs) }
-{
-    Reply {
-        answered: Answered::Word,
-        word: w,
-        first: 0,
-        second: 0,
-    }
-}
-
-pub fn marks(heap: u32, aux: u32) -> Reply
-    ensures { reply_of result ≡ Reported.marks heap aux }
-{
-    plain(Answered::Marks, heap, aux)
-}
-
-pub fn refused(number: u32) -> Reply
-    ensures { reply_of result ≡ Reported.refused number }
-{
-    plain(Answered::Refused, number, 0)
+    Word(Word),
+    // The lengths of the heap journal and of the aux journal.
+    Marks { heap: u32, aux: u32 },
+    // The number of the refusal.
+    Refused(u32),
 }
 
 // ---- numerals
 
-// A numeral that ends where the text does.
-#[derive(Clone, Copy)]
-pub struct Numeral {
-    pub text: [u8; 64],
-    pub from: usize,
+// A number that is written in some base.
+trait Digits: Copy {
+    ghost base: { ℕ };
+
+    ghost number: { Self → ℕ };
+
+    // The number's lowest digit.
+    fn low_digit(self) -> u8
+        ensures digit { result ≡ number self % base }
+        ensures small { result < 16 };
+
+    // The number without its lowest digit.
+    fn shortened(self) -> Self
+        ensures { number result ≡ number self / base };
+
+    fn is_zero(self) -> bool
+        ensures { result ≡ eqb (number self) 0 };
+
+    ghost has_digits: { (1 < base) × (base ≤ 16) };
+}
+
+// Decimal.
+impl Digits for u32 {
+    ghost base = { 10 };
+
+    ghost number = { λ n. n };
+
+    fn low_digit(self) -> u8 {
+        (self % 10) as u8
+    }
+
+    fn shortened(self) -> u32 {
+        self / 10
+    }
+
+    fn is_zero(self) -> bool {
+        self == 0
+    }
+
+    ghost has_digits = { (lit< tt, lit≤ tt) };
+}
+
+// Hexadecimal.
+impl Digits for Word {
+    ghost base = { 16 };
+
+    ghost number = { λ w. value w.limbs };
+
+    fn low_digit(self) -> u8 {
+        (self.limbs[0] % 16) as u8
+    }
+
+    fn shortened(self) -> Word {
+        let [a, b, c, d] = self.limbs;
+        Word {
+            limbs: [
+                a / 16 + b % 16 * (1 << 60),
+                b / 16 + c % 16 * (1 << 60),
+                c / 16 + d % 16 * (1 << 60),
+                d / 16,
+            ],
+        }
+    }
+
+    fn is_zero(self) -> bool {
+        self.limbs == [0; 4]
+    }
+
+    ghost has_digits = { (lit< tt, lit≤ tt) };
 }
 
 // The byte of a digit below 16.
-fn glyph(digit: u64) -> u8
+fn glyph(digit: u8) -> u8
     requires { digit < 16 }
     ensures { result ≡ glyph_of digit }
 {
     if digit < 10 {
-        return 48 + digit as u8;
-    }
-    87 + digit as u8
-}
-
-// A number of 32 bits in decimal.
-fn decimal_numeral(number: u32) -> Numeral
-    ensures { (drop result.from result.text ≡ numeral 10 64 number) × (result.from ≤ 64) × (length result.text ≡ 64) }
-{
-    let mut text = [0u8; 64];
-    let mut n = number as u64;
-    let mut i: usize = 64;
-    while 0 < i {
-        i -= 1;
-        text[i] = glyph(n % 10);
-        n /= 10;
-        if n == 0 {
-            return Numeral {
-                text: text,
-                from: i,
-            };
-        }
-    }
-    Numeral {
-        text: text,
-        from: i,
-    }
-}
-
-// The word of four limbs without its lowest hexadecimal digit.
-fn shorter(a: u64, b: u64, c: u64, d: u64) -> Word
-    ensures { value result.limbs ≡ limbs_value a b c d / 16 }
-{
-    let m = [
-        a / 16 + (b % 16) * 1152921504606846976,
-        b / 16 + (c % 16) * 1152921504606846976,
-        c / 16 + (d % 16) * 1152921504606846976,
-        d / 16,
-    ];
-    Word { limbs: m }
-}
-
-fn shortened(w: Word) -> Word
-    ensures { value result.limbs ≡ value w.limbs / 16 }
-{
-    let l = w.limbs;
-    shorter(l[0], l[1], l[2], l[3])
-}
-
-// The lowest hexadecimal digit of a word.
-fn low_digit(w: Word) -> u64
-    ensures { (result ≡ value w.limbs % 16) × (result < 16) }
-{
-    let l = w.limbs;
-    l[0] % 16
-}
-
-fn is_zero(w: Word) -> bool
-    ensures { result ≡ eqb (value w.limbs) 0 }
-{
-    let l = w.limbs;
-    if l[0] != 0 {
-        return false;
-    }
-    if l[1] != 0 {
-        return false;
-    }
-    if l[2] != 0 {
-        return false;
-    }
-    if l[3] != 0 {
-        return false;
-    }
-    true
-}
-
-// A word in hexadecimal.
-fn hexadecimal_numeral(word: Word) -> Numeral
-    ensures { (drop result.from result.text ≡ numeral 16 64 (value word.limbs)) × (result.from ≤ 64) × (length result.text ≡ 64) }
-{
-    let mut text = [0u8; 64];
-    let mut w = word;
-    let mut i: usize = 64;
-    while 0 < i {
-        i -= 1;
-        text[i] = glyph(low_digit(w));
-        w = shortened(w);
-        if is_zero(w) {
-            return Numeral {
-                text: text,
-                from: i,
-            };
-        }
-    }
-    Numeral {
-        text: text,
-        from: i,
+        b'0' + digit
+    } else {
+        b'a' + (digit - 10)
     }
 }
 
 // ---- text
+
+// Stays: `write!` into a slice may fail where there is no room, and its clauses do not say when, but `put_reply` cannot fail and says which bytes it
+// writes. So the text is put in place by these functions, and not by a `Display`.
 
 // Writes a text from place `at` on, and gives the place after it.
 fn put(out: &mut [u8], at: usize, text: &[u8]) -> usize
     requires { at + length text.now ≤ length out.old }
     ensures { Wrote text.now at out.old out.new result }
 {
-    let mut i = 0;
-    while i < text.len() {
-        out[at + i] = text[i];
-        i += 1;
+    let end = at + text.len();
+    out[at..end].copy_from_slice(text);
+    end
+}
+
+fn put_numeral<N: Digits>(out: &mut [u8], at: usize, number: N) -> usize
+    requires { at + 64 ≤ length out.old }
+    ensures { Wrote (numeral N.base 64 (N.number number)) at out.old out.new result }
+{
+    let mut text = [0u8; 64];
+    let mut left = number;
+    for i in (0..64).rev() {
+        text[i] = glyph(left.low_digit());
+        left = left.shortened();
+        if left.is_zero() {
+            return put(out, at, &text[i..]);
+        }
     }
-    at + i
-}
-
-fn put_decimal(out: &mut [u8], at: usize, number: u32) -> usize
-    requires { at + 64 ≤ length out.old }
-    ensures { Wrote (numeral 10 64 number) at out.old out.new result }
-{
-    let n = decimal_numeral(number);
-    let text = n.text;
-    let from = n.from;
-    put(out, at, &text[from..])
-}
-
-fn put_word(out: &mut [u8], at: usize, word: Word) -> usize
-    requires { at + 64 ≤ length out.old }
-    ensures { Wrote (numeral 16 64 (value word.limbs)) at out.old out.new result }
-{
-    let n = hexadecimal_numeral(word);
-    let text = n.text;
-    let from = n.from;
-    put(out, at, &text[from..])
-}
-
-// `snap` and the two lengths.
-fn put_marks(out: &mut [u8], at: usize, heap: u32, aux: u32) -> usize
-    requires { at + 134 ≤ length out.old }
-    ensures { Wrote (text_of (Reported.marks heap aux)) at out.old out.new result }
-{
-    let a = put(out, at, b"snap ");
-    let b = put_decimal(out, a, heap);
-    let c = put(out, b, b" ");
-    put_decimal(out, c, aux)
-}
-
-fn put_labelled_word(out: &mut [u8], at: usize, w: Word) -> usize
-    requires { at + 69 ≤ length out.old }
-    ensures { Wrote (text_of (Reported.word (value w.limbs))) at out.old out.new result }
-{
-    let a = put(out, at, b"word ");
-    put_word(out, a, w)
-}
-
-fn put_refusal(out: &mut [u8], at: usize, number: u32) -> usize
-    requires { at + 72 ≤ length out.old }
-    ensures { Wrote (text_of (Reported.refused number)) at out.old out.new result }
-{
-    let a = put(out, at, b"refused ");
-    put_decimal(out, a, number)
+    put(out, at, &text)
 }
 
 // The text of an answer, without the end of its line.
+#[tactic(auto, using(crate::proofs::Numerals::numeral_length))]
 fn put_text(out: &mut [u8], at: usize, r: Reply) -> usize
     requires { at + 134 ≤ length out.old }
     ensures { Wrote (text_of (reply_of r)) at out.old out.new result }
 {
-    let answered = r.answered;
-    match answered {
-        Answered::Unread => put(out, at, b"unread"),
-        Answered::Done => put(out, at, b"ok"),
-        Answered::Word => put_labelled_word(out, at, r.word),
-        Answered::Marks => put_marks(out, at, r.first, r.second),
-        Answered::Refused => put_refusal(out, at, r.first),
+    match r {
+        Reply::Unread => put(out, at, b"unread"),
+        Reply::Done => put(out, at, b"ok"),
+        Reply::Word(w) => {
+            let at = put(out, at, b"word ");
+            put_numeral(out, at, w)
+        }
+        Reply::Marks { heap, aux } => {
+            let at = put(out, at, b"snap ");
+            let at = put_numeral(out, at, heap);
+            let at = put(out, at, b" ");
+            put_numeral(out, at, aux)
+        }
+        Reply::Refused(number) => {
+            let at = put(out, at, b"refused ");
+            put_numeral(out, at, number)
+        }
     }
 }
 
 // Writes the line of an answer from place `at` on, and gives the place after it.
+#[tactic(auto, using(crate::proofs::Numerals::reply_length))]
 pub fn put_reply(out: &mut [u8], at: usize, r: Reply) -> usize
     requires { at + 135 ≤ length out.old }
     ensures { Wrote (text_of (reply_of r) ++ (10 ∷ [])) at out.old out.new result }

@@ -1,14 +1,9 @@
-use Rattle.trace_calls.proofs.Tells.{tells, word_refused, word_given}
+use Rattle.trace_calls.proofs.Tells.{tells, word_given}
 use Rattle.reads.proofs.Calls.{word_call}
 use Rattle.word.specs.Value.{value}
 use Rattle.store.specs.Mem.{mem}
-use mathlib.Core.Path.{◌∙◌}
 use Rattle.trace_calls.proofs.read.Goals as goal
-
-pub returns-then-r-ne0 : goal.returns-then-r-ne0
-returns-then-r-ne0 c =
-    tells (word_call (mem c.args.bytes.now c.args.keys.now c.args.order.now c.args.words.now) c.args.page c.args.address _ c.read_u256-r.ensures.answer) _ (c.refused.ensures ∙ word_refused c.read_u256-r.result.refusal (value c.read_u256-r.result.word.limbs) c.if-r-ne0.true)
 
 pub returns : goal.returns
 returns c =
-    tells (word_call (mem c.args.bytes.now c.args.keys.now c.args.order.now c.args.words.now) c.args.page c.args.address _ c.read_u256-r.ensures.answer) _ (c.word.ensures ∙ word_given c.read_u256-r.result.refusal (value c.read_u256-r.result.word.limbs) c.if-r-ne0.false)
+    tells (word_call (mem c.args.bytes.now c.args.keys.now c.args.order.now c.args.words.now) c.args.page c.args.address _ c.read_u256-r.ensures.answer) _ (word_given c.read_u256-r.result.refusal (value c.read_u256-r.result.word.limbs) c.if-r-ne0.false)

@@ -1,6 +1,0 @@
-use Rattle.trace_text.proofs.Numerals.{then}
-use Rattle.trace_text.proofs.put_refusal.Goals as goal
-
-pub returns : goal.returns
-returns c =
-    then c.put-a.ensures c.put_decimal.ensures

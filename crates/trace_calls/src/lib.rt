@@ -11,7 +11,8 @@ ghost use Rattle.trace_text.specs.Text.{reply_of};
 ghost use Rattle.trace_calls.specs.Space.{Space, mem_of};
 ghost use Rattle.trace_calls.specs.Trace.{reported, opening_layout, opening_setting, CallTells, OpenTells, LineTells, PartsTell, TraceTells};
 
-use outcome::Answer;
+use opening::Capacity;
+use outcome::Refusal;
 use page_ids::{Address, BasePage, Layout, PageId};
 use store::head;
 use trace::{Command, Counts, Opening};
@@ -34,12 +35,12 @@ pub struct Buffers {
 
 // ---- the calls, of a memory in just these buffers
 
-fn said(answer: Answer) -> Reply
+fn said(answer: Result<(), Refusal>) -> Reply
     ensures { reply_of result ≡ reported (answer_outcome nothing answer) }
 {
     match answer {
-        Answer::Done => Reply::Done,
-        Answer::Refused(n) => Reply::Refused(n),
+        Ok(()) => Reply::Done,
+        Err(refusal) => Reply::Refused(u32::from(refusal)),
     }
 }
 
@@ -68,23 +69,21 @@ fn write(
 fn read(bytes: &[u8], keys: &[u64], order: &[u32], words: &[u64], page: u32, address: u32) -> Reply
     ensures { CallTells (mem bytes.now keys.now order.now words.now) (ReadWord page address) (reply_of result) (mem bytes.now keys.now order.now words.now) }
 {
-    let r = reads::read_u256(bytes, keys, order, words, PageId(page), Address(address));
-    if r.refusal != 0 {
-        return Reply::Refused(r.refusal);
+    match reads::read_u256(bytes, keys, order, words, PageId(page), Address(address)) {
+        Ok(word) => Reply::Word(word),
+        Err(refusal) => Reply::Refused(u32::from(refusal)),
     }
-    Reply::Word(r.word)
 }
 
 fn snapshot(bytes: &[u8], keys: &[u64], order: &[u32], words: &[u64]) -> Reply
     ensures { CallTells (mem bytes.now keys.now order.now words.now) Snapshot (reply_of result) (mem bytes.now keys.now order.now words.now) }
 {
-    let r = reads::snapshot(bytes, keys, order, words);
-    if r.refusal != 0 {
-        return Reply::Refused(r.refusal);
-    }
-    Reply::Marks {
-        heap: r.heap,
-        aux: r.aux,
+    match reads::snapshot(bytes, keys, order, words) {
+        Ok(marks) => Reply::Marks {
+            heap: marks.heap,
+            aux: marks.aux,
+        },
+        Err(refusal) => Reply::Refused(u32::from(refusal)),
     }
 }
 
@@ -124,15 +123,18 @@ fn begin(
     ensures { OpenTells (mem bytes.old keys.old order.old words.old) (opening_setting opening) (reply_of result) (mem bytes.new keys.new order.new words.new) }
 {
     let counts = opening.counts;
+    let capacity = Capacity {
+        chunks: counts.chunks,
+        pages: counts.pages,
+        journal_words: counts.journal_words,
+    };
     said(opening::open(
         bytes,
         keys,
         order,
         words,
         layout_of(opening),
-        counts.chunks,
-        counts.pages,
-        counts.journal_words,
+        capacity,
         &[],
     ))
 }

@@ -8,20 +8,17 @@ use Prim.Native.Nat.{ℕ, zero, suc, ◌+◌, ◌-◌, ◌*◌, ◌/◌, ◌%◌
 use native.Mathlib.Nat.{not-suc-le-zero, le_of_suc-le-suc, le_refl, eq-zero-or-pos, pow-suc, add-zero, zero-min, min-zero, suc-min-suc}
 use native.Mathlib.Omega.{arith}
 use lib.Arith.{lt-one}
-use lib.Pow.{shr-shr, pow_pos}
+use lib.Pow.{pow_pos}
 use lib.Dec.{eqb}
 use lib.ListN.{length, get_or, set, length-set, get_or-eq_default}
 use lib.Seq.{get_or-set_same, get_or-set_other, set-set, set-get_or}
 use borrow.Author.Tests.{eq-eqb, ne_eqb, eqb-true}
+use Rattle.std.proofs.lemmas.List.{get_or_default}
+use Rattle.std.proofs.lemmas.Nat.Bits.{bit_at-suc}
 use Rattle.index.proofs.Logic.{and_left, and_right, and_both, same_or_not, lt_or_ge, both_ways}
 use Rattle.bits.specs.Bits.{free_bit, free_bits, free_word}
 
 -- ---- one bit
-inside : (ks : List ℕ) (s a b : ℕ) → s < length ks → get_or ks s a ≡ get_or ks s b
-inside [] s a b l = absurd (not-suc-le-zero l)
-inside (x ∷ ks) zero a b l = refl
-inside (x ∷ ks) (suc s) a b l = inside ks s a b (le_of_suc-le-suc l)
-
 held : (ks : List ℕ) (s : ℕ) → 0 < get_or ks s 0 → get_or ks s 1 ≡ 0 → ⊥
 held [] s p e = not-suc-le-zero p
 held (x ∷ ks) zero p e = omega arith
@@ -36,10 +33,10 @@ free_one ks s = at_most (eqb (get_or ks s 1) 0)
 
 -- as it is read
 pub free_read : (ks : List ℕ) (s : ℕ) → s < length ks → free_bit ks s ≡ cond (eqb (get_or ks s 0) 0) 1 0
-free_read ks s l = ap (λ (x : ℕ). cond (eqb x 0) 1 0) (inside ks s 1 0 l)
+free_read ks s l = ap (λ (x : ℕ). cond (eqb x 0) 1 0) (get_or_default ks s 1 0 l)
 
 pub free_on : (ks : List ℕ) (s : ℕ) → s < length ks → get_or ks s 0 ≡ 0 → free_bit ks s ≡ 1
-free_on ks s l e = ap (λ (t : Bool). cond t 1 0) (eq-eqb (get_or ks s 1) 0 (inside ks s 1 0 l ∙ e))
+free_on ks s l e = ap (λ (t : Bool). cond t 1 0) (eq-eqb (get_or ks s 1) 0 (get_or_default ks s 1 0 l ∙ e))
 
 pub free_off : (ks : List ℕ) (s : ℕ) → 0 < get_or ks s 0 → free_bit ks s ≡ 0
 free_off ks s p = ap (λ (t : Bool). cond t 1 0) (ne_eqb (get_or ks s 1) 0 (held ks s p))
@@ -126,9 +123,6 @@ free_short ks at (suc n) zero l m = absurd (not-suc-le-zero l)
 free_short ks at (suc n) (suc k) l m = let h = free_short ks (suc at) n k (le_of_suc-le-suc l) (omega (arith, m)) in omega (arith, h)
 
 -- ---- the bits, both ways
-bit_up : (x r : ℕ) → x / 2 ^ suc r % 2 ≡ x / 2 / 2 ^ r % 2
-bit_up x r = let e : suc r ≡ 1 + r = omega arith in ap (λ (k : ℕ). x / 2 ^ k % 2) e ∙ ap (λ (y : ℕ). y % 2) (sym (shr-shr x 1 r))
-
 bit_first : (x : ℕ) → x / 2 ^ 0 % 2 ≡ x % 2
 bit_first x = omega arith
 
@@ -143,7 +137,7 @@ free_bit_lem ks at (suc n) (suc r) l =
     let b = free_one ks at in
     let q : (free_bit ks at + 2 * free_bits ks (suc at) n) / 2 ≡ free_bits ks (suc at) n = omega (arith, b) in
     let e : suc at + r ≡ at + suc r = omega arith in
-    bit_up (free_bits ks at (suc n)) r ∙ ap (λ (x : ℕ). x / 2 ^ r % 2) q ∙ free_bit_lem ks (suc at) n r (le_of_suc-le-suc l) ∙ ap (free_bit ks) e
+    bit_at-suc (free_bits ks at (suc n)) r ∙ ap (λ (x : ℕ). x / 2 ^ r % 2) q ∙ free_bit_lem ks (suc at) n r (le_of_suc-le-suc l) ∙ ap (free_bit ks) e
 
 pub free_is : (ks : List ℕ) (at n x : ℕ) → x < 2 ^ n → ((r : ℕ) → r < n → x / 2 ^ r % 2 ≡ free_bit ks (at + r)) → x ≡ free_bits ks at n
 unfolding free_bits
@@ -152,7 +146,7 @@ free_is ks at (suc n) x l f =
     let p = pow-suc 2 n in
     let b : x % 2 ≡ free_bit ks at = sym (bit_first x) ∙ f 0 (suc-le-suc zero-le) ∙ ap (free_bit ks) (add-zero at) in
     let h = free_is ks (suc at) n (x / 2) (omega (arith, l, p)) (λ r m.
-    let e : at + suc r ≡ suc at + r = omega arith in sym (bit_up x r) ∙ f (suc r) (suc-le-suc m) ∙ ap (free_bit ks) e) in
+    let e : at + suc r ≡ suc at + r = omega arith in sym (bit_at-suc x r) ∙ f (suc r) (suc-le-suc m) ∙ ap (free_bit ks) e) in
     omega (arith, b, h)
 
 -- ---- a table of which every place is free

@@ -5,15 +5,17 @@ use mathlib.Core.Logic.{◌⊎◌, inl, inr, ⊎_elim}
 use mathlib.Core.Bool.{Bool, true, false, cond}
 use mathlib.Core.List.{List, [], ◌∷◌}
 use Prim.Native.Nat.{ℕ, zero, suc, ◌+◌, ◌-◌, ◌*◌, ◌/◌, ◌%◌, ◌^◌, ◌≤◌, ◌<◌, zero-le, suc-le-suc}
-use native.Mathlib.Nat.{not-suc-le-zero, le_of_suc-le-suc, le_refl, le_trans, le_of_eq, add-le-add, eq-zero-or-pos, pow-suc, add-zero, zero-add}
+use native.Mathlib.Nat.{not-suc-le-zero, le_of_suc-le-suc, le_trans, le_of_eq, add-le-add, eq-zero-or-pos, pow-suc, add-zero, zero-add}
 use native.Mathlib.Omega.{arith}
-use lib.Arith.{lt-one}
-use lib.Pow.{shr-shr, shl_exact}
+use lib.Pow.{shl_exact}
 use lib.Dec.{eqb, eqb-suc-zero}
-use lib.Count.{ones, ones_step, ones-ones, count_trailing_zeros, under}
+use lib.Count.{ones, ones_step, ones-ones, count_trailing_zeros}
 use lib.ListN.{length, get_or, drop, drop_of_length-le, get_or-eq_default}
 use lib.Seq.{drop-cons}
 use borrow.Author.Tests.{eqb-true, eqb-false, ne_eqb}
+use mir.Syntax.{w64}
+use Rattle.std.proofs.lemmas.Nat.{zero_from_ones}
+use Rattle.std.proofs.lemmas.Nat.Bits.{bit_at-suc, bit_at-zero, bit_at-trailing_zeros}
 use Rattle.index.specs.Index.{free_count}
 use Rattle.index.proofs.Logic.{lt_or_ge}
 use Rattle.bits.specs.Bits.{bit_of, ones_of, lowest_of, free_bit, free_bits, free_word}
@@ -125,19 +127,9 @@ pub ones_free : (ks ws : List ℕ) → Bits ks ws → length ks ≤ 64 * length 
 ones_free ks ws f l = in_words ks ws 0 (λ i m. f i m ∙ ap (free_word ks) (sym (zero-add i))) ∙ in_all ks (64 * length ws) l
 
 -- ---- words of which each is 0 or that of the table
-pub ones_none : (n : ℕ) → ones n ≡ 0 → n ≡ 0
-ones_none n e = go n n (le_refl n) e
-  where
-    go : (d k : ℕ) → k ≤ d → ones k ≡ 0 → k ≡ 0
-    go zero k l z = omega (arith, l)
-    go (suc d) k l z =
-        let s = ones_step k in
-        let h = go d (k / 2) (omega (arith, l)) (omega (arith, s, z)) in
-        omega (arith, s, z, h)
-
 -- a number that is not 0 has a bit that is set
 pub ones_pos : (n : ℕ) → (n ≡ 0 → ⊥) → 0 < ones n
-ones_pos n f = ⊎_elim (λ e. absurd (f (ones_none n e))) (λ p. p) (eq-zero-or-pos (ones n))
+ones_pos n f = ⊎_elim (λ e. absurd (f (zero_from_ones n e))) (λ p. p) (eq-zero-or-pos (ones n))
 
 module _ (ks : List ℕ) where
   abbrev Some : List ℕ → ℕ → Type 0
@@ -164,7 +156,7 @@ module _ (ks : List ℕ) where
       (λ e.
       let z : ones x ≡ 0 = ap ones e ∙ ones-ones 0 in
       let b = ones_bits ks (64 * j) 64 in
-      e ∙ sym (ones_none (free_word ks j) (omega (arith, z, b, l))))
+      e ∙ sym (zero_from_ones (free_word ks j) (omega (arith, z, b, l))))
       (λ e. e)
       o
 
@@ -219,48 +211,10 @@ bit_free ks ws f s l =
 abbrev bit : ℕ → ℕ → ℕ
 bit x r = x / 2 ^ r % 2
 
-half_lt : (k n : ℕ) → n < 2 ^ suc k → n / 2 < 2 ^ k
-half_lt k n h = let e = pow-suc 2 k in omega (arith, e)
-
-bit_up : (n r : ℕ) → bit n (suc r) ≡ bit (n / 2) r
-bit_up n r =
-    let e : suc r ≡ 1 + r = omega arith in
-    ap (λ (k : ℕ). n / 2 ^ k % 2) e ∙ ap (λ (x : ℕ). x % 2) (sym (shr-shr n 1 r))
-
 -- a set bit is part of the number
 bit_le : (r x : ℕ) → bit x r ≡ 1 → 2 ^ r ≤ x
 bit_le zero x b = let q : x / 1 ≡ x = omega arith in let o : x % 2 ≡ 1 = sym (ap (λ (z : ℕ). z % 2) q) ∙ b in omega (arith, o)
-bit_le (suc r) x b = let ih = bit_le r (x / 2) (sym (bit_up x r) ∙ b) in let s = pow-suc 2 r in omega (arith, ih, s)
-
-bit_zero : (r : ℕ) → bit 0 r ≡ 0
-bit_zero zero = refl
-bit_zero (suc r) = bit_up 0 r ∙ bit_zero r
-
-record Lowest (n t : ℕ) : Type 0 where
-  set : bit n t ≡ 1
-  below : (i : ℕ) → i < t → bit n i ≡ 0
-
-lowest_of_lem : (k n : ℕ) → 0 < n → n < 2 ^ k → (count_trailing_zeros k n < k) × Lowest n (count_trailing_zeros k n)
-unfolding count_trailing_zeros
-lowest_of_lem zero n p h = absurd (let e = lt-one h in omega (arith, e))
-lowest_of_lem (suc k) n p h = go (n % 2) refl (λ q. lowest_of_lem k (n / 2) q (half_lt k n h))
-  where
-    below : n % 2 ≡ 0 → ((i : ℕ) → i < count_trailing_zeros k (n / 2) → bit (n / 2) i ≡ 0) → (i : ℕ) → i < suc (count_trailing_zeros k (n / 2)) → bit n i ≡ 0
-    below z f zero l = let q : n / 1 ≡ n = omega arith in ap (λ (x : ℕ). x % 2) q ∙ z
-    below z f (suc i) l = bit_up n i ∙ f i (le_of_suc-le-suc l)
-
-    go : (d : ℕ) → n % 2 ≡ d → (0 < n / 2 → (count_trailing_zeros k (n / 2) < k) × Lowest (n / 2) (count_trailing_zeros k (n / 2)))
-        → (under d (count_trailing_zeros k (n / 2)) < suc k) × Lowest n (under d (count_trailing_zeros k (n / 2)))
-    go zero e rest =
-        let ih = rest (omega (arith, e)) in
-        (suc-le-suc ih.0, record { set = bit_up n (count_trailing_zeros k (n / 2)) ∙ ih.1.set; below = below e ih.1.below })
-    go (suc d) e rest = (
-      suc-le-suc zero-le,
-      record {
-        set = let q : n / 1 ≡ n = omega arith in let g : n % 2 ≡ 1 = omega (arith, e) in ap (λ (x : ℕ). x % 2) q ∙ g;
-        below = λ i l. absurd (not-suc-le-zero l);
-      },
-    )
+bit_le (suc r) x b = let ih = bit_le r (x / 2) (sym (bit_at-suc x r) ∙ b) in let s = pow-suc 2 r in omega (arith, ih, s)
 
 -- ---- the lowest bit of words
 bit_here : (x : ℕ) (ws : List ℕ) (s : ℕ) → s < 64 → bit_of (x ∷ ws) s ≡ bit x s
@@ -285,12 +239,12 @@ unfolding ones_of lowest_of
 low [] f p = absurd (not-suc-le-zero p)
 low (x ∷ ws) f p = go (eqb x 0) refl (λ q. low ws (λ i. f (suc i)) q)
   where
-    first : Lowest x (count_trailing_zeros 64 x) → count_trailing_zeros 64 x < 64 → Low (x ∷ ws) (count_trailing_zeros 64 x)
+    first : bit x (count_trailing_zeros 64 x) ≡ 1 → count_trailing_zeros 64 x < 64 → Low (x ∷ ws) (count_trailing_zeros 64 x)
     first w l =
         let q : count_trailing_zeros 64 x / 64 ≡ 0 = omega (arith, l) in record {
           inside = rw q (suc-le-suc zero-le);
           skips = λ i m. absurd (not-suc-le-zero (subst (λ (k : ℕ). i < k) q m));
-          set = bit_here x ws (count_trailing_zeros 64 x) l ∙ w.set;
+          set = bit_here x ws (count_trailing_zeros 64 x) l ∙ w;
         }
 
     later : x ≡ 0 → (t : ℕ) → Low ws t → Low (x ∷ ws) (64 + t)
@@ -311,7 +265,7 @@ low (x ∷ ws) f p = go (eqb x 0) refl (λ q. low ws (λ i. f (suc i)) q)
         later (eqb-true x 0 e) (lowest_of ws) (rest (omega (arith, p, z)))
     go false e rest =
         let n = eqb-false x 0 e in
-        let w = lowest_of_lem 64 x (omega (arith, n)) (f 0) in
+        let w = bit_at-trailing_zeros w64 x (omega (arith, n)) (f 0) in
         first w.1 w.0
 
 -- it is in the words, its word is the first that is not 0, and it is set
@@ -336,15 +290,15 @@ lowest_least (x ∷ ws) f s l = go (eqb x 0) refl l (λ r m. lowest_least ws (λ
     go : (b : Bool) → eqb x 0 ≡ b → s < cond b (64 + lowest_of ws) (count_trailing_zeros 64 x) → ((r : ℕ) → r < lowest_of ws → bit_of ws r ≡ 0) → bit_of (x ∷ ws) s ≡ 0
     go true e m rest =
         ⊎_elim
-        (λ (h : s < 64). bit_here x ws s h ∙ ap (λ (y : ℕ). bit y s) (eqb-true x 0 e) ∙ bit_zero s)
+        (λ (h : s < 64). bit_here x ws s h ∙ ap (λ (y : ℕ). bit y s) (eqb-true x 0 e) ∙ bit_at-zero s)
         (λ (h : 64 ≤ s).
         let q : s ≡ 64 + (s - 64) = omega (arith, h) in ap (bit_of (x ∷ ws)) q ∙ bit_next x ws (s - 64) ∙ rest (s - 64) (omega (arith, m, h)))
         (lt_or_ge s 64)
     go false e m rest =
         let n = eqb-false x 0 e in
-        let w = lowest_of_lem 64 x (omega (arith, n)) (f 0) in
+        let w = bit_at-trailing_zeros w64 x (omega (arith, n)) (f 0) in
         let b = w.0 in
-        bit_here x ws s (omega (arith, m, b)) ∙ w.1.below s m
+        bit_here x ws s (omega (arith, m, b)) ∙ w.2 s m
 
 -- the first word that is not 0 has it
 pub lowest_at : (ws : List ℕ) (i : ℕ) → ((j : ℕ) → j < i → get_or ws j 0 ≡ 0) → i < length ws → (get_or ws i 0 ≡ 0 → ⊥)

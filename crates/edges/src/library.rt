@@ -183,6 +183,7 @@ fn handed(length: u64) -> usize
 }
 
 // Opens or changes the memory of these lengths. The library is lent its own parts of the buffers.
+// Stays: tried as a method that cuts the parts from `self`, and the proof didn't close: several fields behind one `&mut` are lent whole alone.
 fn changed(
     bytes: &mut [u8; BYTES],
     keys: &mut [u64; KEYS],

@@ -1,8 +1,7 @@
 // A bit for each place of a table, in words of 64 bits, the lowest bit first: it is set where the place is free.
 #![tactic(auto)]
 
-ghost use Rattle.std.specs.Prelude.{◌≡◌, cond, ◌||◌, ℕ, ◌+◌, ◌*◌, ◌-◌, ◌/◌, ◌%◌, ◌^◌, ◌<◌, ◌≤◌, min, eqb, leb, length, get_or, set};
-ghost use Rattle.std.specs.Int.Count.{ones, count_trailing_zeros};
+ghost use Rattle.std.specs.Prelude.{◌≡◌, ◌||◌, ℕ, ◌+◌, ◌*◌, ◌-◌, ◌/◌, ◌%◌, ◌^◌, ◌<◌, ◌≤◌, min, eqb, leb, length, get_or, set};
 ghost use Rattle.bits.specs.Bits.{ones_of, lowest_of, free_bits};
 
 // How many bits a word has.

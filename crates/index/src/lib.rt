@@ -2,7 +2,7 @@
 // The table of chunk holders and the table of pages are both of this form.
 #![tactic(auto)]
 
-ghost use Rattle.std.specs.Prelude.{◌≡◌, true, ℕ, ◌+◌, ◌^◌, ◌<◌, ◌≤◌, length, get_or, set};
+ghost use Rattle.std.specs.Prelude.{◌≡◌, true, ℕ, ◌+◌, ◌<◌, ◌≤◌, length, get_or, set};
 ghost use Rattle.index.specs.Index.{all, rises, used_count, indexed, seek, LowerBound, MovedUp, Insertable, Cleared, MovedDown, Removed};
 
 // How many places are in use.

@@ -1,5 +1,6 @@
 // Which refusal a write to a well-formed memory or an allocation in it gets, if any: the tests in the order of 01's table.
 // How much of a range of chunks is known to be held, and the rank of the next one.
+// Stays: the lent buffers are parameters side by side. These functions are called with `&mut` buffers in hand, and most read two or three of the four.
 #![tactic(auto)]
 
 ghost use Rattle.std.specs.Prelude.{◌≡◌, true, false, ℕ, ◌+◌, ◌/◌, ◌%◌, ◌<◌, ◌≤◌, ◌^◌, ltb, length, drop};

@@ -22,6 +22,7 @@ pub fn place(j: usize) -> usize
 }
 
 // Which journal a page has; how many journals there are, where it has none.
+// Stays: the number of journals stands for none. An Option is no plainer: the clause `JournalOf` and the journals' places go by the number.
 pub fn journal_of(words: &[u64], page: PageId) -> usize
     requires { head_length ≤ length words.now }
     ensures { JournalOf (layout_of words.now) page.0 result }

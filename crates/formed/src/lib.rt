@@ -1,4 +1,5 @@
 // Whether a lent memory is well formed: 01's sentence and the encoding's own rules, tested in one order.
+// Stays: the lent buffers are parameters side by side. These functions are called with `&mut` buffers in hand, and most read two or three of the four.
 #![tactic(auto)]
 
 ghost use Rattle.std.specs.Prelude.{◌≡◌, true, ◌&&◌, ◌≤◌, length, take, drop};

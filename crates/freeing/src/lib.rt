@@ -1,4 +1,5 @@
 // Pages freed, shrunk to a window, and cut off by truncation. A call tests first that the memory is well formed (refusal 3); `on_formed` has what is left of it.
+// Stays: the lent buffers are parameters side by side. The C interface lends four, and the theorem `Demand` (lists/specs) names them one by one.
 #![tactic(auto)]
 
 ghost use Rattle.outcome.specs.Outcome.{answer_outcome};

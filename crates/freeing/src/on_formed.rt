@@ -1,4 +1,6 @@
 // Frees, windows and truncations of a memory that is known to be well formed: what is left of each call after the test.
+// Stays: the lent buffers are parameters side by side. As a struct of four `&mut`, tried in `pool`, they can't be lent as `&` and `&mut` at once,
+// so each body would first take the fields out, and each contract would say that the four references stay the same.
 ghost use Rattle.std.specs.Prelude.{◌≡◌, ◌&&◌};
 ghost use Rattle.outcome.specs.Outcome.{answer_outcome, status_of};
 ghost use Rattle.store.specs.Mem.{mem, layout_of};
@@ -13,7 +15,13 @@ use page_ids::{Address, PageId};
 use store::head;
 
 // The refusal that a free gets, if any.
-fn free_refusal(bytes: &[u8], keys: &[u64], order: &[u32], words: &[u64], page: PageId) -> Result<(), Refusal>
+fn free_refusal(
+    bytes: &[u8],
+    keys: &[u64],
+    order: &[u32],
+    words: &[u64],
+    page: PageId,
+) -> Result<(), Refusal>
     requires { WellFormed (mem bytes.now keys.now order.now words.now) }
     ensures { let m = mem bytes.now keys.now order.now words.now in status_of result ≡ first_refusal (free_checks (setting_of m) (view_of m) page.0) }
 {
@@ -75,7 +83,13 @@ pub fn compact_to_window(
 }
 
 // The refusal that a truncation gets, if any.
-fn truncate_refusal(bytes: &[u8], keys: &[u64], order: &[u32], words: &[u64], len: u64) -> Result<(), Refusal>
+fn truncate_refusal(
+    bytes: &[u8],
+    keys: &[u64],
+    order: &[u32],
+    words: &[u64],
+    len: u64,
+) -> Result<(), Refusal>
     requires { WellFormed (mem bytes.now keys.now order.now words.now) }
     ensures { let m = mem bytes.now keys.now order.now words.now in status_of result ≡ first_refusal (truncate_checks (view_of m) len) }
 {

@@ -1,4 +1,5 @@
 // What one hint tells of a word: the lookup of the fast functions in `owned`.
+// Stays: the lent buffers are parameters side by side. These functions are called with `&mut` buffers in hand, and most read two or three of the four.
 #![tactic(auto)]
 
 ghost use Rattle.std.specs.Prelude.{◌≡◌, true, false, ◌+◌, ◌<◌, ◌≤◌, length, get_or};

@@ -1,4 +1,5 @@
 // The history of the bootloader pages: rollback to a snapshot, and deletion. A call tests first that the memory is well formed (refusal 3); `on_formed` has what is left of it.
+// Stays: the lent buffers are parameters side by side. A rollback lends keys and order as `&`, and bytes and words as `&mut`, so no struct of four `&mut` can be made of them.
 #![tactic(auto)]
 
 ghost use Rattle.outcome.specs.Outcome.{answer_outcome};
@@ -27,7 +28,12 @@ pub fn rollback(
 }
 
 // Empties the journals: no earlier snapshot can be rolled back to. vm2: `delete_history`.
-pub fn delete_history(bytes: &[u8], keys: &[u64], order: &[u32], words: &mut [u64]) -> Result<(), Refusal>
+pub fn delete_history(
+    bytes: &[u8],
+    keys: &[u64],
+    order: &[u32],
+    words: &mut [u64],
+) -> Result<(), Refusal>
     ensures { let m = mem bytes.now keys.now order.now words.old in CallDoes m DeleteHistory (answer_outcome nothing result) (mem bytes.now keys.now order.now words.new) }
 {
     if !formed::well_formed(bytes, keys, order, words) {

@@ -47,7 +47,12 @@ pub fn rollback(
     Ok(())
 }
 
-pub fn delete_history(bytes: &[u8], keys: &[u64], order: &[u32], words: &mut [u64]) -> Result<(), Refusal>
+pub fn delete_history(
+    bytes: &[u8],
+    keys: &[u64],
+    order: &[u32],
+    words: &mut [u64],
+) -> Result<(), Refusal>
     requires { WellFormed (mem bytes.now keys.now order.now words.old) }
     ensures { let m = mem bytes.now keys.now order.now words.old in CallDoes m DeleteHistory (answer_outcome nothing result) (mem bytes.now keys.now order.now words.new) }
 {

@@ -68,6 +68,7 @@ pub fn rank(keys: &[u64], order: &[u32], n: usize, k: u64) -> usize
 }
 
 // The place of the key k, whose rank is `at`, or the number of places where none has it.
+// Stays: the number of places stands for none. An Option is no plainer: callers hand the number on without a branch, since no key is at it.
 pub fn place_at(keys: &[u64], order: &[u32], n: usize, at: usize, k: u64) -> usize
     requires { (indexed keys.now order.now n ≡ true) × (0 < k) × (LowerBound keys.now order.now n k at) }
     ensures { result ≡ seek keys.now k }
@@ -83,6 +84,7 @@ pub fn place_at(keys: &[u64], order: &[u32], n: usize, at: usize, k: u64) -> usi
 }
 
 // The same, where the rank is not known.
+// Stays: the number of places stands for none, as in `place_at`.
 pub fn find(keys: &[u64], order: &[u32], n: usize, k: u64) -> usize
     requires { (indexed keys.now order.now n ≡ true) × (0 < k) }
     ensures { result ≡ seek keys.now k }

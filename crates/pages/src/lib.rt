@@ -1,4 +1,6 @@
 // Page entries: a page is allocated.
+// Stays: the lent buffers are parameters side by side. As a struct of four `&mut`, tried in `pool`, they can't be lent as `&` and `&mut` at once,
+// so each body would first take the fields out, and each contract would say that the four references stay the same.
 #![tactic(auto)]
 
 ghost use Rattle.std.specs.Prelude.{◌≡◌, false, ◌<◌, ◌≤◌, max, length, get_or, set};

@@ -1,4 +1,6 @@
 // Makes a page hold chunks: allocates it, if it is not, and takes the chunks that are missing from the pool. The page's entry and one rank are handed on.
+// Stays: the lent buffers are parameters side by side. As a struct of four `&mut`, tried in `pool`, they can't be lent as `&` and `&mut` at once,
+// so each body would first take the fields out, and each contract would say that the four references stay the same.
 #![tactic(auto)]
 
 ghost use Rattle.std.specs.Prelude.{◌≡◌, false, ℕ, ◌+◌, ◌<◌};
@@ -103,9 +105,7 @@ fn reserve_allocated(
     ensures { Reserved (mem bytes.now keys.old order.old words.old) page.0 first count w result (mem bytes.now keys.new order.new words.new) }
 {
     let located = checks::locate(keys, order, words, page, e, first, count);
-    checks::allocated_refusal(
-        bytes, keys, order, words, page, e, located, first, count, w,
-    )?;
+    checks::allocated_refusal(bytes, keys, order, words, page, e, located, first, count, w)?;
     prepare_allocated(bytes, keys, order, words, page, e, located, first, count);
     Ok(())
 }

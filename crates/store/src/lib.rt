@@ -1,4 +1,5 @@
 // Slots of chunks, in the lent buffers of a memory: keys, the place of the pool, the lookup of chunks and pages, and hints.
+// Stays: the lent buffers are parameters side by side. These functions are called with `&mut` buffers in hand, and most read two or three of the four.
 #![tactic(auto)]
 
 ghost use Rattle.std.specs.Prelude.{◌≡◌, ◌+◌, ◌/◌, ◌^◌, ◌<◌, ◌≤◌, true, length, take, drop, slice_index};
@@ -64,6 +65,8 @@ pub fn pool_place(words: &[u64]) -> usize
 }
 
 // ---- lookup
+// Stays: the number of slots, or of entries, stands for none. An Option is no plainer: callers hand the number on without a branch, since the key of an entry that is not there is no slot's,
+// and a hint's answer, which may be any number, is tested by one comparison.
 // The slot of the key k, or the number of slots where none has it.
 fn slot_of(keys: &[u64], order: &[u32], words: &[u64], k: u64) -> usize
     requires { (Indexed keys.now order.now words.now) × (0 < k) }

@@ -1,5 +1,6 @@
 // Writes and allocations. A call tests first that the memory is well formed (refusal 3); `on_formed` has what is left of it.
 // vm2: the writing half of `Heaps`.
+// Stays: the lent buffers are parameters side by side. The C interface lends four, and the theorem `Demand` (lists/specs) names them one by one.
 #![tactic(auto)]
 
 ghost use Rattle.std.specs.Prelude.{[]};

@@ -1,4 +1,6 @@
 // Each write to a memory that is known to be well formed, and each allocation in it: what is left of the call after the test.
+// Stays: the lent buffers are parameters side by side. As a struct of four `&mut`, tried in `pool`, they can't be lent as `&` and `&mut` at once,
+// so each body would first take the fields out, and each contract would say that the four references stay the same.
 ghost use Rattle.std.specs.Prelude.{[]};
 ghost use Rattle.outcome.specs.Outcome.{answer_outcome};
 ghost use Rattle.word.specs.Value.{value};

@@ -1,4 +1,5 @@
 // What the steps of the instructions are made of: their answers, the pages and the growth, the hook, loads and stores of a well-formed memory.
+// Stays: the lent buffers are parameters side by side. As one struct of four `&`, tried, a sequential load of an owned memory takes 1.12 times as long, which misses its bar.
 #![tactic(auto)]
 
 ghost use Rattle.std.specs.Prelude.{◌≡◌, true, false, cond, ◌&&◌, [], ◌∷◌, ◌++◌, ◌-◌, ◌%◌, ◌^◌, ◌≤◌, min, ltb, length};

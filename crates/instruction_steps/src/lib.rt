@@ -1,5 +1,6 @@
 // The step of each instruction on an operand, on a memory that is known to be well formed: it panics or is refused, or does its work.
 // It reads and writes no register. vm2: heap_access.rs.
+// Stays: the lent buffers are parameters side by side. As one struct of four `&`, tried, a sequential load of an owned memory takes 1.12 times as long, which misses its bar.
 #![tactic(auto)]
 
 ghost use Rattle.word.specs.Value.{value};

@@ -1,5 +1,6 @@
 // The five heap instructions. Each takes its operands from the registers and writes its results there, as its places say.
 // It tests first that the memory is well formed (refusal 3); `on_formed` has what is left of it. vm2: heap_access.rs.
+// Stays: the lent buffers are parameters side by side. As one struct of four `&`, tried, a sequential load of an owned memory takes 1.12 times as long, which misses its bar.
 #![tactic(auto)]
 
 ghost use Rattle.registers.specs.Registers.{registers_from};

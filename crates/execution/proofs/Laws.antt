@@ -3,19 +3,16 @@
 use mathlib.Core.Path.{◌≡◌, refl, sym, ap, ◌∙◌, subst, subst₂}
 use mathlib.Core.Bool.{Bool, true, false, cond, not, ◌&&◌, false≢true}
 use mathlib.Core.List.{List, [], ◌∷◌, ◌++◌}
-use Prim.Native.Nat.{ℕ, ◌+◌, ◌%◌, ◌^◌, ◌<◌, ◌≤◌}
+use Prim.Native.Nat.{ℕ, ◌%◌, ◌^◌, ◌≤◌}
 use native.Mathlib.Omega.{arith}
 use native.Mathlib.Nat.{mod-eq_of_lt}
 use lib.Dec.{ltb}
-use borrow.Author.Tests.{lt-ltb, le-ltb, ltb-false, not-true, not-false}
+use borrow.Author.Tests.{ltb-false, not-true, not-false}
 use Rattle.std.specs.Prelude.{Result, Ok, Err, ⊤}
 use Rattle.outcome.specs.declared.Refusal.{Refusal}
-use Rattle.outcome.specs.declared.Refusal.TheVariants.{Pointer}
 use Rattle.outcome.specs.Outcome.{Outcome, refused, panicked, done, carried_out, refusal_number, first_of, number_of, answer_outcome, status_of}
 use Rattle.outcome.proofs.Numbers.{number_nonzero}
 use Rattle.word.specs.Value.{big_endian, word_bytes, last_address}
-use Rattle.fat_pointer.specs.declared.FatPointer.{FatPointer}
-use Rattle.fat_pointer.specs.Pointer.{pointer_of}
 use Rattle.state.specs.declared.Frame.{Frame}
 use Rattle.state.specs.declared.Area.{Area}
 use Rattle.state.specs.declared.FrameStep.{FrameStep}
@@ -27,15 +24,14 @@ use Rattle.formed.specs.WellFormed.{WellFormed}
 use Rattle.formed.proofs.Meaning.{well_formed_passes}
 use Rattle.view.proofs.Refused.{Refusals}
 use Rattle.view.specs.View.{View, setting_of, view_of}
-use Rattle.view.specs.Steps.{run, padded, word_written}
+use Rattle.view.specs.Steps.{run, word_written}
 use Rattle.view.specs.Checks.{Check, word_write_checks}
 use Rattle.view.specs.Does.{Shows}
 use Rattle.registers.specs.Registers.{Operand}
-use Rattle.view.specs.Instructions.{Hook, InstructionResult, running, on_hook, heap_of, static_of, frame_alone, panic, incremented, hooked, pointer_checks, static_checks, static_loaded, static_stored, read_from, read_count, pointed}
+use Rattle.view.specs.Instructions.{Hook, InstructionResult, running, on_hook, heap_of, static_of, frame_alone, panic, incremented, hooked, static_checks, static_loaded, static_stored}
 use Rattle.view.specs.Calls.{Call, Value, WriteWord, nothing, CallDoes, outcome_of, answer_of, first_refusal}
-use Rattle.execution.specs.Executions.{stop_of, result_of, status_outcome, execution_outcome, bytes_read_of, Ends, LoadStep, StoreStep, PointerStep, StaticLoadStep, StaticStoreStep, carried, unpaid, static_step, load_outcome, Loads, store_outcome, Stores}
+use Rattle.execution.specs.Executions.{stop_of, result_of, status_outcome, execution_outcome, Ends, LoadStep, StoreStep, StaticLoadStep, StaticStoreStep, carried, unpaid, static_step, load_outcome, Loads, store_outcome, Stores}
 use Rattle.execution.specs.declared.Execution.{Execution}
-use Rattle.execution.specs.declared.PointerExecution.{PointerExecution}
 use Rattle.execution.specs.declared.ExecutionStatus.{ExecutionStatus}
 use Rattle.execution.specs.declared.ExecutionStatus.TheVariants.{Running, SuspendedOnHook, Panicked, Refused}
 use Rattle.execution.proofs.Lists.{by_number, by_none, never_last, more_number, more_none, fifteen, write_refusals, store_refusals}
@@ -237,58 +233,3 @@ module _ (m : Mem) (f : Frame) (x : Operand) (s : FrameStep) where
           subst (λ (o : Outcome Value). Ends b d m o (word_written (layout_of m.words) (static_of (layout_of m.words)) x.word (word_bytes n) (view_of m)) f r m')
           (static_first b (checks ++ ((false, refused 15) ∷ [])) last ∙ never_last (static_checks b f x.word ++ checks) (refused 15) last)
           (subst₂ (λ (q : ℕ) (t : FrameStep). Stores m q x n (record { on = false; address = 0 }) f t r m') page is e b d)
-
--- ---- pointer read; q is the operand's pointer
-module _ (m : Mem) (f : Frame) (x : Operand) where
-  abbrev pointer : FatPointer
-  pointer = pointer_of x.word
-
-  -- the step's execution without its number
-  abbrev PointerEnds : Execution → Type 0
-  PointerEnds r = (on_panic on_done : InstructionResult → Value)
-      → Ends on_panic on_done m (first_of (pointer_checks on_panic f x) (done (on_done (pointed (view_of m) f x)))) (view_of m) f r m
-
-  module _ (r : Execution) (u : PointerExecution) (same : u.execution ≡ r) where
-    -- one that read no bytes
-    unread_step : PointerEnds r → u.bytes_read ≡ 0 → bytes_read_of r.status pointer ≡ 0 → PointerStep m f x u
-    unread_step e n z = record {
-      ends = λ b d. subst (λ (y : Execution). Ends b d m (first_of (pointer_checks b f x) (done (d (pointed (view_of m) f x)))) (view_of m) f y m) (sym same) (e b d);
-      bytes_read = n ∙ sym z ∙ ap (λ (y : Execution). bytes_read_of y.status pointer) (sym same);
-    }
-
-    module _ (zero_read : u.bytes_read ≡ 0) where
-      pub untagged_panics : x.tag ≡ false → r.status ≡ Panicked → result_of r ≡ panic f → PointerStep m f x u
-      untagged_panics t s g = unread_step (λ b d. panicked_ends b d m f r (panic f) s g (rw t)) zero_read (ap (λ (y : ExecutionStatus). bytes_read_of y pointer) s)
-
-      module _ (t : x.tag ≡ true) (q : FatPointer) (is : q ≡ pointer_of x.word) where
-        pub offset_panics : last_address < q.offset → r.status ≡ Panicked → result_of r ≡ panic f → PointerStep m f x u
-        offset_panics l s g =
-            let k : ltb last_address pointer.offset ≡ true = sym (ap (λ (p : FatPointer). ltb last_address p.offset) is) ∙ lt-ltb last_address q.offset l in
-            unread_step (λ b d. panicked_ends b d m f r (panic f) s g (rw (t, k))) zero_read (ap (λ (y : ExecutionStatus). bytes_read_of y pointer) s)
-
-        pub pointer_refused : q.offset ≤ last_address → 4294967295 < q.start + q.length → r.status ≡ Refused Pointer → result_of r ≡ frame_alone f → PointerStep m f x u
-        pointer_refused near l s g =
-            let h : ltb last_address pointer.offset ≡ false = sym (ap (λ (p : FatPointer). ltb last_address p.offset) is) ∙ le-ltb last_address q.offset near in
-            let k : ltb 4294967295 (pointer.start + pointer.length) ≡ true = sym (ap (λ (p : FatPointer). ltb 4294967295 (p.start + p.length)) is) ∙ lt-ltb 4294967295 (q.start + q.length) l in
-            unread_step (λ b d. refused_ends b d m f r Pointer s g (rw (t, h, k))) zero_read (ap (λ (y : ExecutionStatus). bytes_read_of y pointer) s)
-
-  module _ (r : Execution) (t : x.tag ≡ true) (q : FatPointer) (is : q ≡ pointer_of x.word) (near : q.offset ≤ last_address) where
-    -- n bytes are read from `start` on, and k is the number that is told
-    pub pointer_done : q.start + q.length ≤ 4294967295 → (w start n : ℕ) (bs : List ℕ) → start ≡ read_from q → n ≡ read_count q → {k : ℕ} → k ≡ read_count q
-        → bs ≡ padded (run (view_of m) q.memory_page.0 start n) → w ≡ big_endian bs
-        → r.status ≡ Running → result_of r ≡ carried Running w (incremented x.word) true f → WellFormed m → PointerStep m f x (record { execution = r; bytes_read = k })
-    pointer_done l w start n bs from count told d e s g formed =
-        let h : ltb last_address pointer.offset ≡ false = sym (ap (λ (p : FatPointer). ltb last_address p.offset) is) ∙ le-ltb last_address q.offset near in
-        let k : ltb 4294967295 (pointer.start + pointer.length) ≡ false = sym (ap (λ (p : FatPointer). ltb 4294967295 (p.start + p.length)) is) ∙ le-ltb 4294967295 (q.start + q.length) l in
-        let b : bs ≡ padded (run (view_of m) pointer.memory_page.0 (read_from pointer) (read_count pointer)) =
-        d ∙ ap (λ (y : ℕ). padded (run (view_of m) q.memory_page.0 y n)) from
-        ∙ ap (λ (y : ℕ). padded (run (view_of m) q.memory_page.0 (read_from q) y)) count
-        ∙ ap (λ (p : FatPointer). padded (run (view_of m) p.memory_page.0 (read_from p) (read_count p))) is in
-        record {
-          ends = λ on_panic on_done.
-              done_ends on_panic on_done m f r (pointed (view_of m) f x)
-              (told_running on_panic on_done r (pointed (view_of m) f x) s (g ∙ carried_is (e ∙ ap big_endian b)))
-              (rw (t, h, k))
-              (shows_itself m formed);
-          bytes_read = told ∙ ap read_count is ∙ sym (ap (λ (y : ExecutionStatus). bytes_read_of y pointer) s);
-        }

@@ -41,6 +41,7 @@ pub enum ExecutionStatus {
 }
 
 // What a step returns: the word that it read, the operand plus 32, and the frame. A panic returns the frame alone, and a refusal the frame as it was.
+// Stays: no `Result`, for `Ends.refusal` promises the frame of a refusal too (must-fail edit growth_charged_on_a_refused_store).
 #[derive(Clone, Copy)]
 pub struct Execution {
     pub status: ExecutionStatus,

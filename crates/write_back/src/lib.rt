@@ -15,6 +15,7 @@ use state::Frame;
 use word::Word;
 
 // What an instruction returns beside its registers. A refusal returns the frame as it was.
+// Stays: no `Result`, for `RunsWith.refusal` promises the frame of a refusal too.
 #[derive(Clone, Copy)]
 pub struct Executed {
     pub status: ExecutionStatus,

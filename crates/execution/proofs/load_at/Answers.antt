@@ -12,6 +12,3 @@ pub returns : goal.returns
 returns c =
     let m = mem c.args.bytes.now c.args.keys.now c.args.order.now c.args.words.now in
     load_done m c.args.page.0 (operand_of c.args.operand) c.args.step c.requires.limbs_bound c.if-not-step.false c.low_u32.result c.low_u32.ensures c.requires.well_formed _ c.read_word-word.ensures _ c.carried_out.ensures.0 c.carried_out.ensures.1
-
-pub read_word-word-requires : goal.read_word-word-requires
-read_word-word-requires c = c.requires.well_formed

@@ -101,6 +101,8 @@ pub fn loaded(registers: &mut [u64], places: LoadPlaces, run: Execution) -> Exec
     }
 }
 
+// Stays: a function of its own beside `loaded`, as `write_store` is beside `write_load`. `Call.Load` and `Call.Store` (view/specs) have places of two types,
+// so one function of both would be over a trait with a member and a law for each line below.
 // Writes back what a store's step returned.
 pub fn stored(registers: &mut [u64], places: StorePlaces, run: Execution) -> Executed
     requires { (length registers.old ≡ 65) × ((is_register places.dst0 ≡ true) × (is_register places.dst1 ≡ true)) }

@@ -3,12 +3,16 @@
 use mathlib.Core.Path.{◌≡◌, refl, sym, ap, ◌∙◌, subst, subst₂}
 use mathlib.Core.Bool.{Bool, true, false, cond, not, ◌&&◌, false≢true}
 use mathlib.Core.List.{List, [], ◌∷◌, ◌++◌}
-use Prim.Native.Nat.{ℕ, zero, suc, ◌+◌, ◌%◌, ◌^◌, ◌<◌, ◌≤◌}
+use Prim.Native.Nat.{ℕ, ◌+◌, ◌%◌, ◌^◌, ◌<◌, ◌≤◌}
 use native.Mathlib.Omega.{arith}
 use native.Mathlib.Nat.{mod-eq_of_lt}
 use lib.Dec.{ltb}
 use borrow.Author.Tests.{lt-ltb, le-ltb, ltb-false, not-true, not-false}
-use Rattle.outcome.specs.Outcome.{Outcome, refused, panicked, done, carried_out, refusal_number, answered, first_of}
+use Rattle.std.specs.Prelude.{Result, Ok, Err, ⊤}
+use Rattle.outcome.specs.declared.Refusal.{Refusal}
+use Rattle.outcome.specs.declared.Refusal.TheVariants.{Pointer}
+use Rattle.outcome.specs.Outcome.{Outcome, refused, panicked, done, carried_out, refusal_number, first_of, number_of, answer_outcome, status_of}
+use Rattle.outcome.proofs.Numbers.{number_nonzero}
 use Rattle.word.specs.Value.{big_endian, word_bytes, last_address}
 use Rattle.fat_pointer.specs.declared.FatPointer.{FatPointer}
 use Rattle.fat_pointer.specs.Pointer.{pointer_of}
@@ -29,13 +33,12 @@ use Rattle.view.specs.Does.{Shows}
 use Rattle.registers.specs.Registers.{Operand}
 use Rattle.view.specs.Instructions.{Hook, InstructionResult, running, on_hook, heap_of, static_of, frame_alone, panic, incremented, hooked, pointer_checks, static_checks, static_loaded, static_stored, read_from, read_count, pointed}
 use Rattle.view.specs.Calls.{Call, Value, WriteWord, nothing, CallDoes, outcome_of, answer_of, first_refusal}
-use Rattle.write_steps.proofs.Searched.{number_refused, number_done}
 use Rattle.execution.specs.Executions.{stop_of, result_of, status_outcome, execution_outcome, bytes_read_of, Ends, LoadStep, StoreStep, PointerStep, StaticLoadStep, StaticStoreStep, carried, unpaid, static_step, load_outcome, Loads, store_outcome, Stores}
 use Rattle.execution.specs.declared.Execution.{Execution}
 use Rattle.execution.specs.declared.PointerExecution.{PointerExecution}
 use Rattle.execution.specs.declared.ExecutionStatus.{ExecutionStatus}
 use Rattle.execution.specs.declared.ExecutionStatus.TheVariants.{Running, SuspendedOnHook, Panicked, Refused}
-use Rattle.execution.proofs.Lists.{by_number, by_none, never_last, never_none, more_number, more_none, fifteen, write_refusals, store_refusals}
+use Rattle.execution.proofs.Lists.{by_number, by_none, never_last, more_number, more_none, fifteen, write_refusals, store_refusals}
 
 -- ---- numbers
 -- the address of an operand within the limit is its number
@@ -44,14 +47,14 @@ address_is x l = mod-eq_of_lt (omega arith)
 
 -- ---- the contract
 module _ (b d : InstructionResult → Value) (m : Mem) {o : Outcome Value} {v : View} (f : Frame) (r : Execution) where
-  refused_ends : (n : ℕ) → r.status ≡ Refused n → result_of r ≡ frame_alone f → o ≡ refused n → Ends b d m o v f r m
-  refused_ends n s g a = record {
+  refused_ends : (e : Refusal) → r.status ≡ Refused e → result_of r ≡ frame_alone f → o ≡ refused (number_of e) → Ends b d m o v f r m
+  refused_ends e s g a = record {
     does = record {
       answer = ap (λ (x : ExecutionStatus). status_outcome b d x (result_of r)) s ∙ sym a;
       kept = λ _. refl;
       changed = λ q. absurd (false≢true (sym (ap carried_out a) ∙ q));
     };
-    refusal = λ k e. g;
+    refusal = λ k q. g;
   }
 
   panicked_ends : (g : InstructionResult) → r.status ≡ Panicked → result_of r ≡ g → o ≡ panicked (b g) → Ends b d m o v f r m
@@ -91,20 +94,23 @@ told_stop : (b d : InstructionResult → Value) (hit : Bool) (k : ℕ) (g : Inst
 told_stop b d true k g = refl
 told_stop b d false k g = refl
 
--- ---- what a word write tells by its number k
-number_told : (k : ℕ) → refusal_number (answered {A = Value} k nothing) ≡ k
-number_told zero = refl
-number_told (suc k) = refl
+-- ---- what a word write tells by its answer o
+number_told : (o : Result ⊤ Refusal) → refusal_number (answer_outcome {A = Value} nothing o) ≡ status_of o
+number_told (Ok u) = refl
+number_told (Err e) = refl
 
-module _ (m : Mem) (p a n k : ℕ) (m' : Mem) (d : CallDoes m (WriteWord p a n) (answered k nothing) m') where
-  number_is : WellFormed m → k ≡ first_refusal (word_write_checks (setting_of m) (view_of m) p a)
-  number_is f = sym (number_told k) ∙ ap refusal_number (d.answer ∙ well m (WriteWord p a n) (well_formed_passes m f))
+module _ (m : Mem) (p a n : ℕ) (o : Result ⊤ Refusal) (m' : Mem) (d : CallDoes m (WriteWord p a n) (answer_outcome nothing o) m') where
+  number_is : WellFormed m → status_of o ≡ first_refusal (word_write_checks (setting_of m) (view_of m) p a)
+  number_is f = sym (number_told o) ∙ ap refusal_number (d.answer ∙ well m (WriteWord p a n) (well_formed_passes m f))
 
-  number_kept : (k ≡ 0 → ⊥) → m' ≡ m
-  number_kept z = let e = number_refused m (WriteWord p a n) k m' z d in e.kept (sym (ap carried_out e.answer))
+  answered_by : {o' : Result ⊤ Refusal} → o ≡ o' → carried_out (answer_of m (WriteWord p a n)) ≡ carried_out (answer_outcome {A = Value} nothing o')
+  answered_by was = sym (ap carried_out d.answer) ∙ ap (λ (y : Result ⊤ Refusal). carried_out (answer_outcome {A = Value} nothing y)) was
 
-  number_shown : k ≡ 0 → Shows (setting_of m) (word_written (layout_of m.words) p a (word_bytes n) (view_of m)) m'
-  number_shown z = let e = number_done m (WriteWord p a n) k m' z d in e.changed (sym (ap carried_out e.answer))
+  write_kept : {e : Refusal} → o ≡ Err e → m' ≡ m
+  write_kept was = d.kept (answered_by was)
+
+  write_shown : {u : ⊤} → o ≡ Ok u → Shows (setting_of m) (word_written (layout_of m.words) p a (word_bytes n) (view_of m)) m'
+  write_shown was = d.changed (answered_by was)
 
 -- ---- load and store of page p with the step s
 paid_first : (b : InstructionResult → Value) (s : FrameStep) (rest : List (Check Value)) (o : Outcome Value) → not s.paid ≡ false → first_of (unpaid b s ++ rest) o ≡ first_of rest o
@@ -146,29 +152,28 @@ module _ (m : Mem) (p : ℕ) (x : Operand) (s : FrameStep) where
       refusals : Refusals (tests x.word)
       refusals = store_refusals (setting_of m) (view_of m) p x.word (hooked h x.word) n
 
-      store_refused : (k : ℕ) → k ≡ first_refusal (tests a) → (k ≡ 0 → ⊥) → (r : Execution) → r.status ≡ Refused k → result_of r ≡ frame_alone f → Stores m p x n h f s r m
-      store_refused k q z r t g b d = refused_ends b d m f r k t g (tested b d ∙ by_number refusals k (q ∙ tests_same) z (done (d given)))
+      store_refused : (e : Refusal) → number_of e ≡ first_refusal (tests a) → (r : Execution) → r.status ≡ Refused e → result_of r ≡ frame_alone f → Stores m p x n h f s r m
+      store_refused e q r t g b d = refused_ends b d m f r e t g (tested b d ∙ by_number refusals (number_of e) (q ∙ tests_same) (number_nonzero e) (done (d given)))
 
       -- the hook is hit by a value that is too wide
-      pub store_wide : (b : Bool) → b ≡ (hooked h a && ltb 4294967295 n) → b ≡ true → (k : ℕ) → k ≡ first_refusal (word_write_checks (setting_of m) (view_of m) p a ++ ((true, refused 15) ∷ []))
-          → (r : Execution) → r.status ≡ Refused k → result_of r ≡ frame_alone f → Stores m p x n h f s r m
-      store_wide b is e k q =
-          store_refused k (q ∙ ap (λ (c : Bool). first_refusal (word_write_checks (setting_of m) (view_of m) p a ++ ((c, refused 15) ∷ []))) (sym e ∙ is))
-          (λ z. never_none (write_refusals (setting_of m) (view_of m) p a) (sym q ∙ z))
+      pub store_wide : (b : Bool) → b ≡ (hooked h a && ltb 4294967295 n) → b ≡ true → (e : Refusal) → number_of e ≡ first_refusal (word_write_checks (setting_of m) (view_of m) p a ++ ((true, refused 15) ∷ []))
+          → (r : Execution) → r.status ≡ Refused e → result_of r ≡ frame_alone f → Stores m p x n h f s r m
+      store_wide b is holds e q =
+          store_refused e (q ∙ ap (λ (c : Bool). first_refusal (word_write_checks (setting_of m) (view_of m) p a ++ ((c, refused 15) ∷ []))) (sym holds ∙ is))
 
-      -- the word write answered the number k
-      module _ (formed : WellFormed m) (k : ℕ) (m' : Mem) (d : CallDoes m (WriteWord p a n) (answered k nothing) m') where
-        pub store_refused_by : (k ≡ 0 → ⊥) → (r : Execution) → r.status ≡ Refused k → result_of r ≡ frame_alone f → Stores m p x n h f s r m'
-        store_refused_by z r t g =
-            subst (λ (y : Mem). Stores m p x n h f s r y) (sym (number_kept m p a n k m' d z))
-            (store_refused k (more_number (fifteen (hooked h a) n) (write_refusals (setting_of m) (view_of m) p a) k (number_is m p a n k m' d formed) z) z r t g)
+      -- the word write answered o
+      module _ (formed : WellFormed m) (o : Result ⊤ Refusal) (m' : Mem) (d : CallDoes m (WriteWord p a n) (answer_outcome nothing o) m') where
+        pub store_refused_by : {e : Refusal} → o ≡ Err e → (r : Execution) → r.status ≡ Refused e → result_of r ≡ frame_alone f → Stores m p x n h f s r m'
+        store_refused_by {e} was r t g =
+            subst (λ (y : Mem). Stores m p x n h f s r y) (sym (write_kept m p a n o m' d was))
+            (store_refused e (more_number (fifteen (hooked h a) n) (write_refusals (setting_of m) (view_of m) p a) (number_of e) (sym (ap status_of was) ∙ number_is m p a n o m' d formed) (number_nonzero e)) r t g)
 
-        pub store_done : (b : Bool) → b ≡ (hooked h a && ltb 4294967295 n) → b ≡ false → k ≡ 0
+        pub store_done : (b : Bool) → b ≡ (hooked h a && ltb 4294967295 n) → b ≡ false → {u : ⊤} → o ≡ Ok u
             → (r : Execution) (t : ExecutionStatus) (w : ℕ) → t ≡ cond (hooked h a) (SuspendedOnHook (n % 2 ^ 32)) Running → w ≡ 0 → r.status ≡ t
             → result_of r ≡ carried t w (incremented x.word) false s.frame → Stores m p x n h f s r m'
         store_done b is e q r t w u z v g on_panic on_done =
             done_ends on_panic on_done m f r given answers (tested on_panic on_done ∙ by_none refusals none (done (on_done given)))
-            (subst (λ (c : ℕ). Shows (setting_of m) (word_written (layout_of m.words) p c (word_bytes n) (view_of m)) m') at_operand (number_shown m p a n k m' d q))
+            (subst (λ (c : ℕ). Shows (setting_of m) (word_written (layout_of m.words) p c (word_bytes n) (view_of m)) m') at_operand (write_shown m p a n o m' d q))
           where
             narrow : (hooked h a && ltb 4294967295 n) ≡ false
             narrow = sym is ∙ e
@@ -176,7 +181,7 @@ module _ (m : Mem) (p : ℕ) (x : Operand) (s : FrameStep) where
             none : first_refusal (tests x.word) ≡ 0
             none =
                 sym tests_same
-                ∙ sym (more_none (fifteen (hooked h a) n) (write_refusals (setting_of m) (view_of m) p a) (sym (number_is m p a n k m' d formed) ∙ q))
+                ∙ sym (more_none (fifteen (hooked h a) n) (write_refusals (setting_of m) (view_of m) p a) (sym (number_is m p a n o m' d formed) ∙ ap status_of q))
                 ∙ ap (λ (c : Bool). first_refusal ((c, refused 15) ∷ [])) narrow
 
             stops : t ≡ cond (hooked h x.word) (SuspendedOnHook (n % 2 ^ 32)) Running
@@ -261,11 +266,11 @@ module _ (m : Mem) (f : Frame) (x : Operand) where
             let k : ltb last_address pointer.offset ≡ true = sym (ap (λ (p : FatPointer). ltb last_address p.offset) is) ∙ lt-ltb last_address q.offset l in
             unread_step (λ b d. panicked_ends b d m f r (panic f) s g (rw (t, k))) zero_read (ap (λ (y : ExecutionStatus). bytes_read_of y pointer) s)
 
-        pub pointer_refused : q.offset ≤ last_address → 4294967295 < q.start + q.length → r.status ≡ Refused 14 → result_of r ≡ frame_alone f → PointerStep m f x u
+        pub pointer_refused : q.offset ≤ last_address → 4294967295 < q.start + q.length → r.status ≡ Refused Pointer → result_of r ≡ frame_alone f → PointerStep m f x u
         pointer_refused near l s g =
             let h : ltb last_address pointer.offset ≡ false = sym (ap (λ (p : FatPointer). ltb last_address p.offset) is) ∙ le-ltb last_address q.offset near in
             let k : ltb 4294967295 (pointer.start + pointer.length) ≡ true = sym (ap (λ (p : FatPointer). ltb 4294967295 (p.start + p.length)) is) ∙ lt-ltb 4294967295 (q.start + q.length) l in
-            unread_step (λ b d. refused_ends b d m f r 14 s g (rw (t, h, k))) zero_read (ap (λ (y : ExecutionStatus). bytes_read_of y pointer) s)
+            unread_step (λ b d. refused_ends b d m f r Pointer s g (rw (t, h, k))) zero_read (ap (λ (y : ExecutionStatus). bytes_read_of y pointer) s)
 
   module _ (r : Execution) (t : x.tag ≡ true) (q : FatPointer) (is : q ≡ pointer_of x.word) (near : q.offset ≤ last_address) where
     -- n bytes are read from `start` on, and k is the number that is told

@@ -42,15 +42,6 @@ module _ (rest : List (Check Value)) where
   more_none (next {b = true} {n = k} r) e = absurd (omega arith)
   more_none (next {b = false} r) e = more_none r e
 
-  pub both_none : {checks : List (Check Value)} → Refusals checks → first_refusal (checks ++ rest) ≡ 0 → (first_refusal checks ≡ 0) × (first_refusal rest ≡ 0)
-  both_none end e = (refl, e)
-  both_none (next {b = true} {n = k} r) e = absurd (omega arith)
-  both_none (next {b = false} r) e = both_none r e
-
--- .. the last of which holds
-pub never_none : {checks : List (Check Value)} → Refusals checks → first_refusal (checks ++ ((true, refused 15) ∷ [])) ≡ 0 → ⊥
-never_none r e = let h = (both_none ((true, refused 15) ∷ []) r e).1 in omega arith
-
 -- ---- the refusals of a word write, and 15 after them
 abbrev pub fifteen : Bool → ℕ → List (Check Value)
 fifteen hit n = (hit && ltb 4294967295 n, refused 15) ∷ []

@@ -1,13 +1,11 @@
 -- What the parts of the instructions do.
 -- Assumes nothing.
 use mathlib.Core.Path.{◌≡◌, refl, ap, ◌∙◌}
-use mathlib.Core.Bool.{Bool, true, false, cond, not, ◌&&◌, false≢true, true≢false}
-use mathlib.Core.Logic.{⊎_elim}
-use Prim.Native.Nat.{ℕ, ◌%◌, ◌^◌, ◌<◌, ◌≤◌, min}
+use mathlib.Core.Bool.{Bool, true, false, cond}
+use Prim.Native.Nat.{ℕ, ◌%◌, ◌^◌, ◌≤◌, min}
 use native.Mathlib.Omega.{arith}
 use lib.Dec.{ltb}
-use borrow.Author.Tests.{lt-ltb, le-ltb, ltb-false}
-use Rattle.index.proofs.Logic.{lt_or_ge}
+use borrow.Author.Tests.{ltb-false}
 use Rattle.word.specs.Value.{last_address}
 use Rattle.state.specs.declared.Frame.{Frame}
 use Rattle.state.specs.declared.Area.{Area}
@@ -33,26 +31,7 @@ module _ (f : Frame) (area : Area) (x : ℕ) where
   reach_near e a b d g s h = h ∙ ap (frame_grown f area) (g ∙ ap new_bound (d ∙ address_is x (ltb-false last_address x e))) ∙ rw e refl
 
 -- ---- the hook
-pub hook_off : (on b : Bool) → not on ≡ true → false ≡ (on && b)
-hook_off true b e = absurd (false≢true e)
-hook_off false b e = refl
-
-pub hook_on : (on b : Bool) → not on ≡ false → b ≡ (on && b)
-hook_on true b e = refl
-hook_on false b e = absurd (true≢false e)
-
 module _ (hit : Bool) (n : ℕ) where
-  pub not_wide : hit ≡ false → false ≡ (hit && ltb 4294967295 n)
-  not_wide e = rw e refl
-
-  pub wide_by : hit ≡ true → (b : Bool) → b ≡ ltb n (2 ^ 32) → not b ≡ (hit && ltb 4294967295 n)
-  wide_by e b q =
-      ap not q
-      ∙ ⊎_elim
-      (λ (l : n < 2 ^ 32). rw (e, lt-ltb n (2 ^ 32) l, le-ltb 4294967295 n (omega arith)) refl)
-      (λ (l : 2 ^ 32 ≤ n). rw (e, le-ltb n (2 ^ 32) l, lt-ltb 4294967295 n (omega arith)) refl)
-      (lt_or_ge n (2 ^ 32))
-
   pub stop_hit : hit ≡ true → (k : ℕ) → k ≡ n % 2 ^ 32 → SuspendedOnHook k ≡ cond hit (SuspendedOnHook (n % 2 ^ 32)) Running
   stop_hit e k q = rw e (ap SuspendedOnHook q)
 
@@ -67,12 +46,6 @@ pub carried_next : (s : ExecutionStatus) (f : Frame) (w y y' : ℕ) (t : Bool) �
 carried_next s f w y y' t e = λ i. carried s w (e i) t f
 
 -- ---- the lesser
-pub min_left : (a b : ℕ) → a ≤ b → a ≡ min a b
-min_left a b l = omega arith
-
-pub min_right : (a b : ℕ) → b < a → b ≡ min a b
-min_right a b l = omega arith
-
 pub min_le_left : (a b : ℕ) → min a b ≤ a
 min_le_left a b = omega arith
 

@@ -23,6 +23,7 @@ use state::{Area, Frame, FrameStep};
 use word::Word;
 
 // Whether hooking is on, and the hook address.
+// Stays: `hook_from` in abi's specs tells the address that a caller gives where hooking is off, too, so a promised `Hook` is no `Option<Address>`.
 #[derive(Clone, Copy)]
 pub struct Hook {
     pub on: bool,
@@ -147,8 +148,7 @@ fn stop_of(hook: Hook, address: Address, word: Word) -> ExecutionStatus
 pub fn no_word() -> Word
     ensures { value result.limbs ≡ 0 }
 {
-    let limbs = [0u64; 4];
-    Word { limbs: limbs }
+    Word { limbs: [0; 4] }
 }
 
 // Nothing but a frame.
@@ -268,8 +268,10 @@ pub fn store_at(
     }
     let address = Address(word::low_u32(operand.word));
     if stops_wide(hook, address, word) {
-        let refusal = wide_refusal(bytes, keys, order, words, page, address);
-        return refused(refusal, before);
+        return refused(
+            wide_refusal(bytes, keys, order, words, page, address),
+            before,
+        );
     }
     if let Err(refusal) = write_steps::write_word(bytes, keys, order, words, page, address, word) {
         return refused(refusal, before);
@@ -279,12 +281,6 @@ pub fn store_at(
 }
 
 // ---- the bytes of a pointer
-
-pub fn lesser(a: u32, b: u32) -> u32
-    ensures { result ≡ min a b }
-{
-    a.min(b)
-}
 
 // How many bytes are read from `first` on: at most 32, and none past `end`.
 pub fn count(first: u32, end: u32) -> u32

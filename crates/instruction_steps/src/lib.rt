@@ -75,7 +75,7 @@ pub fn load_pointer(
         return execution::unread(execution::refused(Refusal::Pointer, frame));
     }
     let end = pointer.start + pointer.length;
-    let first = pointer.start + execution::lesser(pointer.offset, pointer.length);
+    let first = pointer.start + pointer.offset.min(pointer.length);
     let n = execution::count(first, end);
     let page = pointer.memory_page;
     let start = Address(first);

@@ -4,7 +4,9 @@ use mathlib.Core.Path.{◌≡◌, refl, sym, ap, ◌∙◌, subst, subst₂}
 use mathlib.Core.Bool.{Bool, true, false, cond, not, ◌&&◌, false≢true}
 use mathlib.Core.List.{List}
 use Prim.Native.Nat.{ℕ}
-use Rattle.outcome.specs.Outcome.{Outcome, refused, carried_out}
+use Rattle.outcome.specs.declared.Refusal.{Refusal}
+use Rattle.outcome.specs.declared.Refusal.TheVariants as refusals
+use Rattle.outcome.specs.Outcome.{Outcome, refused, carried_out, number_of}
 use Rattle.registers.specs.declared.Place.{Place}
 use Rattle.registers.specs.declared.Place.TheVariants as place
 use Rattle.registers.specs.declared.LoadPlaces.{LoadPlaces}
@@ -59,18 +61,18 @@ store_parts p t =
 -- ---- the contract
 module _ (m : Mem) (c : Call) (f : Frame) (l : List ℕ) {value : Executed → Value} where
   -- an instruction that is refused before its step
-  refused_runs : (r : code.Executed) (n : ℕ) → r.status ≡ Refused n → r.frame ≡ f → answer_of m c ≡ refused n → RunsWith value m c f l r m l
-  refused_runs r n s e a = record {
+  refused_runs : (r : code.Executed) (k : Refusal) → r.status ≡ Refused k → r.frame ≡ f → answer_of m c ≡ refused (number_of k) → RunsWith value m c f l r m l
+  refused_runs r k s e a = record {
     does = record {
       answer = ap (λ (x : ExecutionStatus). ended_with value x r.frame (registers_from l)) s ∙ sym a;
       kept = λ _. refl;
       changed = λ q. absurd (false≢true (sym (ap carried_out a) ∙ q));
     };
-    refusal = λ k _. (e, refl);
+    refusal = λ _ _. (e, refl);
   }
 
-  pub ill_runs : (r : code.Executed) → well_formed m ≡ false → r.status ≡ Refused 3 → r.frame ≡ f → RunsWith value m c f l r m l
-  ill_runs r w s e = refused_runs r 3 s e (ap (λ (b : Bool). cond (not b) (refused 3) (outcome_of (setting_of m) c (view_of m))) w)
+  pub ill_runs : (r : code.Executed) → well_formed m ≡ false → r.status ≡ Refused refusals.NotFormed → r.frame ≡ f → RunsWith value m c f l r m l
+  ill_runs r w s e = refused_runs r refusals.NotFormed s e (ap (λ (b : Bool). cond (not b) (refused 3) (outcome_of (setting_of m) c (view_of m))) w)
 
   -- one that makes its step, whose outcome o is the instruction's; `told` says that what it answers is what the step's status means
   told_runs : (on_panic on_done : InstructionResult → Value) {gone gives : InstructionResult → Executed} {o : Outcome Value} {x : Execution} {r : code.Executed} {m' : Mem} {l' : List ℕ} → answer_of m c ≡ o
@@ -81,9 +83,9 @@ module _ (m : Mem) (c : Call) (f : Frame) (l : List ℕ) {value : Executed → V
       kept = λ q. e.does.kept (sym (ap carried_out a) ∙ q);
       changed = λ q. e.does.changed (sym (ap carried_out a) ∙ q);
     };
-    refusal = λ n s.
+    refusal = λ k s.
         let is = ap (λ (y : ExecutionStatus). status_outcome on_panic on_done y (result_of x)) (sym w.status ∙ s) in
-        (w.frame ∙ ap (λ (g : InstructionResult). g.frame) (e.refusal n is), w.refusal n s);
+        (w.frame ∙ ap (λ (g : InstructionResult). g.frame) (e.refusal (number_of k) is), w.refusal k s);
   }
 
   step_runs : (on_panic on_done : InstructionResult → Executed) {o : Outcome Value} {x : Execution} {r : code.Executed} {m' : Mem} {l' : List ℕ} → answer_of m c ≡ o
@@ -92,7 +94,7 @@ module _ (m : Mem) (c : Call) (f : Frame) (l : List ℕ) {value : Executed → V
 
 -- a pointer load that is refused by the test
 pub ill_pointer_runs : (m : Mem) (c : Call) (f : Frame) (l : List ℕ) (r : PointerExecuted) → well_formed m ≡ false
-    → r.executed.status ≡ Refused 3 → r.executed.frame ≡ f → r.bytes_read ≡ 0 → PointerRuns m c f l r m l
+    → r.executed.status ≡ Refused refusals.NotFormed → r.executed.frame ≡ f → r.bytes_read ≡ 0 → PointerRuns m c f l r m l
 ill_pointer_runs m c f l r w s e z = record { runs = ill_runs m c f l r.executed w s e; none = λ _. z }
 
 -- ---- the value of a pointer load, by how its step ended
@@ -103,14 +105,14 @@ module _ (on_panic on_done : InstructionResult → Executed) (q : FatPointer) (g
   read_value_lem Running = refl
   read_value_lem (SuspendedOnHook n) = refl
   read_value_lem Panicked = refl
-  read_value_lem (Refused n) = refl
+  read_value_lem (Refused e) = refl
 
 -- none is read where it is not carried out
 unread : (value : Executed → Value) (q : FatPointer) (f : Frame) (g : Registers) (s : ExecutionStatus) → carried_out (ended_with value s f g) ≡ false → bytes_read_of s q ≡ 0
 unread value q f g Running e = absurd (false≢true (sym e))
 unread value q f g (SuspendedOnHook n) e = absurd (false≢true (sym e))
 unread value q f g Panicked e = refl
-unread value q f g (Refused n) e = refl
+unread value q f g (Refused k) e = refl
 
 -- ---- the five, on a well-formed memory: `takes` says whether each place is one that the instruction takes
 module _ (m : Mem) (formed : WellFormed m) where
@@ -125,18 +127,18 @@ module _ (m : Mem) (formed : WellFormed m) where
     abbrev g : Registers
     g = registers_from l
 
-    module _ (s : r.status ≡ Refused 16) (e : r.frame ≡ f) where
+    module _ (s : r.status ≡ Refused refusals.Operand) (e : r.frame ≡ f) where
       pub load_refused : (area : Area) (p : LoadPlaces) → load_takes p ≡ false → Runs m (Load area f g p) f l r m l
-      load_refused area p t = refused_runs m (Load area f g p) f l r 16 s e (sixteen (load_takes p) _ t)
+      load_refused area p t = refused_runs m (Load area f g p) f l r refusals.Operand s e (sixteen (load_takes p) _ t)
 
       pub store_refused : (area : Area) (p : StorePlaces) (kernel : Bool) (h : Hook) → store_takes p ≡ false → Runs m (Store area f g p kernel h) f l r m l
-      store_refused area p kernel h t = refused_runs m (Store area f g p kernel h) f l r 16 s e (sixteen (store_takes p) _ t)
+      store_refused area p kernel h t = refused_runs m (Store area f g p kernel h) f l r refusals.Operand s e (sixteen (store_takes p) _ t)
 
       pub static_load_refused : (p : LoadPlaces) → load_takes p ≡ false → Runs m (LoadStatic f g p) f l r m l
-      static_load_refused p t = refused_runs m (LoadStatic f g p) f l r 16 s e (sixteen (load_takes p) _ t)
+      static_load_refused p t = refused_runs m (LoadStatic f g p) f l r refusals.Operand s e (sixteen (load_takes p) _ t)
 
       pub static_store_refused : (p : StorePlaces) (kernel : Bool) → store_takes p ≡ false → Runs m (StoreStatic f g p kernel) f l r m l
-      static_store_refused p kernel t = refused_runs m (StoreStatic f g p kernel) f l r 16 s e (sixteen (store_takes p) _ t)
+      static_store_refused p kernel t = refused_runs m (StoreStatic f g p kernel) f l r refusals.Operand s e (sixteen (store_takes p) _ t)
 
     -- x is what the step returned, y the operand that was read, and l' the numbers after the write-back
     module _ (x : Execution) (y : Operand) (l' : List ℕ) where
@@ -169,8 +171,8 @@ module _ (m : Mem) (formed : WellFormed m) where
     abbrev read : Registers
     read = registers_from l
 
-    pub pointer_refused : (r : PointerExecuted) → r.executed.status ≡ Refused 16 → r.executed.frame ≡ f → r.bytes_read ≡ 0 → pointer_takes p ≡ false → PointerRuns m (LoadPointer f read p) f l r m l
-    pointer_refused r s e z t = record { runs = refused_runs m (LoadPointer f read p) f l r.executed 16 s e (sixteen (pointer_takes p) _ t); none = λ _. z }
+    pub pointer_refused : (r : PointerExecuted) → r.executed.status ≡ Refused refusals.Operand → r.executed.frame ≡ f → r.bytes_read ≡ 0 → pointer_takes p ≡ false → PointerRuns m (LoadPointer f read p) f l r m l
+    pointer_refused r s e z t = record { runs = refused_runs m (LoadPointer f read p) f l r.executed refusals.Operand s e (sixteen (pointer_takes p) _ t); none = λ _. z }
 
     -- x is what the step returned, y the operand that was read, and l' the numbers after the write-back
     module _ (x : PointerExecution) (y : Operand) (r : code.Executed) (l' : List ℕ) (is : y ≡ source_of read p.source)

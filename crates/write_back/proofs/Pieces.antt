@@ -6,6 +6,7 @@ use mathlib.Core.List.{List}
 use Prim.Native.Nat.{ℕ, ◌≤◌}
 use native.Mathlib.Omega.{arith}
 use borrow.Author.Tests.{leb-true}
+use Rattle.outcome.specs.declared.Refusal.{Refusal}
 use Rattle.outcome.specs.Outcome.{Outcome, panicked, done}
 use Rattle.registers.specs.declared.Place.{Place}
 use Rattle.registers.specs.declared.Place.TheVariants as place
@@ -65,57 +66,43 @@ pub store_same : (g : Registers) (p : StorePlaces) (x y : InstructionResult) →
 store_same g p x y e = λ i. (stored_into g p (record { word = x.word; operand = sym e i; frame = x.frame; stop = x.stop })).registers
 
 -- ---- the registers that a result gives; frame and stop are the result's
-module _ (on_panic on_done : InstructionResult → Registers) (x : Execution) (l : List ℕ) (r : code.Executed) where
+module _ (on_panic on_done : InstructionResult → Registers) (x : Execution) (l : List ℕ) (r : code.Executed) (status : r.status ≡ x.status) (frame : r.frame ≡ x.frame) where
   abbrev panics : InstructionResult → Executed
   panics g = record { frame = g.frame; registers = on_panic g; stop = g.stop }
 
   abbrev ends : InstructionResult → Executed
   ends g = record { frame = g.frame; registers = on_done g; stop = g.stop }
 
-  abbrev gives : (Executed → Value) → ExecutionStatus → Outcome Value
-  gives v s = status_outcome (λ g. executed (panics g)) (λ g. v (ends g)) s (record { word = (result_of x).word; operand = (result_of x).operand; frame = x.frame; stop = stop_of s })
+  abbrev given : ExecutionStatus → InstructionResult
+  given s = record { word = (result_of x).word; operand = (result_of x).operand; frame = x.frame; stop = stop_of s }
 
-  pub refused_back : (n : ℕ) → x.status ≡ Refused n → r.status ≡ Refused n → r.frame ≡ x.frame → WritesBack panics ends x l r l
-  refused_back n s t f = record {
-    answer = λ v. ap (λ (y : ExecutionStatus). ended_with v y r.frame (registers_from l)) t ∙ ap (gives v) (sym s);
-    status = t ∙ sym s;
-    frame = f;
-    refusal = λ _ _. refl;
-  }
+  abbrev gives : (Executed → Value) → ExecutionStatus → Outcome Value
+  gives v s = status_outcome (λ g. executed (panics g)) (λ g. v (ends g)) s (given s)
+
+  -- the numbers l' after the write-back are those that the step's status asks for
+  abbrev pub Written : ExecutionStatus → List ℕ → Type 0
+  Written Running l' = registers_from l' ≡ on_done (given Running)
+  Written (SuspendedOnHook k) l' = registers_from l' ≡ on_done (given (SuspendedOnHook k))
+  Written Panicked l' = registers_from l' ≡ on_panic (given Panicked)
+  Written (Refused e) l' = l' ≡ l
 
   module _ (l' : List ℕ) where
-    pub panicked_back : x.status ≡ Panicked → r.status ≡ Panicked → r.frame ≡ x.frame
-        → registers_from l' ≡ on_panic (record { word = (result_of x).word; operand = (result_of x).operand; frame = x.frame; stop = running }) → WritesBack panics ends x l r l'
-    panicked_back s t f e = record {
-      answer = λ v.
-          ap (λ (y : ExecutionStatus). ended_with v y r.frame (registers_from l')) t
-          ∙ (λ i. panicked (executed (record { frame = f i; registers = e i; stop = running })))
-          ∙ ap (gives v) (sym s);
-      status = t ∙ sym s;
-      frame = f;
-      refusal = λ n q. absurd (let z : ◌≡◌ {A = ℕ} 0 1 = cc in omega arith);
-    }
+    answers : (v : Executed → Value) (s : ExecutionStatus) → Written s l' → ended_with v s r.frame (registers_from l') ≡ gives v s
+    answers v Running e = λ i. done (v (record { frame = frame i; registers = e i; stop = running }))
+    answers v (SuspendedOnHook k) e = λ i. done (v (record { frame = frame i; registers = e i; stop = on_hook k }))
+    answers v Panicked e = λ i. panicked (executed (record { frame = frame i; registers = e i; stop = running }))
+    answers v (Refused k) e = refl
 
-    pub running_back : x.status ≡ Running → r.status ≡ Running → r.frame ≡ x.frame
-        → registers_from l' ≡ on_done (record { word = (result_of x).word; operand = (result_of x).operand; frame = x.frame; stop = running }) → WritesBack panics ends x l r l'
-    running_back s t f e = record {
-      answer = λ v.
-          ap (λ (y : ExecutionStatus). ended_with v y r.frame (registers_from l')) t
-          ∙ (λ i. done (v (record { frame = f i; registers = e i; stop = running })))
-          ∙ ap (gives v) (sym s);
-      status = t ∙ sym s;
-      frame = f;
-      refusal = λ n q. absurd (let z : ◌≡◌ {A = ℕ} 0 1 = cc in omega arith);
-    }
+    kept : (s : ExecutionStatus) → Written s l' → (k : Refusal) → s ≡ Refused k → l' ≡ l
+    kept Running e k q = absurd (let z : ◌≡◌ {A = ℕ} 0 1 = cc in omega arith)
+    kept (SuspendedOnHook n) e k q = absurd (let z : ◌≡◌ {A = ℕ} 0 1 = cc in omega arith)
+    kept Panicked e k q = absurd (let z : ◌≡◌ {A = ℕ} 0 1 = cc in omega arith)
+    kept (Refused n) e k q = e
 
-    pub stopped_back : (k : ℕ) → x.status ≡ SuspendedOnHook k → r.status ≡ SuspendedOnHook k → r.frame ≡ x.frame
-        → registers_from l' ≡ on_done (record { word = (result_of x).word; operand = (result_of x).operand; frame = x.frame; stop = on_hook k }) → WritesBack panics ends x l r l'
-    stopped_back k s t f e = record {
-      answer = λ v.
-          ap (λ (y : ExecutionStatus). ended_with v y r.frame (registers_from l')) t
-          ∙ (λ i. done (v (record { frame = f i; registers = e i; stop = on_hook k })))
-          ∙ ap (gives v) (sym s);
-      status = t ∙ sym s;
-      frame = f;
-      refusal = λ n q. absurd (let z : ◌≡◌ {A = ℕ} 0 1 = cc in omega arith);
+    pub writes_back : (s : ExecutionStatus) → x.status ≡ s → Written s l' → WritesBack panics ends x l r l'
+    writes_back s is w = let e = subst (λ (s : ExecutionStatus). Written s l') (sym is) w in record {
+      answer = λ v. ap (λ (s : ExecutionStatus). ended_with v s r.frame (registers_from l')) status ∙ answers v x.status e;
+      status = status;
+      frame = frame;
+      refusal = λ k q. kept x.status e k (sym status ∙ q);
     }

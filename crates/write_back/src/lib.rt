@@ -93,33 +93,14 @@ pub fn loaded(registers: &mut [u64], places: LoadPlaces, run: Execution) -> Exec
     requires { (length registers.old ≡ 65) × ((is_register places.dst0 ≡ true) × (is_register places.dst1 ≡ true)) }
     ensures { WritesBack (panicked_into (registers_from registers.old) places.dst1) (loaded_into (registers_from registers.old) places) run registers.old result registers.new }
 {
-    let status = run.status;
-    let frame = run.frame;
-    match status {
-        ExecutionStatus::Refused(refusal) => refused(refusal, frame),
-        ExecutionStatus::Panicked => {
-            let dst1 = places.dst1;
-            let second = registers::number(dst1);
-            set_zero(registers, second);
-            Executed {
-                status: ExecutionStatus::Panicked,
-                frame: frame,
-            }
-        }
-        ExecutionStatus::Running => {
-            write_load(registers, places, run.word, run.operand);
-            Executed {
-                status: ExecutionStatus::Running,
-                frame: frame,
-            }
-        }
-        ExecutionStatus::SuspendedOnHook(value) => {
-            write_load(registers, places, run.word, run.operand);
-            Executed {
-                status: ExecutionStatus::SuspendedOnHook(value),
-                frame: frame,
-            }
-        }
+    match run.status {
+        ExecutionStatus::Refused(_) => {}
+        ExecutionStatus::Panicked => set_zero(registers, registers::number(places.dst1)),
+        ExecutionStatus::Running | ExecutionStatus::SuspendedOnHook(_) => write_load(registers, places, run.word, run.operand),
+    }
+    Executed {
+        status: run.status,
+        frame: run.frame,
     }
 }
 
@@ -128,32 +109,13 @@ pub fn stored(registers: &mut [u64], places: StorePlaces, run: Execution) -> Exe
     requires { (length registers.old ≡ 65) × ((is_register places.dst0 ≡ true) × (is_register places.dst1 ≡ true)) }
     ensures { WritesBack (panicked_into (registers_from registers.old) places.dst1) (stored_into (registers_from registers.old) places) run registers.old result registers.new }
 {
-    let status = run.status;
-    let frame = run.frame;
-    match status {
-        ExecutionStatus::Refused(refusal) => refused(refusal, frame),
-        ExecutionStatus::Panicked => {
-            let second = places.dst1;
-            let number = registers::number(second);
-            set_zero(registers, number);
-            Executed {
-                status: ExecutionStatus::Panicked,
-                frame: frame,
-            }
-        }
-        ExecutionStatus::Running => {
-            write_store(registers, places, run.operand);
-            Executed {
-                status: ExecutionStatus::Running,
-                frame: frame,
-            }
-        }
-        ExecutionStatus::SuspendedOnHook(value) => {
-            write_store(registers, places, run.operand);
-            Executed {
-                status: ExecutionStatus::SuspendedOnHook(value),
-                frame: frame,
-            }
-        }
+    match run.status {
+        ExecutionStatus::Refused(_) => {}
+        ExecutionStatus::Panicked => set_zero(registers, registers::number(places.dst1)),
+        ExecutionStatus::Running | ExecutionStatus::SuspendedOnHook(_) => write_store(registers, places, run.operand),
+    }
+    Executed {
+        status: run.status,
+        frame: run.frame,
     }
 }

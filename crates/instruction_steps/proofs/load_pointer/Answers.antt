@@ -26,7 +26,7 @@ pub overflow_add-first : goal.overflow_add-first
 overflow_add-first c =
     let q = c.from_u256-pointer.result in
     let short = min_le_right q.offset q.length in
-    let is = c.lesser.ensures in
+    let is = c.min.ensures in
     let room = c.if-pointer.false in
     omega arith
 
@@ -34,14 +34,14 @@ pub count-n-requires : goal.count-n-requires
 count-n-requires c =
     let q = c.from_u256-pointer.result in
     let short = min_le_right q.offset q.length in
-    let is = c.lesser.ensures in
+    let is = c.min.ensures in
     let room = c.if-pointer.false in
     omega arith
 
 pub read_padded-read-requires : goal.read_padded-read-requires
 read_padded-read-requires c =
     let q = c.from_u256-pointer.result in
-    let few = min_le_left 32 (q.start + q.length - (q.start + c.lesser.result)) in
+    let few = min_le_left 32 (q.start + q.length - (q.start + c.min.result)) in
     let is = c.count-n.ensures in
     record { well_formed = c.requires; n_bound = omega arith }
 
@@ -49,6 +49,6 @@ pub returns : goal.returns
 returns c =
     let m = mem c.args.bytes.now c.args.keys.now c.args.order.now c.args.words.now in
     let q = c.from_u256-pointer.result in
-    pointer_done m c.args.frame (operand_of c.args.operand) _ (not-false _ c.if-not-operand.false) c.from_u256-pointer.result c.from_u256-pointer.ensures c.if-pointer-gt-LAST_ADDRESS.false (omega (arith, c.if-pointer.false, c.struct_known-4-1.given)) _ (q.start + c.lesser.result) c.count-n.result c.read_padded-read.result
-    (omega (arith, c.lesser.ensures)) (omega (arith, c.lesser.ensures, c.count-n.ensures)) (omega (arith, c.lesser.ensures, c.count-n.ensures))
+    pointer_done m c.args.frame (operand_of c.args.operand) _ (not-false _ c.if-not-operand.false) c.from_u256-pointer.result c.from_u256-pointer.ensures c.if-pointer-gt-LAST_ADDRESS.false (omega (arith, c.if-pointer.false, c.struct_known-4-1.given)) _ (q.start + c.min.result) c.count-n.result c.read_padded-read.result
+    (omega (arith, c.min.ensures)) (omega (arith, c.min.ensures, c.count-n.ensures)) (omega (arith, c.min.ensures, c.count-n.ensures))
     c.read_padded-read.ensures c.from_big_endian-word.ensures c.carried_out.ensures.0 c.carried_out.ensures.1 c.requires

@@ -71,10 +71,9 @@ pub fn load_pointer(
     if pointer.offset > word::LAST_ADDRESS {
         return execution::unread(execution::panicked(frame));
     }
-    if pointer.length > 4294967295 - pointer.start {
+    let Some(end) = pointer.start.checked_add(pointer.length) else {
         return execution::unread(execution::refused(Refusal::Pointer, frame));
-    }
-    let end = pointer.start + pointer.length;
+    };
     let first = pointer.start + pointer.offset.min(pointer.length);
     let n = execution::count(first, end);
     let page = pointer.memory_page;

@@ -31,8 +31,7 @@ pub fn load(
     if !registers::takes_load(places) {
         return write_back::refused(Refusal::Operand, frame);
     }
-    let source = places.source;
-    let operand = registers::source(registers, source);
+    let operand = registers::source(registers, places.source);
     let run = instruction_steps::load(bytes, keys, order, words, frame, area, operand);
     write_back::loaded(registers, places, run)
 }
@@ -56,10 +55,8 @@ pub fn store(
     if !registers::takes_store(places) {
         return write_back::refused(Refusal::Operand, frame);
     }
-    let source = places.source;
-    let operand = registers::source(registers, source);
-    let value = places.value;
-    let stored = registers::number(value);
+    let operand = registers::source(registers, places.source);
+    let stored = registers::number(places.value);
     let word = registers::value(registers, stored, kernel);
     let run = instruction_steps::store(bytes, keys, order, words, frame, area, operand, word, hook);
     write_back::stored(registers, places, run)
@@ -81,8 +78,7 @@ pub fn load_pointer(
     if !registers::takes_pointer(places) {
         return write_back::pointer_refused(Refusal::Operand, frame);
     }
-    let source = places.source;
-    let operand = registers::source(registers, source);
+    let operand = registers::source(registers, places.source);
     let run = instruction_steps::load_pointer(bytes, keys, order, words, frame, operand);
     PointerExecuted {
         executed: write_back::loaded(registers, places, run.execution),
@@ -106,8 +102,7 @@ pub fn load_static(
     if !registers::takes_load(places) {
         return write_back::refused(Refusal::Operand, frame);
     }
-    let source = places.source;
-    let operand = registers::source(registers, source);
+    let operand = registers::source(registers, places.source);
     let run = instruction_steps::load_static(bytes, keys, order, words, frame, operand);
     write_back::loaded(registers, places, run)
 }
@@ -129,10 +124,8 @@ pub fn store_static(
     if !registers::takes_store(places) {
         return write_back::refused(Refusal::Operand, frame);
     }
-    let source = places.source;
-    let operand = registers::source(registers, source);
-    let value = places.value;
-    let stored = registers::number(value);
+    let operand = registers::source(registers, places.source);
+    let stored = registers::number(places.value);
     let word = registers::value(registers, stored, kernel);
     let run = instruction_steps::store_static(bytes, keys, order, words, frame, operand, word);
     write_back::stored(registers, places, run)

@@ -1,7 +1,7 @@
 -- What a write-back tells, by how the step ended.
 -- Assumes nothing.
 use mathlib.Core.Path.{◌≡◌, refl, sym, ap, ◌∙◌, subst}
-use mathlib.Core.Bool.{Bool, true, false, cond, false≢true}
+use mathlib.Core.Bool.{true, false≢true}
 use mathlib.Core.List.{List}
 use Prim.Native.Nat.{ℕ, ◌≤◌}
 use native.Mathlib.Omega.{arith}
@@ -10,10 +10,8 @@ use Rattle.outcome.specs.declared.Refusal.{Refusal}
 use Rattle.outcome.specs.Outcome.{Outcome, panicked, done}
 use Rattle.registers.specs.declared.Place.{Place}
 use Rattle.registers.specs.declared.Place.TheVariants as place
-use Rattle.registers.specs.declared.LoadPlaces.{LoadPlaces}
-use Rattle.registers.specs.declared.StorePlaces.{StorePlaces}
-use Rattle.registers.specs.Registers.{Registers, registers_from, is_register, register_number, with_register, cleared}
-use Rattle.view.specs.Instructions.{InstructionResult, Executed, running, on_hook, loaded_into, stored_into}
+use Rattle.registers.specs.Registers.{Registers, registers_from, is_register, register_number}
+use Rattle.view.specs.Instructions.{InstructionResult, Executed, running, on_hook}
 use Rattle.view.specs.Calls.{Value, executed}
 use Rattle.execution.specs.declared.Execution.{Execution}
 use Rattle.execution.specs.declared.ExecutionStatus.{ExecutionStatus}
@@ -27,43 +25,6 @@ pub number_few : (d : Place) → is_register d ≡ true → (n : ℕ) → n ≡ 
 number_few (place.Register k) e n q = subst (λ (j : ℕ). j ≤ 15) (sym q) (leb-true k 15 e)
 number_few (place.Immediate k) e n q = absurd (false≢true e)
 number_few place.Other e n q = absurd (false≢true e)
-
--- ---- registers that are written one after the other: g, then h, then k
-module _ (g h k : Registers) (n₀ n₁ : ℕ) (x : InstructionResult) where
-  module _ (p : LoadPlaces) (d₀ : n₀ ≡ register_number p.dst0) (d₁ : n₁ ≡ register_number p.dst1) (first : h ≡ with_register n₀ x.word false g) where
-    abbrev up : Registers
-    up = with_register (register_number p.dst1) x.operand.word x.operand.tag (with_register (register_number p.dst0) x.word false g)
-
-    abbrev down : Registers
-    down = cleared (register_number p.dst1) (with_register (register_number p.dst0) x.word false g)
-
-    first_is : h ≡ with_register (register_number p.dst0) x.word false g
-    first_is = first ∙ ap (λ (n : ℕ). with_register n x.word false g) d₀
-
-    pub load_next : p.increment ≡ true → k ≡ with_register n₁ x.operand.word x.operand.tag h → k ≡ (loaded_into g p x).registers
-    load_next b e = e ∙ (λ i. with_register (d₁ i) x.operand.word x.operand.tag (first_is i)) ∙ sym (ap (λ (t : Bool). cond t up down) b)
-
-    pub load_clear : p.increment ≡ false → k ≡ cleared n₁ h → k ≡ (loaded_into g p x).registers
-    load_clear b e = e ∙ (λ i. cleared (d₁ i) (first_is i)) ∙ sym (ap (λ (t : Bool). cond t up down) b)
-
-  module _ (p : StorePlaces) (d₁ : n₁ ≡ register_number p.dst1) where
-    abbrev next : Registers
-    next = with_register (register_number p.dst0) x.operand.word x.operand.tag g
-
-    pub store_next : n₀ ≡ register_number p.dst0 → p.increment ≡ true → h ≡ with_register n₀ x.operand.word x.operand.tag g → k ≡ cleared n₁ h → k ≡ (stored_into g p x).registers
-    store_next d₀ b first e =
-        e ∙ (λ i. cleared (d₁ i) ((first ∙ ap (λ (n : ℕ). with_register n x.operand.word x.operand.tag g) d₀) i))
-        ∙ ap (cleared (register_number p.dst1)) (sym (ap (λ (t : Bool). cond t next g) b))
-
-    pub store_clear : p.increment ≡ false → k ≡ cleared n₁ g → k ≡ (stored_into g p x).registers
-    store_clear b e = e ∙ (λ i. cleared (d₁ i) g) ∙ ap (cleared (register_number p.dst1)) (sym (ap (λ (t : Bool). cond t next g) b))
-
--- a result of another frame and stop gives the same registers
-pub load_same : (g : Registers) (p : LoadPlaces) (x y : InstructionResult) → y.word ≡ x.word → y.operand ≡ x.operand → (loaded_into g p x).registers ≡ (loaded_into g p y).registers
-load_same g p x y d e = λ i. (loaded_into g p (record { word = sym d i; operand = sym e i; frame = x.frame; stop = x.stop })).registers
-
-pub store_same : (g : Registers) (p : StorePlaces) (x y : InstructionResult) → y.operand ≡ x.operand → (stored_into g p x).registers ≡ (stored_into g p y).registers
-store_same g p x y e = λ i. (stored_into g p (record { word = x.word; operand = sym e i; frame = x.frame; stop = x.stop })).registers
 
 -- ---- the registers that a result gives; frame and stop are the result's
 module _ (on_panic on_done : InstructionResult → Registers) (x : Execution) (l : List ℕ) (r : code.Executed) (status : r.status ≡ x.status) (frame : r.frame ≡ x.frame) where

@@ -51,8 +51,7 @@ fn set_zero(registers: &mut [u64], n: u32)
     requires { (length registers.old ≡ 65) × (n ≤ 15) }
     ensures { registers_from registers.new ≡ cleared n (registers_from registers.old) }
 {
-    let none = execution::no_word();
-    registers::set(registers, n, none, false);
+    registers::set(registers, n, execution::no_word(), false);
 }
 
 // A load that was carried out writes the word to dst0, and then dst1: the operand plus 32 where it increments, else 0.
@@ -60,16 +59,14 @@ pub fn write_load(registers: &mut [u64], places: LoadPlaces, word: Word, next: O
     requires { (length registers.old ≡ 65) × ((is_register places.dst0 ≡ true) × (is_register places.dst1 ≡ true)) }
     ensures { (x : InstructionResult) → x.word ≡ value word.limbs → x.operand ≡ operand_of next → registers_from registers.new ≡ (loaded_into (registers_from registers.old) places x).registers }
 {
-    let dst0 = places.dst0;
-    let dst1 = places.dst1;
-    let first = registers::number(dst0);
-    let second = registers::number(dst1);
+    let first = registers::number(places.dst0);
+    let second = registers::number(places.dst1);
     registers::set(registers, first, word, false);
     if places.increment {
         registers::set(registers, second, next.word, next.tagged);
-        return;
+    } else {
+        set_zero(registers, second);
     }
-    set_zero(registers, second);
 }
 
 // A store that was carried out writes the operand plus 32 to dst0 where it increments, and clears dst1.
@@ -77,13 +74,10 @@ pub fn write_store(registers: &mut [u64], places: StorePlaces, next: Operand)
     requires { (length registers.old ≡ 65) × ((is_register places.dst0 ≡ true) × (is_register places.dst1 ≡ true)) }
     ensures { (x : InstructionResult) → x.operand ≡ operand_of next → registers_from registers.new ≡ (stored_into (registers_from registers.old) places x).registers }
 {
-    let dst0 = places.dst0;
-    let dst1 = places.dst1;
-    let written = registers::number(dst0);
-    let cleared = registers::number(dst1);
+    let written = registers::number(places.dst0);
+    let cleared = registers::number(places.dst1);
     if places.increment {
         registers::set(registers, written, next.word, next.tagged);
-        return set_zero(registers, cleared);
     }
     set_zero(registers, cleared);
 }
@@ -94,9 +88,11 @@ pub fn loaded(registers: &mut [u64], places: LoadPlaces, run: Execution) -> Exec
     ensures { WritesBack (panicked_into (registers_from registers.old) places.dst1) (loaded_into (registers_from registers.old) places) run registers.old result registers.new }
 {
     match run.status {
-        ExecutionStatus::Refused(_) => {}
+        ExecutionStatus::Running | ExecutionStatus::SuspendedOnHook(_) => {
+            write_load(registers, places, run.word, run.operand);
+        }
         ExecutionStatus::Panicked => set_zero(registers, registers::number(places.dst1)),
-        ExecutionStatus::Running | ExecutionStatus::SuspendedOnHook(_) => write_load(registers, places, run.word, run.operand),
+        ExecutionStatus::Refused(_) => {}
     }
     Executed {
         status: run.status,
@@ -110,9 +106,11 @@ pub fn stored(registers: &mut [u64], places: StorePlaces, run: Execution) -> Exe
     ensures { WritesBack (panicked_into (registers_from registers.old) places.dst1) (stored_into (registers_from registers.old) places) run registers.old result registers.new }
 {
     match run.status {
-        ExecutionStatus::Refused(_) => {}
+        ExecutionStatus::Running | ExecutionStatus::SuspendedOnHook(_) => {
+            write_store(registers, places, run.operand);
+        }
         ExecutionStatus::Panicked => set_zero(registers, registers::number(places.dst1)),
-        ExecutionStatus::Running | ExecutionStatus::SuspendedOnHook(_) => write_store(registers, places, run.operand),
+        ExecutionStatus::Refused(_) => {}
     }
     Executed {
         status: run.status,

@@ -1,11 +1,7 @@
 use Rattle.store.specs.Mem.{mem}
 use Rattle.registers.specs.Registers.{operand_of}
-use Rattle.execution.proofs.Laws.{within, load_ends}
+use Rattle.execution.proofs.Laws.{load_ends}
 use Rattle.instruction_steps.proofs.load.Goals as goal
-
-pub load_at-requires : goal.load_at-requires
-load_at-requires c =
-    let m = mem c.args.bytes.now c.args.keys.now c.args.order.now c.args.words.now in record { well_formed = c.requires; limbs_bound = within m c.args.frame (operand_of c.args.operand) c.reach-step.result c.args.area c.reach-step.ensures }
 
 pub returns : goal.returns
 returns c =

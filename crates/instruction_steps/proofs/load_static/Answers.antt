@@ -1,15 +1,11 @@
 use Rattle.store.specs.Mem.{mem}
 use Rattle.checks.proofs.Chosen.{layout_asks}
 use Rattle.registers.specs.Registers.{operand_of}
-use Rattle.execution.proofs.Laws.{static_within, static_load_ends}
+use Rattle.execution.proofs.Laws.{static_load_ends}
 use Rattle.instruction_steps.proofs.load_static.Goals as goal
 
 pub static_page-page-requires : goal.static_page-page-requires
 static_page-page-requires c = layout_asks _ c.requires
-
-pub load_at-requires : goal.load_at-requires
-load_at-requires c =
-    let m = mem c.args.bytes.now c.args.keys.now c.args.order.now c.args.words.now in record { well_formed = c.requires; limbs_bound = static_within m c.args.frame (operand_of c.args.operand) c.reach_static-step.result c.reach_static-step.ensures }
 
 pub returns : goal.returns
 returns c =

@@ -1,15 +1,7 @@
-use Rattle.store.specs.Mem.{mem}
 use Rattle.formed.proofs.Meaning.{well_formed_means}
-use Rattle.view.specs.Calls.{LoadStatic}
-use Rattle.index.proofs.Logic.{passed, failed}
-use Rattle.registers.specs.Registers.{registers_from}
-use Rattle.write_back.proofs.Laws.{ill_runs}
+use Rattle.index.proofs.Logic.{passed}
 use borrow.Author.Rules.{rules}
 use Rattle.instructions.proofs.load_static.Goals as goal
-
-pub returns-then-not-well_formed : goal.returns-then-not-well_formed
-returns-then-not-well_formed c =
-    ill_runs (mem c.args.bytes.now c.args.keys.now c.args.order.now c.args.words.now) (LoadStatic c.args.frame (registers_from c.args.registers.now) c.args.places) c.args.frame c.args.registers.now _ (failed c.well_formed-2.ensures c.if-not-well_formed.true) c.refused.ensures.0 c.refused.ensures.1
 
 pub load_static-requires : goal.load_static-requires
 load_static-requires c = record { well_formed = well_formed_means _ (passed c.well_formed-2.ensures c.if-not-well_formed.false); registers_len = search rules }

@@ -16,9 +16,9 @@ returns c =
     let p = c.args.places in
     let back = writes_back (λ (x : InstructionResult). cleared (register_number p.dst1) g) (λ (x : InstructionResult). (stored_into g p x).registers) c.args.run c.args.registers.now _ refl refl c.match-run.registers in
     elim c.match-run.branch [
-      in-Refused w ↦ back _ w.in-Refused.is w.registers-is
-    | in-Panicked w ↦ back _ w.in-Panicked.is (ap registers_from w.registers-is ∙ w.set_zero.ensures ∙ ap (λ (n : ℕ). cleared n g) w.number.ensures)
-    | in-Running w ↦
-        let written = λ (s : ExecutionStatus). ap registers_from w.registers-is ∙ w.write_store.ensures (record { word = (result_of c.args.run).word; operand = (result_of c.args.run).operand; frame = c.args.run.frame; stop = stop_of s }) refl in
-        ⊎_elim (λ e. back Running e (written Running)) (λ e. back (SuspendedOnHook e.0) e.1 (written (SuspendedOnHook e.0))) w.in-Running.is
+      | in-Refused w ↦ back _ w.in-Refused.is w.registers-is
+      | in-Panicked w ↦ back _ w.in-Panicked.is (ap registers_from w.registers-is ∙ w.set_zero.ensures ∙ ap (λ (n : ℕ). cleared n g) w.number.ensures)
+      | in-Running w ↦
+          let written = λ (s : ExecutionStatus). ap registers_from w.registers-is ∙ w.write_store.ensures (record { word = (result_of c.args.run).word; operand = (result_of c.args.run).operand; frame = c.args.run.frame; stop = stop_of s }) refl in
+          ⊎_elim (λ e. back Running e (written Running)) (λ e. back (SuspendedOnHook e.0) e.1 (written (SuspendedOnHook e.0))) w.in-Running.is
     ]

@@ -3,26 +3,12 @@ use Rattle.store.specs.Mem.{mem}
 use Rattle.index.proofs.Logic.{passed, failed}
 use Rattle.registers.specs.Registers.{operand_of, registers_from, value_of}
 use Rattle.word.specs.Value.{value}
-use Rattle.write_back.proofs.Pieces.{number_few}
-use Rattle.write_back.proofs.Laws.{store_parts, static_store_refused, static_store_runs}
-use borrow.Author.Rules.{rules}
+use Rattle.write_back.proofs.Laws.{static_store_refused, static_store_runs}
 use Rattle.instructions.proofs.on_formed.store_static.Goals as goal
 
 pub returns-then-not-takes_store : goal.returns-then-not-takes_store
 returns-then-not-takes_store c =
     static_store_refused (mem c.args.bytes.now c.args.keys.now c.args.order.now c.args.words.now) c.requires.well_formed c.args.frame c.args.registers.now _ c.refused.ensures.0 c.refused.ensures.1 c.args.places c.args.kernel (failed c.takes_store.ensures c.if-not-takes_store.true)
-
-pub source-operand-requires : goal.source-operand-requires
-source-operand-requires c =
-    (search rules, (store_parts c.args.places (passed c.takes_store.ensures c.if-not-takes_store.false)).0)
-
-pub value-word-requires : goal.value-word-requires
-value-word-requires c =
-    (search rules, number_few c.args.places.value (store_parts c.args.places (passed c.takes_store.ensures c.if-not-takes_store.false)).1.0 _ c.number-stored.ensures)
-
-pub stored-requires : goal.stored-requires
-stored-requires c =
-    (search rules, (store_parts c.args.places (passed c.takes_store.ensures c.if-not-takes_store.false)).1.1)
 
 pub returns : goal.returns
 returns c =

@@ -1,7 +1,6 @@
 -- No refusal has the number 0, so the status of an answer tells whether the call was carried out, and which refusal it got.
 -- Assumes nothing.
 use mathlib.Core.Path.{◌≡◌, refl, ap}
-use Prim.Native.Nat.{ℕ}
 use native.Mathlib.Omega.{arith}
 use Rattle.std.specs.Prelude.{Result, Ok, Err, ⊤, IsErrAnd}
 use Rattle.outcome.specs.declared.Refusal.{Refusal}

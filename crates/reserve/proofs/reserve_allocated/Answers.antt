@@ -4,7 +4,7 @@ use native.Mathlib.Omega.{arith}
 use Rattle.store.specs.Mem.{mem}
 use Rattle.formed.proofs.Asks.{entry_few}
 use Rattle.formed.proofs.Hints.{find_asked}
-use Rattle.reserve.proofs.Reserving.{entry_listed, reserve_refused, reserve_prepare, reserve_done}
+use Rattle.reserve.proofs.Reserving.{entry_listed, reserve_prepare, reserve_done}
 use Rattle.reserve.proofs.reserve_allocated.Goals as goal
 
 pub locate-located-requires : goal.locate-located-requires

@@ -1,7 +1,7 @@
 use mathlib.Core.Path.{sym, ap, ◌∙◌}
 use Rattle.outcome.specs.Outcome.{status_of}
 use Rattle.store.specs.Mem.{mem}
-use Rattle.reserve.proofs.Reserving.{reserve_refused, reserve_prepare, reserve_done}
+use Rattle.reserve.proofs.Reserving.{reserve_prepare, reserve_done}
 use Rattle.reserve.proofs.reserve_unallocated.Goals as goal
 
 pub prepare_unallocated-requires : goal.prepare_unallocated-requires

@@ -1,14 +1,12 @@
-use mathlib.Core.Path.{ap, refl, sym, ◌∙◌, subst}
+use mathlib.Core.Path.{ap, refl, sym, ◌∙◌}
 use native.Mathlib.Omega.{arith}
 use lib.ListN.{length}
-use Rattle.outcome.specs.Outcome.{answered}
 use Rattle.word.specs.Value.{value, word_bytes}
 use Rattle.word.proofs.Digits.{digits_long}
-use Rattle.store.specs.Mem.{Mem, mem}
+use Rattle.store.specs.Mem.{mem}
 use Rattle.view.specs.View.{View, setting_of, view_of}
 use Rattle.view.specs.Steps.{word_notes}
 use Rattle.view.specs.Checks.{capacity_checks_at}
-use Rattle.view.specs.Calls.{WriteWord, nothing, CallDoes}
 use Rattle.checks.proofs.Chosen.{layout_asks, chosen_4}
 use Rattle.word_steps.proofs.Chains.{word_notes_same, write_done}
 use Rattle.write_steps.proofs.Chains.{journal_asks}

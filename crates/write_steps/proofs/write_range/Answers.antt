@@ -1,16 +1,15 @@
-use mathlib.Core.Path.{ap, sym, ◌∙◌, subst}
+use mathlib.Core.Path.{ap, sym, ◌∙◌}
 use mathlib.Core.List.{◌∷◌}
 use Prim.Native.Nat.{◌+◌, ◌^◌}
 use native.Mathlib.Omega.{arith}
 use lib.Dec.{ltb}
 use lib.ListN.{length}
-use Rattle.outcome.specs.Outcome.{refused, answered}
-use Rattle.store.specs.Mem.{Mem, mem}
+use Rattle.outcome.specs.Outcome.{refused}
+use Rattle.store.specs.Mem.{mem}
 use Rattle.formed.proofs.Asks.{pages_asked}
 use Rattle.view.specs.View.{View, setting_of, view_of}
 use Rattle.view.specs.Steps.{aligned_count, aligned_notes}
 use Rattle.view.specs.Checks.{capacity_checks_at}
-use Rattle.view.specs.Calls.{WriteBytes, nothing, CallDoes}
 use Rattle.view.specs.Inner.{putting}
 use Rattle.bodies.proofs.Puts.{shows_then}
 use Rattle.checks.proofs.Chosen.{layout_asks, touched_top, chosen_4, bytes_8}

@@ -229,13 +229,13 @@ module _ {value : Executed → Value} {m : Mem} {c : Call} {frame l : List ℕ} 
   }
 
   -- on a memory that is not well formed
-  pub ill : fits ≡ true → well_formed m ≡ false → ExecutesWith value m c frame l fits 3 h m frame l
-  ill e w = record {
-    unfit = λ q. absurd (false≢true (sym q ∙ e));
+  pub ill : {r : ℕ} → r ≡ 3 → fits ≡ true → well_formed m ≡ false → ExecutesWith value m c frame l fits r h m frame l
+  ill q e w = subst (λ (r : ℕ). ExecutesWith value m c frame l fits r h m frame l) (sym q) (record {
+    unfit = λ z. absurd (false≢true (sym z ∙ e));
     does = λ _. ill_does m c w;
     kept = λ _ _ _. (refl, refl);
-    frame_numbers_lem = λ q. absurd (none (λ z. omega arith) (λ z. omega arith) (λ z. omega arith) q);
-  }
+    frame_numbers_lem = λ z. absurd (none (λ x. omega arith) (λ x. omega arith) (λ x. omega arith) z);
+  })
 
   -- d is the call as it was made, with the frame f
   executes_with : TellsStop value → fits ≡ true → (i : Instruction c) → {d : Call} → d ≡ c → {f : Frame} {m' : Mem} {l' : List ℕ} (x : code.Executed) → RunsWith value m d f l x m' l'

@@ -82,10 +82,10 @@ module _ (m : Mem) (p k : ℕ) (block : List ℕ) (a : Result ⊤ Refusal) (t : 
   }
 
   -- one that fails
-  pub chunk_refused : {e : Refusal} → a ≡ Err e → {o : List ℕ} → length o ≡ 256 → Gives 256 (chunk_answer m p k block) bytes (number_of e) o o
-  chunk_refused {e} r {o} l = record {
+  pub chunk_refused : {e : Refusal} → a ≡ Err e → {r : ℕ} → r ≡ number_of e → {o : List ℕ} → length o ≡ 256 → Gives 256 (chunk_answer m p k block) bytes r o o
+  chunk_refused {e} f q {o} l = record {
     unfit = λ other. absurd (other l);
-    answer = λ _. status_answered (bytes o) (Err e) ∙ sym (go (well_formed m) (eqb (length block) 256 && zeros block) (sym t ∙ ap unit_outcome r));
+    answer = λ _. status_told (bytes o) (Err e) q ∙ sym (go (well_formed m) (eqb (length block) 256 && zeros block) (sym t ∙ ap unit_outcome f));
     kept = λ _. refl;
   }
     where

@@ -170,8 +170,15 @@ pub fn zp_chunk<'a>(
     }
     match reads::chunk_check(bytes, keys, order, words, PageId(page), number, block) {
         Ok(()) => {
-            let chunk =
-                read_steps::chunk_of(bytes, keys, order, words, PageId(page), number, block);
+            let chunk = read_steps::chunk_of(
+                bytes,
+                keys,
+                order,
+                words,
+                PageId(page),
+                number,
+                block,
+            );
             output.copy_from_slice(chunk);
             0
         }

@@ -10,7 +10,8 @@ use lib.Dec.{eqb, ltb}
 use lib.ListN.{length, get_or}
 use borrow.Author.Tests.{ne_eqb, eqb-true, ltb-true}
 use Rattle.index.proofs.Logic.{and_left, and_right}
-use Rattle.outcome.specs.Outcome.{Outcome, refused, panicked, done, first_of, answered}
+use Rattle.outcome.specs.Outcome.{Outcome, refused, panicked, done, first_of, answered, number_of}
+use Rattle.outcome.specs.declared.Refusal.{Refusal}
 use Rattle.registers.specs.declared.LoadPlaces.{LoadPlaces}
 use Rattle.registers.specs.declared.StorePlaces.{StorePlaces}
 use Rattle.registers.specs.Registers.{Registers, registers_from, register_number, source_of, value_of, load_takes, pointer_takes, store_takes}
@@ -178,7 +179,7 @@ none a b c = ⊎_elim a (⊎_elim b c)
 -- ---- what is left by an instruction that ended so, with registers of the numbers l; h is the hook's value
 record Left (value : Executed → Value) (s : ExecutionStatus) (x : code.Executed) (frame l : List ℕ) (r h : ℕ) (frame' : List ℕ) : Type 0 where
   same : outcome_from value r h frame' l ≡ ended_with value s x.frame (registers_from l)
-  kept : (r ≡ 0 → ⊥) → (r ≡ 100 → ⊥) → (r ≡ 101 → ⊥) → (frame' ≡ frame) × (s ≡ Refused r)
+  kept : (r ≡ 0 → ⊥) → (r ≡ 100 → ⊥) → (r ≡ 101 → ⊥) → (frame' ≡ frame) × ((e : Refusal) × (s ≡ Refused e))
   frame_numbers_lem : (r ≡ 0) ⊎ ((r ≡ 100) ⊎ (r ≡ 101)) → frame' ≡ frame_numbers (frame_from frame')
 
 module _ (value : Executed → Value) (tells : TellsStop value) (P : Stop → Type 0) (x : code.Executed) (frame l : List ℕ) (h : ℕ) where
@@ -201,11 +202,12 @@ module _ (value : Executed → Value) (tells : TellsStop value) (P : Stop → Ty
     kept = λ a b c. absurd (b refl);
     frame_numbers_lem = λ _. numbers_back x.frame;
   }
-  left (Refused n) p q =
+  left (Refused e) p q =
+      let n = number_of e in
       let k = refusal_is p n refl in
       record {
-        same = rw (ne_eqb n 0 (λ e. omega arith), ne_eqb n 100 (λ e. omega arith), ne_eqb n 101 (λ e. omega arith)) refl;
-        kept = λ a b c. (refl, refl);
+        same = rw (ne_eqb n 0 (λ z. omega arith), ne_eqb n 100 (λ z. omega arith), ne_eqb n 101 (λ z. omega arith)) refl;
+        kept = λ a b c. (refl, (e, refl));
         frame_numbers_lem = λ e. absurd (none (λ z. omega arith) (λ z. omega arith) (λ z. omega arith) e);
       }
 
@@ -227,13 +229,13 @@ module _ {value : Executed → Value} {m : Mem} {c : Call} {frame l : List ℕ} 
   }
 
   -- on a memory that is not well formed
-  pub ill : fits ≡ true → well_formed m ≡ false → ExecutesWith value m c frame l fits 3 h m frame l
-  ill e w = record {
-    unfit = λ q. absurd (false≢true (sym q ∙ e));
+  pub ill : {r : ℕ} → r ≡ 3 → fits ≡ true → well_formed m ≡ false → ExecutesWith value m c frame l fits r h m frame l
+  ill q e w = subst (λ (r : ℕ). ExecutesWith value m c frame l fits r h m frame l) (sym q) (record {
+    unfit = λ z. absurd (false≢true (sym z ∙ e));
     does = λ _. ill_does m c w;
     kept = λ _ _ _. (refl, refl);
-    frame_numbers_lem = λ q. absurd (none (λ z. omega arith) (λ z. omega arith) (λ z. omega arith) q);
-  }
+    frame_numbers_lem = λ z. absurd (none (λ x. omega arith) (λ x. omega arith) (λ x. omega arith) z);
+  })
 
   -- d is the call as it was made, with the frame f
   executes_with : TellsStop value → fits ≡ true → (i : Instruction c) → {d : Call} → d ≡ c → {f : Frame} {m' : Mem} {l' : List ℕ} (x : code.Executed) → RunsWith value m d f l x m' l'
@@ -247,7 +249,7 @@ module _ {value : Executed → Value} {m : Mem} {c : Call} {frame l : List ℕ} 
       record {
         unfit = λ e. absurd (false≢true (sym e ∙ fit));
         does = λ _. record { answer = left_is.same ∙ done.answer; kept = done.kept; changed = done.changed };
-        kept = λ a b e. let k = left_is.kept a b e in (k.0, (runs.refusal r k.1).1);
+        kept = λ a b e. let k = left_is.kept a b e in (k.0, (runs.refusal k.1.0 k.1.1).1);
         frame_numbers_lem = left_is.frame_numbers_lem;
       }
 
@@ -317,7 +319,7 @@ module _ {frame out : List ℕ} {step : FrameStep} where
   pub grow_unfit : fit frame out 1 ≡ false → Grows frame out step 102 frame out
   grow_unfit h = record { unfit = λ _. (refl, (refl, refl)); answer = λ e. absurd (false≢true (sym h ∙ e)) }
 
-  pub grows : fit frame out 1 ≡ true → {s : FrameStep} → s ≡ step → {r b : ℕ} {frame' out' : List ℕ} → frame' ≡ grown_numbers frame s.frame → Gives 1 (answered 0 (b ∷ [])) as_they_are r out out' → b ≡ bit s.paid → Grows frame out step r frame' out'
+  pub grows : fit frame out 1 ≡ true → {s : FrameStep} → s ≡ step → {r b : ℕ} {frame' out' : List ℕ} → frame' ≡ grown_numbers frame s.frame → Gives 1 (done (b ∷ [])) as_they_are r out out' → b ≡ bit s.paid → Grows frame out step r frame' out'
   grows fits q {r} {b} {out' = out'} e g p = record {
     unfit = λ h. absurd (false≢true (sym h ∙ fits));
     answer = λ _.
@@ -344,18 +346,3 @@ static_is {g = g} e q = λ i. LoadStatic (e i) g (q i)
 
 pub static_store_is : {f f' : Frame} {g : Registers} {p p' : StorePlaces} {kernel : Bool} → f ≡ f' → p ≡ p' → StoreStatic f g p kernel ≡ StoreStatic f' g p' kernel
 static_store_is {g = g} {kernel = kernel} e q = λ i. StoreStatic (e i) g (q i) kernel
-
--- ---- the parts
-module _ (x : code.Executed) {frame : List ℕ} where
-  pub refusal_reported : {n : ℕ} → x.status ≡ Refused n → ReportsExecuted x frame n frame
-  refusal_reported q = record { status = sym (ap executed_status q); frame_is = sym (ap (λ (s : ExecutionStatus). frame_after s x frame) q) }
-
-  module _ {frame' : List ℕ} (e : frame' ≡ frame_numbers x.frame) where
-    pub panic_reported : x.status ≡ Panicked → ReportsExecuted x frame 100 frame'
-    panic_reported q = record { status = sym (ap executed_status q); frame_is = e ∙ sym (ap (λ (s : ExecutionStatus). frame_after s x frame) q) }
-
-    pub run_reported : x.status ≡ Running → ReportsExecuted x frame 0 frame'
-    run_reported q = record { status = sym (ap executed_status q); frame_is = e ∙ sym (ap (λ (s : ExecutionStatus). frame_after s x frame) q) }
-
-    pub stop_reported : {h : ℕ} → x.status ≡ SuspendedOnHook h → ReportsExecuted x frame 101 frame'
-    stop_reported q = record { status = sym (ap executed_status q); frame_is = e ∙ sym (ap (λ (s : ExecutionStatus). frame_after s x frame) q) }

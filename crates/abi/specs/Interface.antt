@@ -36,6 +36,10 @@ abbrev pub number_in : List ℕ → Value
 number_in o = number (get_or o 0 0)
 
 -- the lengths of the journals of heap and aux heap
+abbrev pub marks_at : List ℕ → ℕ × ℕ
+marks_at o = (get_or o 0 0, get_or o 1 0)
+
+-- the same, among the values of all calls
 abbrev pub marks_in : List ℕ → Value
 marks_in o = lengths (get_or o 0 0) (get_or o 1 0)
 

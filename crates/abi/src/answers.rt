@@ -2,25 +2,25 @@
 ghost use Rattle.std.specs.Prelude.{◌≡◌, length};
 ghost use Rattle.outcome.specs.Outcome.{done, mapped, result_outcome};
 ghost use Rattle.word.specs.Value.{value};
-ghost use Rattle.reads.specs.Calls.{word_outcome, partial_outcome};
+ghost use Rattle.reads.specs.Calls.{word_outcome, partial_outcome, byte_outcome, length_outcome, snapshot_outcome};
 ghost use Rattle.compare.specs.Verdict.{comparison_outcome};
 ghost use Rattle.page_ids.specs.Arithmetic.{page_outcome, base_outcome};
 ghost use Rattle.page_ids.specs.Decode.{decoding_outcome};
 ghost use Rattle.state.specs.Quote.{quote_outcome};
-ghost use Rattle.abi.specs.Interface.{Gives, partial_at, verdict_in};
+ghost use Rattle.abi.specs.Interface.{Gives, partial_at, marks_at, verdict_in};
 ghost use Rattle.abi.specs.Numbers.{one, as_they_are, pointer_at, page_numbers, end_numbers};
 
 use crate::status::UNFIT;
 use fat_pointer::FatPointer;
 use outcome::Refusal;
 use page_ids::{BasePage, DecodedPage, PageId};
-use reads::PartialWord;
+use reads::{Marks, PartialWord};
 use state::quote::RunEnd;
 use word::Word;
 
 // Writes the numbers of an answer, or returns the number of its refusal. An output of another length than the answer has is told before all else.
 pub fn give<const N: usize>(out: &mut [u64], answer: Result<[u64; N], Refusal>) -> u32
-    ensures { Gives N (result_outcome as_they_are answer) as_they_are result out.old out.new }
+    ensures { Gives N (result_outcome as_they_are answer.entry) as_they_are result out.old out.new }
 {
     if out.len() != N {
         return UNFIT;
@@ -60,12 +60,40 @@ pub fn give_partial(out: &mut [u64], answer: Result<PartialWord, Refusal>) -> u3
     }
 }
 
+pub fn give_byte(out: &mut [u64], answer: Result<u8, Refusal>) -> u32
+    ensures { Gives 1 (byte_outcome answer) one result out.old out.new }
+{
+    match answer {
+        Ok(byte) => give(out, Ok([u64::from(byte)])),
+        Err(refusal) => give::<1>(out, Err(refusal)),
+    }
+}
+
+pub fn give_length(out: &mut [u64], answer: Result<u32, Refusal>) -> u32
+    ensures { Gives 1 (length_outcome answer) one result out.old out.new }
+{
+    match answer {
+        Ok(length) => give(out, Ok([frames::wide(length)])),
+        Err(refusal) => give::<1>(out, Err(refusal)),
+    }
+}
+
+// The lengths of the journals of heap and aux heap.
+pub fn give_marks(out: &mut [u64], answer: Result<Marks, Refusal>) -> u32
+    ensures { Gives 2 (snapshot_outcome answer) marks_at result out.old out.new }
+{
+    match answer {
+        Ok(marks) => give(out, Ok([frames::wide(marks.heap), frames::wide(marks.aux)])),
+        Err(refusal) => give::<2>(out, Err(refusal)),
+    }
+}
+
 // 1 for equal memories and 0 for different ones.
 pub fn give_verdict(out: &mut [u64], answer: Result<bool, Refusal>) -> u32
     ensures { Gives 1 (comparison_outcome answer) verdict_in result out.old out.new }
 {
     match answer {
-        Ok(equal) => give(out, Ok([frames::wide(frames::bit(equal))])),
+        Ok(equal) => give(out, Ok([u64::from(equal)])),
         Err(refusal) => give::<1>(out, Err(refusal)),
     }
 }

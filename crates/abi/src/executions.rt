@@ -34,22 +34,14 @@ pub fn report(run: Executed, frame: &mut [u32]) -> u32
     requires { length frame.old ≡ 6 }
     ensures { ReportsExecuted run frame.old result frame.new }
 {
-    let status = run.status;
-    match status {
-        ExecutionStatus::Refused(refusal) => u32::from(refusal),
-        ExecutionStatus::Panicked => {
-            frames::put_frame(frame, run.frame);
-            PANICKED
-        }
-        ExecutionStatus::Running => {
-            frames::put_frame(frame, run.frame);
-            0
-        }
-        ExecutionStatus::SuspendedOnHook(_) => {
-            frames::put_frame(frame, run.frame);
-            STOPPED
-        }
-    }
+    let status = match run.status {
+        ExecutionStatus::Refused(refusal) => return u32::from(refusal),
+        ExecutionStatus::Running => 0,
+        ExecutionStatus::Panicked => PANICKED,
+        ExecutionStatus::SuspendedOnHook(_) => STOPPED,
+    };
+    frames::put_frame(frame, run.frame);
+    status
 }
 
 // The same of a store: where the hook stops it, `out` gets the hook's value.
@@ -57,16 +49,10 @@ pub fn report_stop(run: Executed, frame: &mut [u32], out: &mut [u64]) -> u32
     requires { (length frame.old ≡ 6) × (length out.old ≡ 1) }
     ensures { ReportsExecuted run frame.old result frame.new × (out.new ≡ stop_value run.status out.old) }
 {
-    let status = run.status;
-    match status {
-        ExecutionStatus::SuspendedOnHook(value) => {
-            out[0] = frames::wide(value);
-            report(run, frame)
-        }
-        ExecutionStatus::Refused(_) => report(run, frame),
-        ExecutionStatus::Panicked => report(run, frame),
-        ExecutionStatus::Running => report(run, frame),
+    if let ExecutionStatus::SuspendedOnHook(value) = run.status {
+        out[0] = frames::wide(value);
     }
+    report(run, frame)
 }
 
 // The same of a pointer load: where it is carried out, `out` gets how many bytes of the pointer's range lead the word.
@@ -74,15 +60,8 @@ pub fn report_read(run: PointerExecuted, frame: &mut [u32], out: &mut [u64]) -> 
     requires { (length frame.old ≡ 6) × (length out.old ≡ 1) }
     ensures { ReportsExecuted run.executed frame.old result frame.new × (out.new ≡ read_value run.executed.status run.bytes_read out.old) }
 {
-    let executed = run.executed;
-    let status = executed.status;
-    match status {
-        ExecutionStatus::Running => {
-            out[0] = frames::wide(run.bytes_read);
-            report(executed, frame)
-        }
-        ExecutionStatus::SuspendedOnHook(_) => report(executed, frame),
-        ExecutionStatus::Refused(_) => report(executed, frame),
-        ExecutionStatus::Panicked => report(executed, frame),
+    if let ExecutionStatus::Running = run.executed.status {
+        out[0] = frames::wide(run.bytes_read);
     }
+    report(run.executed, frame)
 }

@@ -7,6 +7,7 @@ use Prim.Native.Nat.{ℕ, ◌+◌, ◌%◌, ◌^◌, ◌≤◌}
 use native.Mathlib.Omega.{arith}
 use lib.Dec.{leb, ltb}
 use borrow.Author.Tests.{le-leb, le-ltb, leb-true, ltb-false, not-true}
+use Rattle.std.specs.Prelude.{Ok}
 use Rattle.outcome.specs.Outcome.{done}
 use Rattle.word.specs.declared.Word.{Word}
 use Rattle.word.specs.Value.{value, big_endian, last_address}
@@ -35,7 +36,7 @@ use Rattle.execution.specs.declared.ExecutionStatus.TheVariants.{Running, Suspen
 use Rattle.execution.proofs.Laws.{address_is, load_done, load_ends, store_done, store_ends}
 use Rattle.write_back.specs.Runs.{Runs}
 use Rattle.write_back.proofs.Laws.{load_runs, store_runs}
-use Rattle.write_back.proofs.Pieces.{running_back}
+use Rattle.write_back.proofs.Pieces.{writes_back}
 use Rattle.owned.specs.Known.{paid_below, running_with, LoadKnown, WriteKnown, StoreKnown}
 
 -- ---- nothing was done
@@ -124,7 +125,7 @@ module _ (m : Mem) (formed : WellFormed m) (l : List ℕ) (page bound source dst
             let x : Execution = record { status = Running; word = w; operand = next; frame = f } in
             let s : FrameStep = record { frame = f; paid = true } in
             load_runs m formed f l (running_with f) x y l' p (source_is (ap (λ (z : LoadPlaces). z.source) q))
-            (running_back (λ (z : InstructionResult). cleared (register_number p.dst1) g) (λ (z : InstructionResult). (loaded_into g p z).registers) x l (running_with f) l' refl refl refl (written (record { word = value w.limbs; operand = operand_of next; frame = f; stop = running }) refl refl))
+            (writes_back (λ (z : InstructionResult). cleared (register_number p.dst1) g) (λ (z : InstructionResult). (loaded_into g p z).registers) x l (running_with f) refl refl l' Running refl (written (record { word = value w.limbs; operand = operand_of next; frame = f; stop = running }) refl refl))
             area (load_takes_lem source dst0 dst1 increment regs q)
             (load_ends m f y s area (free area f b) page (sym h)
             (load_done m page y s (λ _. paid_near y.word bound paid) refl a address formed (value w.limbs) e x refl (λ i. record { word = value w.limbs; operand = n i; frame = f; stop = running })))
@@ -146,8 +147,8 @@ module _ (m : Mem) (formed : WellFormed m) (l : List ℕ) (page bound source dst
             let x : Execution = record { status = Running; word = record { limbs = 0 ∷ 0 ∷ 0 ∷ 0 ∷ [] }; operand = next; frame = f } in
             let s : FrameStep = record { frame = f; paid = true } in
             store_runs m formed f l (running_with f) x y l' p kernel k (source_is (ap (λ (z : StorePlaces). z.source) q)) (e ∙ ap (value_of kernel g) number_is)
-            (running_back (λ (z : InstructionResult). cleared (register_number p.dst1) g) (λ (z : InstructionResult). (stored_into g p z).registers) x l (running_with f) l' refl refl refl (written (record { word = value x.word.limbs; operand = operand_of next; frame = f; stop = running }) refl))
+            (writes_back (λ (z : InstructionResult). cleared (register_number p.dst1) g) (λ (z : InstructionResult). (stored_into g p z).registers) x l (running_with f) refl refl l' Running refl (written (record { word = value x.word.limbs; operand = operand_of next; frame = f; stop = running }) refl))
             (store_takes_lem source v dst0 dst1 increment regs few q) m' area h
             (store_ends m f y s area (free area f b) page (sym page_is) k h
-            (store_done m page y s (λ _. paid_near y.word bound paid) refl a address k h f formed 0 m' d false (ap (λ (t : Bool). t && ltb 4294967295 k) (sym off)) refl refl
+            (store_done m page y s (λ _. paid_near y.word bound paid) refl a address k h f formed (Ok tt) m' d false (ap (λ (t : Bool). t && ltb 4294967295 k) (sym off)) refl refl
             x Running 0 (ap (λ (t : Bool). cond t (SuspendedOnHook (k % 2 ^ 32)) Running) (sym off)) refl refl (λ i. record { word = no_limbs i; operand = n i; frame = f; stop = running })))

@@ -1,6 +1,6 @@
 -- What an instruction returned, as structs, and instructions with what their numbers make.
 -- Assumes nothing.
-use mathlib.Core.Path.{◌≡◌, sym, ap, ◌∙◌, subst, subst₂}
+use mathlib.Core.Path.{◌≡◌, refl, sym, ap, ◌∙◌, subst, subst₂}
 use mathlib.Core.List.{List}
 use Prim.Native.Nat.{ℕ}
 use Rattle.registers.specs.Registers.{Registers, registers_from}
@@ -11,10 +11,36 @@ use Rattle.execution.specs.declared.ExecutionStatus.{ExecutionStatus}
 use Rattle.write_back.specs.declared.Executed.{Executed}
 use Rattle.write_back.specs.declared.PointerExecuted.{PointerExecuted}
 use Rattle.write_back.specs.Runs.{Runs, PointerRuns}
-use Rattle.owned.specs.Answers.{with_status}
+use Rattle.owned.specs.Answers.{with_status, refusal_from}
+use Rattle.outcome.specs.Outcome.{number_of}
+use Rattle.outcome.specs.declared.Refusal.{Refusal}
+use Rattle.outcome.specs.declared.Refusal.TheVariants.{Layout, Sizes, NotFormed, Undecodable, Fixed, Allocated, NotAllocated, Range, NoPage, NoChunk, NoJournal, BadMark, BadLength, Pointer, HookValue, Operand}
+use Rattle.execution.specs.declared.ExecutionStatus.TheVariants.{Refused}
 
 pub by_status : {y : Executed} (x : Executed) (s : ExecutionStatus) → y ≡ with_status s x → x.status ≡ s → y ≡ x
 by_status x s e q = e ∙ ap (λ (t : ExecutionStatus). with_status t x) (sym q)
+
+-- a refusal by its number
+refusal_back : (e : Refusal) → refusal_from (number_of e) ≡ e
+refusal_back Layout = refl
+refusal_back Sizes = refl
+refusal_back NotFormed = refl
+refusal_back Undecodable = refl
+refusal_back Fixed = refl
+refusal_back Allocated = refl
+refusal_back NotAllocated = refl
+refusal_back Range = refl
+refusal_back NoPage = refl
+refusal_back NoChunk = refl
+refusal_back NoJournal = refl
+refusal_back BadMark = refl
+refusal_back BadLength = refl
+refusal_back Pointer = refl
+refusal_back HookValue = refl
+refusal_back Operand = refl
+
+pub by_number : {y : Executed} (x : Executed) (e : Refusal) {n : ℕ} → n ≡ number_of e → y ≡ with_status (Refused (refusal_from n)) x → x.status ≡ Refused e → y ≡ x
+by_number x e q w s = by_status x (Refused e) (w ∙ ap (λ (t : Refusal). with_status (Refused t) x) (ap refusal_from q ∙ refusal_back e)) s
 
 -- the same instruction, frame and answer
 same_call : {A : Type 0} (R : Call → Frame → A → Type 0) {c d : Call} {f g : Frame} {y x : A} → c ≡ d → f ≡ g → y ≡ x → R c f x → R d g y

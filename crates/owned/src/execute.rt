@@ -24,6 +24,7 @@ use word::Word;
 use write_back::Executed;
 
 // How an instruction ended: the values of `kind`.
+// Stays: numbers, and not an enum: the C interface.
 pub const RUNNING: u32 = 0;
 
 pub const SUSPENDED: u32 = 1;
@@ -33,6 +34,7 @@ pub const PANICKED: u32 = 2;
 pub const REFUSED: u32 = 3;
 
 // What an instruction returns beside its registers: how it ended, and the frame.
+// Stays: the C interface.
 #[repr(C)]
 #[derive(Clone, Copy)]
 pub struct Ran {
@@ -48,6 +50,7 @@ pub struct Ran {
 }
 
 // What a pointer load returns: beside that, how many bytes of the pointer's range lead the word. A panic or a refusal has none.
+// Stays: the C interface.
 #[repr(C)]
 #[derive(Clone, Copy)]
 pub struct PointerRan {
@@ -92,7 +95,7 @@ fn report(run: Executed) -> Ran
         ExecutionStatus::Running => ended(RUNNING, 0, run),
         ExecutionStatus::SuspendedOnHook(value) => ended(SUSPENDED, value, run),
         ExecutionStatus::Panicked => ended(PANICKED, 0, run),
-        ExecutionStatus::Refused(number) => ended(REFUSED, number, run),
+        ExecutionStatus::Refused(refusal) => ended(REFUSED, u32::from(refusal), run),
     }
 }
 

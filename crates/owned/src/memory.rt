@@ -9,19 +9,17 @@ ghost use Rattle.formed.specs.WellFormed.{WellFormed};
 ghost use Rattle.view.specs.View.{view_of};
 ghost use Rattle.view.specs.Steps.{run, padded};
 ghost use Rattle.view.specs.Checks.{on_memory, partial_checks};
-ghost use Rattle.reads.specs.Calls.{word_and_count, partial_outcome, ReadDoes};
+ghost use Rattle.reads.specs.Calls.{ReadDoes};
 ghost use Rattle.view.specs.Calls.{Call, Value, nothing, answer_of, comparison_of, CallDoes, OpenDoes};
 ghost use Rattle.page_ids.specs.Decode.{layout_from};
 ghost use Rattle.opening.specs.Opening.{setting_from};
 ghost use Rattle.abi.specs.Interface.{Gives, chunk_answer};
-ghost use Rattle.owned.specs.Answers.{compared_outcome};
+ghost use Rattle.owned.specs.Answers.{word_and_count, partial_outcome, compared_outcome};
 
-use abi::answers;
 use abi::status::UNFIT;
-use compare::Comparison;
 use opening::Capacity;
+use outcome::Refusal;
 use page_ids::{Address, PageId};
-use reads::{Marks, PartialRead};
 use store::head;
 use word::Word;
 
@@ -73,6 +71,26 @@ pub fn own_open(
 
 // ---- reads
 
+// A word of the bytes of a range, and how many they are: these lead it, and zeros follow. Both are 0 where the read is refused.
+// Stays: the C interface.
+#[repr(C)]
+#[derive(Clone, Copy)]
+pub struct PartialRead {
+    pub refusal: u32,
+    pub word: Word,
+    pub bytes_read: u32,
+}
+
+// The lengths of the journals: what a rollback goes back to. Both are 0 where the call is refused.
+// Stays: the C interface.
+#[repr(C)]
+#[derive(Clone, Copy)]
+pub struct Marks {
+    pub refusal: u32,
+    pub heap: u32,
+    pub aux: u32,
+}
+
 // A word in one piece that a hint knows is read here. All else is behind one call.
 pub fn own_read_u256(
     bytes: &[u8],
@@ -87,7 +105,7 @@ pub fn own_read_u256(
 {
     let s = hints::in_one_piece(keys, order, words, PageId(page), Address(address));
     if s >= words[head::CHUNKS] as usize {
-        let read = reads::on_formed::read_u256(
+        let word = reads::on_formed::read_u256(
             bytes,
             keys,
             order,
@@ -96,7 +114,6 @@ pub fn own_read_u256(
             Address(address),
         );
         // taken apart, so that the answer of this path is not the memory in which the other one makes its own
-        let word = read.word;
         let limbs = word.limbs;
         return Word { limbs: limbs };
     }
@@ -115,7 +132,7 @@ pub fn own_read_u256_partially(
     requires { WellFormed (mem bytes.now keys.now order.now words.now) }
     ensures { let m = mem bytes.now keys.now order.now words.now in ReadDoes (on_memory m (partial_checks start end) (big_endian (padded (run (view_of m) page start (end - start))), end - start)) (partial_outcome result) (word_and_count result) (0, 0) }
 {
-    reads::on_formed::read_u256_partially(
+    let read = reads::on_formed::read_u256_partially(
         bytes,
         keys,
         order,
@@ -123,7 +140,19 @@ pub fn own_read_u256_partially(
         PageId(page),
         Address(start),
         Address(end),
-    )
+    );
+    match read {
+        Ok(read) => PartialRead {
+            refusal: 0,
+            word: read.word,
+            bytes_read: read.bytes_read,
+        },
+        Err(refusal) => PartialRead {
+            refusal: u32::from(refusal),
+            word: execution::no_word(),
+            bytes_read: 0,
+        },
+    }
 }
 
 // An output of any other length than the range has is refused with 8.
@@ -163,30 +192,26 @@ pub fn own_read_byte(
     requires { WellFormed (mem bytes.now keys.now order.now words.now) }
     ensures { let m = mem bytes.now keys.now order.now words.now in CallDoes m (Call.ReadByte page address) (done (Value.number result)) m }
 {
-    let read = reads::on_formed::read_byte(
-        bytes,
-        keys,
-        order,
-        words,
-        PageId(page),
-        Address(address),
-    );
-    read.byte
+    reads::on_formed::read_byte(bytes, keys, order, words, PageId(page), Address(address))
 }
 
 pub fn own_dynamic_len(bytes: &[u8], keys: &[u64], order: &[u32], words: &[u64]) -> u32
     requires { WellFormed (mem bytes.now keys.now order.now words.now) }
     ensures { let m = mem bytes.now keys.now order.now words.now in CallDoes m Call.DynamicLength (done (Value.number result)) m }
 {
-    let read = reads::on_formed::dynamic_len(bytes, keys, order, words);
-    read.length
+    reads::on_formed::dynamic_len(bytes, keys, order, words)
 }
 
 pub fn own_snapshot(bytes: &[u8], keys: &[u64], order: &[u32], words: &[u64]) -> Marks
     requires { WellFormed (mem bytes.now keys.now order.now words.now) }
     ensures { let m = mem bytes.now keys.now order.now words.now in CallDoes m Call.Snapshot (answered result.refusal (Value.lengths result.heap result.aux)) m }
 {
-    reads::on_formed::snapshot(bytes, keys, order, words)
+    let marks = reads::on_formed::snapshot(bytes, keys, order, words);
+    Marks {
+        refusal: 0,
+        heap: marks.heap,
+        aux: marks.aux,
+    }
 }
 
 // Copies a chunk, held or not.
@@ -206,23 +231,22 @@ pub fn own_chunk<'a>(
     if output.len() != CHUNK_BYTES {
         return UNFIT;
     }
-    let refusal = outcome::status(reads::on_formed::chunk_check(
-        bytes,
-        keys,
-        order,
-        words,
-        PageId(page),
-        number,
-        block,
-    ));
-    if refusal != 0 {
-        return refusal;
+    match reads::on_formed::chunk_check(bytes, keys, order, words, PageId(page), number, block) {
+        Ok(()) => {
+            let chunk = read_steps::chunk_of(
+                bytes,
+                keys,
+                order,
+                words,
+                PageId(page),
+                number,
+                block,
+            );
+            output.copy_from_slice(chunk);
+            0
+        }
+        Err(refusal) => u32::from(refusal),
     }
-    answers::copy(
-        output,
-        read_steps::chunk_of(bytes, keys, order, words, PageId(page), number, block),
-    );
-    0
 }
 
 // ---- writes and allocation
@@ -255,14 +279,18 @@ pub fn own_write_u256(
         }
         let word = frames::word_of(limb0, limb1, limb2, limb3);
         let t = s + ((address.0 % 256 + 31) / 256) as usize;
-        return word_steps::write_found(bytes, keys, order, words, page, address, s, t, word);
+        return outcome::status(word_steps::write_found(
+            bytes, keys, order, words, page, address, s, t, word,
+        ));
     }
     let word = frames::word_of(limb0, limb1, limb2, limb3);
     // no hint knows the one chunk of such a word, so its page is searched for at once
     if address.0 % 256 <= 224 {
-        return write_steps::write_searched(bytes, keys, order, words, page, address, word);
+        return outcome::status(write_steps::write_searched(
+            bytes, keys, order, words, page, address, word,
+        ));
     }
-    write_steps::write_word(bytes, keys, order, words, page, address, word)
+    outcome::status(write_steps::write_word(bytes, keys, order, words, page, address, word))
 }
 
 pub fn own_write_bytes(
@@ -399,6 +427,7 @@ pub fn own_delete_history(bytes: &[u8], keys: &[u64], order: &[u32], words: &mut
 // ---- comparison
 
 // Whether two memories are equal, or a refusal.
+// Stays: the C interface.
 #[repr(C)]
 #[derive(Clone, Copy)]
 pub struct Compared {
@@ -406,22 +435,14 @@ pub struct Compared {
     pub equal: bool,
 }
 
-fn verdict(comparison: Comparison) -> Compared
-    requires { comparison_outcome comparison ≡ refused 0 → ⊥ }
+fn verdict(comparison: Result<bool, Refusal>) -> Compared
     ensures result_value { compared_outcome result ≡ comparison_outcome comparison }
     ensures equal_value { (result.refusal ≡ 0 → ⊥) → result.equal ≡ false }
 {
     match comparison {
-        Comparison::Equal => Compared {
-            refusal: 0,
-            equal: true,
-        },
-        Comparison::Different => Compared {
-            refusal: 0,
-            equal: false,
-        },
-        Comparison::Refused(number) => Compared {
-            refusal: number,
+        Ok(equal) => Compared { refusal: 0, equal },
+        Err(refusal) => Compared {
+            refusal: u32::from(refusal),
             equal: false,
         },
     }

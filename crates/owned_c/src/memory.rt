@@ -8,15 +8,14 @@ ghost use Rattle.formed.specs.WellFormed.{WellFormed};
 ghost use Rattle.view.specs.View.{view_of};
 ghost use Rattle.view.specs.Steps.{run, padded};
 ghost use Rattle.view.specs.Checks.{on_memory, partial_checks};
-ghost use Rattle.reads.specs.Calls.{word_and_count, partial_outcome, ReadDoes};
+ghost use Rattle.reads.specs.Calls.{ReadDoes};
 ghost use Rattle.view.specs.Calls.{Call, Value, nothing, answer_of, comparison_of, CallDoes, OpenDoes};
 ghost use Rattle.page_ids.specs.Decode.{layout_from};
 ghost use Rattle.opening.specs.Opening.{setting_from};
 ghost use Rattle.abi.specs.Interface.{Gives, chunk_answer};
-ghost use Rattle.owned.specs.Answers.{compared_outcome};
+ghost use Rattle.owned.specs.Answers.{word_and_count, partial_outcome, compared_outcome};
 
-use owned::memory::Compared;
-use reads::{Marks, PartialRead};
+use owned::memory::{Compared, Marks, PartialRead};
 use word::Word;
 
 #[unsafe(no_mangle)]

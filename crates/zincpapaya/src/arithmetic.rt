@@ -58,7 +58,7 @@ pub fn zp_code_page_from_base(base: u32, out: &mut [u64]) -> u32
     ensures { Gives 1 (done base) one result out.old out.new }
 {
     let page = page_ids::code_page_from_base(BasePage(base));
-    answers::give_number(out, 0, frames::wide(page.0))
+    answers::give_page(out, Ok(page))
 }
 
 pub fn zp_base_page_from_heap(heap: u32, out: &mut [u64]) -> u32
@@ -107,7 +107,7 @@ pub fn zp_fat_pointer_into_u256(
         start: start,
         length: length,
     };
-    answers::give_word(out, 0, fat_pointer::into_u256(pointer))
+    answers::give_word(out, Ok(fat_pointer::into_u256(pointer)))
 }
 
 // ---- gas
@@ -117,12 +117,9 @@ pub fn zp_use_gas(gas: u32, amount: u32, out: &mut [u64]) -> u32
     ensures { Gives 2 (done (gas_numbers (used gas amount))) as_they_are result out.old out.new }
 {
     let gas = state::use_gas(gas, amount);
-    answers::give_pair(
-        out,
-        0,
-        frames::wide(gas.left),
-        frames::wide(frames::bit(gas.paid)),
-    )
+    let left = frames::wide(gas.left);
+    let paid = frames::wide(frames::bit(gas.paid));
+    answers::give(out, Ok([left, paid]))
 }
 
 // The growth of one area is paid from the frame's gas, as instructions do it; `out` is 1 where it was, else 0.
@@ -135,7 +132,7 @@ pub fn zp_grow_heap(frame: &mut [u32], aux: bool, new_bound: u32, out: &mut [u64
     let before = frames::frame_of(frame);
     let step = state::grow_frame(before, frames::area_of(aux), new_bound);
     frames::put_growth(frame, step.frame);
-    answers::give_number(out, 0, frames::wide(frames::bit(step.paid)))
+    answers::give(out, Ok([frames::wide(frames::bit(step.paid))]))
 }
 
 // What loads at these addresses of one area, one after another, spend of the gas, which bound they reach, and where they end.

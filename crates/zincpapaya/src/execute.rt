@@ -10,6 +10,7 @@ ghost use Rattle.abi.specs.Executing.{hook_from, fit, Executes, PointerExecutes}
 use abi::executions;
 use abi::status::UNFIT;
 use instructions::on_formed;
+use outcome::Refusal;
 
 // Reads the word at the operand, in the page of an area, and pays for the area's growth.
 pub fn zp_load(
@@ -31,7 +32,7 @@ pub fn zp_load(
         return UNFIT;
     }
     if !formed::well_formed(bytes, keys, order, words) {
-        return 3;
+        return u32::from(Refusal::NotFormed);
     }
     let before = frames::frame_of(frame);
     let area = frames::area_of(aux);
@@ -69,7 +70,7 @@ pub fn zp_store(
         return UNFIT;
     }
     if !formed::well_formed(bytes, keys, order, words) {
-        return 3;
+        return u32::from(Refusal::NotFormed);
     }
     let before = frames::frame_of(frame);
     let area = frames::area_of(aux);
@@ -105,7 +106,7 @@ pub fn zp_load_pointer(
         return UNFIT;
     }
     if !formed::well_formed(bytes, keys, order, words) {
-        return 3;
+        return u32::from(Refusal::NotFormed);
     }
     let before = frames::frame_of(frame);
     let places = registers::load_places(source, dst0, dst1, increment);
@@ -132,7 +133,7 @@ pub fn zp_load_static(
         return UNFIT;
     }
     if !formed::well_formed(bytes, keys, order, words) {
-        return 3;
+        return u32::from(Refusal::NotFormed);
     }
     let before = frames::frame_of(frame);
     let places = registers::load_places(source, dst0, dst1, increment);
@@ -161,7 +162,7 @@ pub fn zp_store_static(
         return UNFIT;
     }
     if !formed::well_formed(bytes, keys, order, words) {
-        return 3;
+        return u32::from(Refusal::NotFormed);
     }
     let before = frames::frame_of(frame);
     let places = registers::store_places(source, value, dst0, dst1, increment);

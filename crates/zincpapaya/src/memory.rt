@@ -130,7 +130,7 @@ pub fn zp_read_byte(
     ensures { let m = mem bytes.now keys.now order.now words.now in Gives 1 (answer_of m (Call.ReadByte page address)) number_in result out.old out.new }
 {
     let read = reads::read_byte(bytes, keys, order, words, PageId(page), Address(address));
-    answers::give_number(out, read.map(|byte| u64::from(byte)))
+    answers::give_byte(out, read)
 }
 
 pub fn zp_dynamic_len(
@@ -143,7 +143,7 @@ pub fn zp_dynamic_len(
     ensures { let m = mem bytes.now keys.now order.now words.now in Gives 1 (answer_of m Call.DynamicLength) number_in result out.old out.new }
 {
     let read = reads::dynamic_len(bytes, keys, order, words);
-    answers::give_number(out, read.map(|length| u64::from(length)))
+    answers::give_length(out, read)
 }
 
 pub fn zp_snapshot(bytes: &[u8], keys: &[u64], order: &[u32], words: &[u64], out: &mut [u64]) -> u32
@@ -168,23 +168,22 @@ pub fn zp_chunk<'a>(
     if output.len() != CHUNK_BYTES {
         return UNFIT;
     }
-    let refusal = outcome::status(reads::chunk_check(
-        bytes,
-        keys,
-        order,
-        words,
-        PageId(page),
-        number,
-        block,
-    ));
-    if refusal != 0 {
-        return refusal;
+    match reads::chunk_check(bytes, keys, order, words, PageId(page), number, block) {
+        Ok(()) => {
+            let chunk = read_steps::chunk_of(
+                bytes,
+                keys,
+                order,
+                words,
+                PageId(page),
+                number,
+                block,
+            );
+            output.copy_from_slice(chunk);
+            0
+        }
+        Err(refusal) => u32::from(refusal),
     }
-    answers::copy(
-        output,
-        read_steps::chunk_of(bytes, keys, order, words, PageId(page), number, block),
-    );
-    0
 }
 
 // ---- writes and allocation

@@ -1,14 +1,13 @@
-use Rattle.abi.proofs.Outputs.{gives_unfit, gives_refused, gives_value}
-use Rattle.abi.proofs.Lists.{partial_put}
+use mathlib.Core.Path.{sym, ap, ◌∙◌}
+use Rattle.abi.specs.Interface.{partial_at}
+use Rattle.reads.specs.Calls.{partial_outcome}
+use Rattle.outcome.specs.Outcome.{done}
+use Rattle.abi.proofs.Lists.{partial_told}
+use Rattle.abi.proofs.Outputs.{gives_as}
 use Rattle.abi.proofs.answers.give_partial.Goals as goal
 
-pub returns-then-refusal-ne0 : goal.returns-then-refusal-ne0
-returns-then-refusal-ne0 c =
-    gives_refused _ _ c.if-out-ne5.false c.if-refusal-ne0.true
+pub returns-in-Ok : goal.returns-in-Ok
+returns-in-Ok c = gives_as partial_at c.give.ensures (ap done (partial_told c.in-Ok.read.word.limbs c.wide-count.ensures) ∙ sym (ap partial_outcome c.in-Ok.is))
 
-pub returns : goal.returns
-returns c =
-    gives_value c.if-out-ne5.false c.if-refusal-ne0.false (partial_put c.args.word.limbs c.args.out.now c.if-out-ne5.false c.put_word.ensures c.wide.ensures)
-
-pub returns-then-out-ne5 : goal.returns-then-out-ne5
-returns-then-out-ne5 c = gives_unfit c.if-out-ne5.true
+pub returns-in-Err : goal.returns-in-Err
+returns-in-Err c = gives_as partial_at c.give-in-Err.ensures (sym (ap partial_outcome c.in-Err.is))

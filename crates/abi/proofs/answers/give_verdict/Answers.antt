@@ -1,18 +1,13 @@
-use mathlib.Core.Path.{refl, ap, ◌∙◌}
-use Rattle.outcome.specs.Outcome.{refused}
-use Rattle.compare.specs.Verdict.{comparison_outcome}
+use mathlib.Core.Path.{sym, ap, ◌∙◌}
 use Rattle.abi.specs.Interface.{verdict_in}
-use Rattle.abi.proofs.Outputs.{refusal_given, value_given}
+use Rattle.compare.specs.Verdict.{comparison_outcome}
+use Rattle.outcome.specs.Outcome.{done}
+use Rattle.abi.proofs.Lists.{verdict_told}
+use Rattle.abi.proofs.Outputs.{gives_as}
 use Rattle.abi.proofs.answers.give_verdict.Goals as goal
 
-pub returns-in-Equal : goal.returns-in-Equal
-returns-in-Equal c =
-    value_given verdict_in (ap comparison_outcome c.in-Equal.is) refl c.give_number.ensures
+pub returns-in-Ok : goal.returns-in-Ok
+returns-in-Ok c = gives_as verdict_in c.give.ensures (ap done (verdict_told c.in-Ok.equal c.from.ensures) ∙ sym (ap comparison_outcome c.in-Ok.is))
 
-pub returns-in-Different : goal.returns-in-Different
-returns-in-Different c =
-    value_given verdict_in (ap comparison_outcome c.in-Different.is) refl c.give_number-in-Different.ensures
-
-pub returns-in-Refused : goal.returns-in-Refused
-returns-in-Refused c =
-    refusal_given verdict_in _ _ (λ z. c.requires (ap comparison_outcome c.in-Refused.is ∙ ap refused z)) (ap comparison_outcome c.in-Refused.is) c.give_number-in-Refused.ensures
+pub returns-in-Err : goal.returns-in-Err
+returns-in-Err c = gives_as verdict_in c.give-in-Err.ensures (sym (ap comparison_outcome c.in-Err.is))

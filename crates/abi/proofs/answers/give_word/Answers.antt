@@ -1,16 +1,11 @@
-use mathlib.Core.Path.{ap, ◌∙◌}
+use mathlib.Core.Path.{sym, ap}
 use Rattle.word.specs.Value.{value}
-use Rattle.abi.proofs.Outputs.{gives_unfit, gives_refused, gives_value}
-use Rattle.abi.proofs.Lists.{value_put}
+use Rattle.reads.specs.Calls.{word_outcome}
+use Rattle.abi.proofs.Outputs.{gives_as}
 use Rattle.abi.proofs.answers.give_word.Goals as goal
 
-pub returns-then-refusal-ne0 : goal.returns-then-refusal-ne0
-returns-then-refusal-ne0 c =
-    gives_refused _ _ c.if-out-ne4.false c.if-refusal-ne0.true
+pub returns-in-Ok : goal.returns-in-Ok
+returns-in-Ok c = gives_as value c.give.ensures (sym (ap word_outcome c.in-Ok.is))
 
-pub returns : goal.returns
-returns c =
-    gives_value c.if-out-ne4.false c.if-refusal-ne0.false (ap value c.put_word.ensures ∙ value_put c.args.word.limbs c.args.out.now c.if-out-ne4.false)
-
-pub returns-then-out-ne4 : goal.returns-then-out-ne4
-returns-then-out-ne4 c = gives_unfit c.if-out-ne4.true
+pub returns-in-Err : goal.returns-in-Err
+returns-in-Err c = gives_as value c.give-in-Err.ensures (sym (ap word_outcome c.in-Err.is))

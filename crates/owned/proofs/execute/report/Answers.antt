@@ -1,4 +1,4 @@
-use Rattle.owned.proofs.Runs.{by_status}
+use Rattle.owned.proofs.Runs.{by_status, by_number}
 use Rattle.owned.proofs.execute.report.Goals as goal
 
 pub returns-in-Running : goal.returns-in-Running
@@ -11,4 +11,4 @@ pub returns-in-Panicked : goal.returns-in-Panicked
 returns-in-Panicked c = by_status _ _ c.ended-in-Panicked.ensures c.in-Panicked.is
 
 pub returns-in-Refused : goal.returns-in-Refused
-returns-in-Refused c = by_status _ _ c.ended-in-Refused.ensures c.in-Refused.is
+returns-in-Refused c = by_number _ _ c.from.ensures c.ended-in-Refused.ensures c.in-Refused.is

@@ -1,8 +1,6 @@
-use Rattle.store.specs.Mem.{mem}
-use Rattle.view.specs.Calls.{Call}
 use Rattle.abi.proofs.Statuses.{call_status}
 use Rattle.owned.proofs.memory.own_allocate_with_content_at.Goals as goal
 
 pub returns : goal.returns
 returns c =
-    call_status (mem c.args.bytes.now c.args.keys.now c.args.order.now c.args.words.now) (Call.Allocate c.args.page c.args.content.now) c.allocate_with_content_at.result c.status.result c.status.ensures c.allocate_with_content_at.ensures
+    call_status c.allocate_with_content_at.result c.status.ensures c.allocate_with_content_at.ensures

@@ -1,13 +1,9 @@
 use mathlib.Core.Path.{ap}
 use Rattle.page_ids.specs.declared.Layout.{Layout}
 use Rattle.opening.specs.Opening.{setting_from}
-use Rattle.store.specs.Mem.{mem}
 use Rattle.abi.proofs.Statuses.{open_status}
 use Rattle.owned.proofs.memory.own_open.Goals as goal
 
 pub returns : goal.returns
 returns c =
-    open_status (mem c.args.bytes.now c.args.keys.now c.args.order.now c.args.words.now) _ _ c.args.calldata.now c.open.result c.status.result (ap (λ (l : Layout). setting_from l c.args.chunks c.args.pages c.args.journal_words) c.layout_of-layout.ensures) c.status.ensures c.open.ensures
-
-pub layout_of-layout-requires : goal.layout_of-layout-requires
-layout_of-layout-requires c = tt
+    open_status c.args.calldata.now c.«open».result (ap (λ (l : Layout). setting_from l c.args.chunks c.args.pages c.args.journal_words) c.layout_of-layout.ensures) c.status.ensures c.«open».ensures

@@ -1,11 +1,9 @@
-use mathlib.Core.Path.{refl, ap, ◌∙◌}
+use mathlib.Core.Path.{ap, ◌∙◌}
 use native.Mathlib.Omega.{arith}
-use Rattle.word.specs.Value.{value, big_endian}
+use Rattle.word.specs.Value.{big_endian}
 use Rattle.store.specs.Mem.{mem}
 use Rattle.formed.proofs.Hints.{find_asked}
-use Rattle.view.specs.Calls.{ReadWord, number}
-use Rattle.reads.proofs.Calls.{word_call}
-use Rattle.owned.proofs.Answers.{never_refused, word_does}
+use Rattle.owned.proofs.Answers.{word_does}
 use Rattle.owned.proofs.Words.{slot_inside, word_found}
 use Rattle.owned.proofs.memory.own_read_u256.Goals as goal
 
@@ -13,14 +11,9 @@ pub in_one_piece-s-requires : goal.in_one_piece-s-requires
 in_one_piece-s-requires c =
     find_asked (mem c.args.bytes.now c.args.keys.now c.args.order.now c.args.words.now) c.requires
 
-pub read_u256-read-requires : goal.read_u256-read-requires
-read_u256-read-requires c =
-    c.requires
-
 pub returns-then-s-words : goal.returns-then-s-words
 returns-then-s-words c =
-    let m = mem c.args.bytes.now c.args.keys.now c.args.order.now c.args.words.now in
-    never_refused number m c.requires (ReadWord c.args.page c.args.address) refl c.read_u256-read.result.refusal (value c.read_u256-read.result.word.limbs) (word_call m c.args.page c.args.address _ c.read_u256-read.ensures.answer)
+    word_does (mem c.args.bytes.now c.args.keys.now c.args.order.now c.args.words.now) c.requires c.args.page c.args.address c.read_u256-word.ensures
 
 pub word_at-requires : goal.word_at-requires
 word_at-requires c =
@@ -29,5 +22,5 @@ word_at-requires c =
 pub returns : goal.returns
 returns c =
     let m = mem c.args.bytes.now c.args.keys.now c.args.order.now c.args.words.now in
-    word_does m c.requires c.args.page c.args.address _
+    word_does m c.requires c.args.page c.args.address
     (c.from_big_endian.ensures ∙ ap big_endian (c.word_at.ensures ∙ word_found m c.requires c.args.page c.args.address c.in_one_piece-s.result (omega (arith, c.ranges.address)) c.if-s-words.false (c.in_one_piece-s.ensures c.if-s-words.false)))

@@ -2,6 +2,7 @@ use native.Mathlib.Omega.{arith}
 use Rattle.word.specs.Value.{value}
 use Rattle.store.specs.Mem.{mem}
 use Rattle.formed.proofs.Hints.{find_asked}
+use Rattle.abi.proofs.Statuses.{word_status}
 use Rattle.owned.proofs.Answers.{written_as}
 use Rattle.owned.proofs.Words.{slot_inside, piece_found, piece_does, word_wide}
 use Rattle.owned.proofs.memory.own_write_u256.Goals as goal
@@ -33,12 +34,12 @@ write_found-requires c =
 
 pub returns-then-s-words : goal.returns-then-s-words
 returns-then-s-words c =
-    written_as c.args.page c.args.address c.word_of-word.ensures c.write_found.ensures
+    word_status c.args.page c.args.address c.write_found.result c.word_of-word.ensures c.status.ensures c.write_found.ensures
 
 pub returns-then-address-le224 : goal.returns-then-address-le224
 returns-then-address-le224 c =
-    written_as c.args.page c.args.address c.word_of-word-2.ensures c.write_searched.ensures
+    word_status c.args.page c.args.address c.write_searched.result c.word_of-word-2.ensures c.status-then-address-le224.ensures c.write_searched.ensures
 
 pub returns : goal.returns
 returns c =
-    written_as c.args.page c.args.address c.word_of-word-2.ensures c.write_word.ensures
+    word_status c.args.page c.args.address c.write_word.result c.word_of-word-2.ensures c.status-2.ensures c.write_word.ensures

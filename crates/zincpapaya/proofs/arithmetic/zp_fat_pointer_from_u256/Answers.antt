@@ -7,12 +7,3 @@ use Rattle.zincpapaya.proofs.arithmetic.zp_fat_pointer_from_u256.Goals as goal
 pub returns : goal.returns
 returns c =
     gives_same c.give_pointer.ensures (ap done (c.from_u256.ensures ∙ ap pointer_of c.word_of-word.ensures))
-
-pub word_of-word-requires : goal.word_of-word-requires
-word_of-word-requires c = tt
-
-pub from_u256-requires : goal.from_u256-requires
-from_u256-requires c = tt
-
-pub give_pointer-requires : goal.give_pointer-requires
-give_pointer-requires c = tt

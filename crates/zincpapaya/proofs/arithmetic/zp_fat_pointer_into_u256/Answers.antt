@@ -6,9 +6,3 @@ use Rattle.zincpapaya.proofs.arithmetic.zp_fat_pointer_into_u256.Goals as goal
 pub returns : goal.returns
 returns c =
     gives_same c.give_word.ensures (ap done c.into_u256.ensures)
-
-pub into_u256-requires : goal.into_u256-requires
-into_u256-requires c = tt
-
-pub give_word-requires : goal.give_word-requires
-give_word-requires c = tt

@@ -18,22 +18,4 @@ put_growth-requires c =
 
 pub returns : goal.returns
 returns c =
-    grows (passed c.lengths_fit.ensures c.if-not-lengths_fit.false) (c.grow_frame-step.ensures ∙ (λ i. frame_grown (c.frame_of-before.ensures i) (c.area_of.ensures i) c.args.new_bound)) c.put_growth.ensures c.give_number.ensures (c.wide.ensures ∙ c.bit.ensures)
-
-pub lengths_fit-requires : goal.lengths_fit-requires
-lengths_fit-requires c = tt
-
-pub area_of-requires : goal.area_of-requires
-area_of-requires c = tt
-
-pub grow_frame-step-requires : goal.grow_frame-step-requires
-grow_frame-step-requires c = tt
-
-pub bit-requires : goal.bit-requires
-bit-requires c = tt
-
-pub wide-requires : goal.wide-requires
-wide-requires c = tt
-
-pub give_number-requires : goal.give_number-requires
-give_number-requires c = tt
+    grows (passed c.lengths_fit.ensures c.if-not-lengths_fit.false) (c.grow_frame-step.ensures ∙ (λ i. frame_grown (c.frame_of-before.ensures i) (c.area_of.ensures i) c.args.new_bound)) c.put_growth.ensures c.give.ensures (c.wide.ensures ∙ c.bit.ensures)

@@ -9,7 +9,7 @@ returns-then-not-lengths_fit c =
 
 pub returns-then-not-well_formed : goal.returns-then-not-well_formed
 returns-then-not-well_formed c =
-    ill (passed c.lengths_fit.ensures c.if-not-lengths_fit.false) (failed c.well_formed-2.ensures c.if-not-well_formed.true)
+    ill c.from.ensures (passed c.lengths_fit.ensures c.if-not-lengths_fit.false) (failed c.well_formed-2.ensures c.if-not-well_formed.true)
 
 pub frame_of-before-requires : goal.frame_of-before-requires
 frame_of-before-requires c =

@@ -14,7 +14,7 @@ pub returns-then-out-ne1 : goal.returns-then-out-ne1
 returns-then-out-ne1 c = record { executes = unfit (and_false_right (fit c.args.frame.now c.args.registers.now 65) _ (ne_eqb (length c.args.out.now) 1 c.if-out-ne1.true)); out_unchanged = λ _. refl }
 
 pub returns-then-not-well_formed : goal.returns-then-not-well_formed
-returns-then-not-well_formed c = record { executes = ill (and_both _ _ (passed c.lengths_fit.ensures c.if-not-lengths_fit.false) (eq-eqb (length c.args.out.now) 1 c.if-out-ne1.false)) (failed c.well_formed-2.ensures c.if-not-well_formed.true); out_unchanged = λ _. refl }
+returns-then-not-well_formed c = record { executes = ill c.from.ensures (and_both _ _ (passed c.lengths_fit.ensures c.if-not-lengths_fit.false) (eq-eqb (length c.args.out.now) 1 c.if-out-ne1.false)) (failed c.well_formed-2.ensures c.if-not-well_formed.true); out_unchanged = λ _. refl }
 
 pub frame_of-before-requires : goal.frame_of-before-requires
 frame_of-before-requires c =

@@ -1,8 +1,6 @@
-use Rattle.store.specs.Mem.{mem}
-use Rattle.view.specs.Calls.{Call}
 use Rattle.abi.proofs.Statuses.{call_status}
 use Rattle.zincpapaya.proofs.memory.zp_write_bytes.Goals as goal
 
 pub returns : goal.returns
 returns c =
-    call_status (mem c.args.bytes.now c.args.keys.now c.args.order.now c.args.words.now) (Call.WriteBytes c.args.page c.args.start c.args.src.now) c.write_bytes.result c.status.result c.status.ensures c.write_bytes.ensures
+    call_status c.write_bytes.result c.status.ensures c.write_bytes.ensures

@@ -1,0 +1,12 @@
+use mathlib.Core.Path.{sym, ap, ◌∙◌}
+use Rattle.abi.specs.Numbers.{one}
+use Rattle.reads.specs.Calls.{byte_outcome}
+use Rattle.outcome.specs.Outcome.{done}
+use Rattle.abi.proofs.Outputs.{gives_as}
+use Rattle.abi.proofs.answers.give_byte.Goals as goal
+
+pub returns-in-Ok : goal.returns-in-Ok
+returns-in-Ok c = gives_as one c.give.ensures (ap done c.from.ensures ∙ sym (ap byte_outcome c.in-Ok.is))
+
+pub returns-in-Err : goal.returns-in-Err
+returns-in-Err c = gives_as one c.give-in-Err.ensures (sym (ap byte_outcome c.in-Err.is))

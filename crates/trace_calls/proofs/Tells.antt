@@ -5,26 +5,19 @@ use mathlib.Core.List.{List}
 use Prim.Native.Nat.{ℕ, ◌-◌}
 use native.Mathlib.Omega.{arith}
 use lib.ListN.{take}
-use Rattle.outcome.specs.Outcome.{Outcome, mapped, answered}
+use Rattle.outcome.specs.Outcome.{Outcome}
 use Rattle.store.specs.Mem.{Mem}
 use Rattle.view.specs.View.{View, Setting}
 use Rattle.view.specs.Does.{Does}
-use Rattle.view.specs.Calls.{Value, number}
-use Rattle.reads.specs.Calls.{lengths_value}
+use Rattle.view.specs.Calls.{Value}
 use Rattle.std.specs.Prelude.{Option}
 use Rattle.trace.specs.declared.Counts.{Counts}
 use Rattle.trace.specs.Language.{Line, meaning}
-use Rattle.trace_text.specs.Text.{Reported, word, marks}
+use Rattle.trace_text.specs.Text.{Reported}
 use Rattle.trace_calls.specs.Trace.{reported, TraceTells}
 
 pub tells : {m m' : Mem} {o said : Outcome Value} {s : Setting} {v : View} → Does m o s v said m' → (t : Reported) → t ≡ reported said → (t ≡ reported o) × Does m o s v o m'
 tells d t e = (e ∙ ap reported d.answer, record { answer = refl; kept = d.kept; changed = d.changed })
-
-pub word_given : (n v : ℕ) → n ≡ 0 → word v ≡ reported (mapped number (answered n v))
-word_given n v e = rw e
-
-pub marks_given : (n h a : ℕ) → n ≡ 0 → marks h a ≡ reported (mapped lengths_value (answered n (h, a)))
-marks_given n h a e = rw e
 
 -- ---- lines
 pub trace_line : (r r' : Option Counts) (m m' : Mem) (t : Reported) (l l' : Line) → l ≡ l' → TraceTells r m l r' t m' → TraceTells r m l' r' t m'

@@ -48,7 +48,7 @@ fn ran(refusal: &'static str, status: ExecutionStatus) -> Result<(), Wrong> {
         ExecutionStatus::Running => 0,
         ExecutionStatus::SuspendedOnHook(_) => 1000,
         ExecutionStatus::Panicked => 2000,
-        ExecutionStatus::Refused(number) => u64::from(number),
+        ExecutionStatus::Refused(refusal) => u64::from(u32::from(refusal)),
     };
     same(refusal, 0, came)
 }

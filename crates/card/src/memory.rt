@@ -3,18 +3,19 @@ ghost use Rattle.std.specs.Prelude.{◌≤◌, length};
 
 use crate::report::{Wrong, same, same_word};
 use crate::samples;
-use outcome::Answer;
+use opening::Capacity;
+use outcome::Refusal;
 use page_ids::{Address, BasePage, Layout, PageId};
 use word::Word;
 
-// The counts of the opening: 8 chunks, 4 pages and 8 words of each journal.
-const CHUNKS: u32 = 8;
+// What the memory has room for.
+const CAPACITY: Capacity = Capacity {
+    chunks: 8,
+    pages: 4,
+    journal_words: 8,
+};
 
-const PAGES: u32 = 4;
-
-const ROOM: u32 = 8;
-
-// The lengths of the four buffers for these counts, as docs/BUFFERS.md states.
+// The lengths of the four buffers for this, as docs/BUFFERS.md states.
 const BYTES: usize = 2560;
 
 const KEYS: usize = 16;
@@ -45,8 +46,12 @@ pub struct Memory {
 }
 
 // A call must be carried out.
-fn carried_out(refusal: &'static str, answer: Answer) -> Result<(), Wrong> {
-    same(refusal, 0, u64::from(outcome::status(answer)))
+fn carried_out<T>(refusal: &'static str, answer: Result<T, Refusal>) -> Result<T, Wrong> {
+    answer.map_err(|came| Wrong::Number {
+        what: refusal,
+        expected: 0,
+        came: u64::from(u32::from(came)),
+    })
 }
 
 // How many bytes are not zero.
@@ -74,9 +79,7 @@ impl Memory {
             &mut self.order,
             &mut self.words,
             LAYOUT,
-            CHUNKS,
-            PAGES,
-            ROOM,
+            CAPACITY,
             b"",
         );
         carried_out("refusal of the opening", answer)
@@ -176,8 +179,8 @@ impl Memory {
             page,
             Address(address),
         );
-        same("refusal of a read", 0, u64::from(read.refusal))?;
-        same_word("word", address, expected, read.word)
+        let word = carried_out("refusal of a read", read)?;
+        same_word("word", address, expected, word)
     }
 
     // The first 2,048 bytes of a page must be zero. The output has ones before, so that zeros in it were read.
@@ -199,8 +202,8 @@ impl Memory {
 
     // A snapshot must find as many words in the heap's journal, and none in the aux heap's.
     pub fn has_history(&self, expected: u64) -> Result<(), Wrong> {
-        let marks = reads::snapshot(&self.bytes, &self.keys, &self.order, &self.words);
-        same("refusal of a snapshot", 0, u64::from(marks.refusal))?;
+        let read = reads::snapshot(&self.bytes, &self.keys, &self.order, &self.words);
+        let marks = carried_out("refusal of a snapshot", read)?;
         same("snapshot of the heap", expected, u64::from(marks.heap))?;
         same("snapshot of the aux heap", 0, u64::from(marks.aux))
     }

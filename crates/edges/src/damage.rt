@@ -3,9 +3,10 @@ use crate::call::{Call, PLACES};
 use crate::library::{Failure, THREE_DIGITS};
 use crate::memory::{Buffer, Memory};
 use crate::naive;
+use outcome::Refusal;
 use page_ids::{Address, PageId};
 
-const NOT_WELL_FORMED: Failure = Failure::Refused(3);
+const NOT_FORMED: Failure = Failure::Refused(Refusal::NotFormed);
 
 // The page that the calls are made on.
 const PAGE: u32 = 66;
@@ -114,12 +115,8 @@ impl Tally {
 fn judged(memory: &mut Memory, call: Call) -> Verdict {
     match memory.parts().word(PageId(PAGE), Address(0)) {
         Ok(_) if naive::shows(memory.parts()) => Verdict::Accepted,
-        Ok(_) => Verdict::Wrong,
-        Err(refusal) => match memory.call(call) {
-            Err(other) if refusal == NOT_WELL_FORMED && other == NOT_WELL_FORMED =>
-                Verdict::Refused,
-            _ => Verdict::Wrong,
-        },
+        Err(Refusal::NotFormed) if memory.call(call) == Err(NOT_FORMED) => Verdict::Refused,
+        _ => Verdict::Wrong,
     }
 }
 

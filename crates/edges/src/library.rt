@@ -1,10 +1,12 @@
-// The library's calls on a memory in its own parts of the buffers. No other file knows how the library answers.
+// The library's calls on a memory in its own parts of the buffers.
 ghost use Rattle.std.specs.Prelude.{◌≤◌};
 
 use crate::call::{Call, Change, Look, Opening};
 use crate::memory::{BYTES, CHUNK, KEYS, Lengths, Memory, ORDER, Parts, WORDS, narrow};
-use outcome::Answer;
+use opening::Capacity;
+use outcome::Refusal;
 use page_ids::{Address, PageId};
+use reads::Marks;
 use word::Word;
 
 // The most bytes that a call hands over, and what each of them is in calldata, in a write and in an allocation's contents.
@@ -25,7 +27,7 @@ pub const THREE_DIGITS: u64 = 1000;
 // Why a line has no value: the library refused its call, or an answer was wrong.
 #[derive(Clone, Copy, PartialEq, Eq)]
 pub enum Failure {
-    Refused(u32),
+    Refused(Refusal),
     // A looked-up part has a wrong length.
     WrongLength,
     // A memory with a damaged element, of this place, was read or refused wrongly.
@@ -34,11 +36,17 @@ pub enum Failure {
     Changed,
 }
 
+impl From<Refusal> for Failure {
+    fn from(refusal: Refusal) -> Self {
+        Failure::Refused(refusal)
+    }
+}
+
 impl Failure {
     // The number of a refusal; no call is refused with the others.
     pub fn number(self) -> u32 {
         match self {
-            Failure::Refused(number) => number,
+            Failure::Refused(refusal) => u32::from(refusal),
             Failure::WrongLength => 97,
             Failure::WrongElement(_) => 98,
             Failure::Changed => 99,
@@ -54,62 +62,39 @@ impl Failure {
     }
 }
 
-// ---- the answers
-
-fn carried_out(answer: Answer) -> Result<(), Failure> {
-    match answer {
-        Answer::Done => Ok(()),
-        Answer::Refused(number) => Err(Failure::Refused(number)),
-    }
-}
-
-// A value that a call read, unless it was refused.
-fn read<T: Copy>(refusal: u32, value: T) -> Result<T, Failure> {
-    if refusal == 0 {
-        Ok(value)
-    } else {
-        Err(Failure::Refused(refusal))
-    }
-}
-
 // ---- calls that look
 
 impl<'a> Parts<'a> {
-    pub fn word(self, page: PageId, address: Address) -> Result<Word, Failure> {
-        let answer = reads::read_u256(self.bytes, self.keys, self.order, self.words, page, address);
-        read(answer.refusal, answer.word)
+    pub fn word(self, page: PageId, address: Address) -> Result<Word, Refusal> {
+        reads::read_u256(self.bytes, self.keys, self.order, self.words, page, address)
     }
 
-    pub fn byte(self, page: PageId, address: Address) -> Result<u8, Failure> {
-        let answer = reads::read_byte(self.bytes, self.keys, self.order, self.words, page, address);
-        read(answer.refusal, answer.byte)
+    pub fn byte(self, page: PageId, address: Address) -> Result<u8, Refusal> {
+        reads::read_byte(self.bytes, self.keys, self.order, self.words, page, address)
     }
 
-    fn partial(self, page: PageId, start: Address, end: Address) -> Result<Word, Failure> {
-        let answer = reads::read_u256_partially(
+    fn partial(self, page: PageId, start: Address, end: Address) -> Result<Word, Refusal> {
+        let read = reads::read_u256_partially(
             self.bytes, self.keys, self.order, self.words, page, start, end,
-        );
-        read(answer.refusal, answer.word)
+        )?;
+        Ok(read.word)
     }
 
     // The bytes of a range that must have RANGE bytes.
-    fn range(self, page: PageId, start: Address, end: Address) -> Result<[u8; RANGE], Failure> {
+    fn range(self, page: PageId, start: Address, end: Address) -> Result<[u8; RANGE], Refusal> {
         let mut out = [0; RANGE];
-        carried_out(reads::read_range_big_endian(
+        reads::read_range_big_endian(
             self.bytes, self.keys, self.order, self.words, page, start, end, &mut out,
-        ))?;
+        )?;
         Ok(out)
     }
 
-    pub fn dynamic_length(self) -> Result<u32, Failure> {
-        let answer = reads::dynamic_len(self.bytes, self.keys, self.order, self.words);
-        read(answer.refusal, answer.length)
+    pub fn dynamic_length(self) -> Result<u32, Refusal> {
+        reads::dynamic_len(self.bytes, self.keys, self.order, self.words)
     }
 
-    // The lengths of the heap's journal and of the aux heap's.
-    pub fn journals(self) -> Result<(u32, u32), Failure> {
-        let marks = reads::snapshot(self.bytes, self.keys, self.order, self.words);
-        read(marks.refusal, (marks.heap, marks.aux))
+    pub fn snapshot(self) -> Result<Marks, Refusal> {
+        reads::snapshot(self.bytes, self.keys, self.order, self.words)
     }
 
     // The bytes of a chunk, by a lookup with a block. The check beside it must say why the part is empty, where it is.
@@ -120,9 +105,9 @@ impl<'a> Parts<'a> {
         let part = reads::chunk(
             self.bytes, self.keys, self.order, self.words, page, number, block,
         );
-        match carried_out(check) {
+        match check {
             Ok(()) if part.len() == CHUNK => Ok(part),
-            Err(failure) if part.is_empty() => Err(failure),
+            Err(refusal) if part.is_empty() => Err(Failure::Refused(refusal)),
             _ => Err(Failure::WrongLength),
         }
     }
@@ -151,7 +136,7 @@ impl<'a> Parts<'a> {
             }
             Look::DynamicLength => Ok(u64::from(self.dynamic_length()?)),
             Look::Snapshot => {
-                let (heap, aux) = self.journals()?;
+                let Marks { heap, aux } = self.snapshot()?;
                 Ok(u64::from(heap) * THREE_DIGITS + u64::from(aux))
             }
             Look::Chunk {
@@ -191,7 +176,7 @@ fn changed(
     words: &mut [u64; WORDS],
     lengths: Lengths,
     change: Change,
-) -> Answer {
+) -> Result<(), Refusal> {
     let bytes = &mut bytes[..lengths.bytes];
     let keys = &mut keys[..lengths.keys];
     let order = &mut order[..lengths.order];
@@ -203,9 +188,11 @@ fn changed(
             order,
             words,
             opening.layout,
-            narrow(opening.chunks),
-            narrow(opening.pages),
-            narrow(opening.room),
+            Capacity {
+                chunks: narrow(opening.chunks),
+                pages: narrow(opening.pages),
+                journal_words: narrow(opening.room),
+            },
             &[CALLDATA; HANDED][..handed(opening.calldata)],
         ),
         Change::WriteWord {
@@ -233,19 +220,19 @@ fn changed(
 
 impl Memory {
     // Opens the memory anew or changes it. A refused opening leaves the lengths of the open memory.
-    fn change(&mut self, change: Change) -> Result<(), Failure> {
+    fn change(&mut self, change: Change) -> Result<(), Refusal> {
         let lengths = match change {
             Change::Open(opening) => Lengths::new(opening.chunks, opening.pages, opening.room),
             _ => self.lengths,
         };
-        carried_out(changed(
+        changed(
             &mut self.bytes,
             &mut self.keys,
             &mut self.order,
             &mut self.words,
             lengths,
             change,
-        ))?;
+        )?;
         self.lengths = lengths;
         Ok(())
     }

@@ -3,6 +3,7 @@ ghost use Rattle.std.specs.Prelude.{◌≤◌};
 
 use crate::memory::{CHUNK, Parts};
 use page_ids::{Address, PageId};
+use reads::Marks;
 
 // The key of chunk k of entry e is e times this number plus k plus 1.
 const CHUNK_NUMBERS: u64 = 33554432;
@@ -65,7 +66,7 @@ fn shows_byte(parts: Parts<'_>, page: u32, k: u32, bytes: &[u8]) -> bool
 
 // Whether what is read from the head is the head's.
 fn shows_head(parts: Parts<'_>) -> bool {
-    let (Ok(length), Ok((heap, aux))) = (parts.dynamic_length(), parts.journals()) else {
+    let (Ok(length), Ok(Marks { heap, aux })) = (parts.dynamic_length(), parts.snapshot()) else {
         return false;
     };
     let numbers = [

@@ -14,7 +14,7 @@ use std::io;
 // A line: the list with its gas and bound, the quote, and the loads of both areas. A refused quote has no loads beside it.
 fn line(rt: &impl Print, memory: &Memory, list: &[u32], gas: u32, bound: u32) -> io::Result<()> {
     let asked = Question { list, gas, bound };
-    match memory::quote(&asked) {
+    match state::quote::quote(list, gas, bound) {
         Ok(quoted) => {
             let heap = Beside::new(memory, asked, quoted, Area::Heap);
             let aux = Beside::new(memory, asked, quoted, Area::Aux);
@@ -27,7 +27,7 @@ fn line(rt: &impl Print, memory: &Memory, list: &[u32], gas: u32, bound: u32) ->
                 "{asked}=> spent {spent}, bound {bound}, position {position}; heap loads {heap}; aux loads {aux}"
             )
         }
-        Err(number) => println!(rt; "{asked}=> refused {number}"),
+        Err(refusal) => println!(rt; "{asked}=> {refusal}"),
     }
 }
 

@@ -1,8 +1,7 @@
-// A memory of 1 chunk, 1 page and no journal words, and the library's calls on it and on quotes.
-use crate::question::Question;
+// A memory of 1 chunk, 1 page and no journal words, and the library's calls on it.
+use opening::Capacity;
 use page_ids::{BasePage, Layout, PageId};
 use registers::LENGTH;
-use state::quote::{Quoted, RunEnd};
 use state::{Area, Frame};
 use word::Word;
 use write_back::Executed;
@@ -15,6 +14,12 @@ const LAYOUT: Layout = Layout {
     bootloader_aux: PageId(6),
     base: BasePage(64),
     stride: 8,
+};
+
+const CAPACITY: Capacity = Capacity {
+    chunks: 1,
+    pages: 1,
+    journal_words: 0,
 };
 
 // The registers of a load: its address, the word that it reads, and the address of the next word.
@@ -48,9 +53,7 @@ impl Memory {
             &mut memory.order,
             &mut memory.words,
             LAYOUT,
-            1,
-            1,
-            0,
+            CAPACITY,
             b"",
         );
         memory
@@ -73,13 +76,5 @@ impl Memory {
             area,
             registers::load_places(ADDRESS, WORD, NEXT, true),
         )
-    }
-}
-
-// The quote, or the number of its refusal.
-pub fn quote(asked: &Question) -> Result<RunEnd, u32> {
-    match state::quote::quote(asked.list, asked.gas, asked.bound) {
-        Quoted::Ended(end) => Ok(end),
-        Quoted::Refused(number) => Err(number),
     }
 }

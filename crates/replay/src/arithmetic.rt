@@ -1,6 +1,5 @@
 // The calls that take no memory: page ids, fat pointers, gas.
 use crate::call::PageFunction;
-use crate::library;
 use crate::numbers::Numbers;
 use fat_pointer::FatPointer;
 use page_ids::{BasePage, Layout, PageId};
@@ -8,26 +7,23 @@ use state::{Area, Frame};
 use word::Word;
 
 pub fn decode(layout: Layout, page: PageId) -> Numbers {
-    let decoded = library::decoded(page_ids::decode(layout, page));
+    let decoded = page_ids::decode(layout, page);
     Numbers::answer(decoded.map(|page| (page_ids::kind_number(page), page_ids::group_number(page))))
 }
 
 pub fn page_id(function: PageFunction, id: u32, stride: u32) -> Numbers {
-    Numbers::answer(match function {
-        PageFunction::HeapPageFromBase => {
-            library::page(page_ids::heap_page_from_base(BasePage(id)))
-        }
+    let base = BasePage(id);
+    match function {
+        PageFunction::HeapPageFromBase => Numbers::answer(page_ids::heap_page_from_base(base)),
         PageFunction::AuxHeapPageFromBase => {
-            library::page(page_ids::aux_heap_page_from_base(BasePage(id)))
+            Numbers::answer(page_ids::aux_heap_page_from_base(base))
         }
-        PageFunction::CodePageFromBase => Ok(page_ids::code_page_from_base(BasePage(id)).0),
+        PageFunction::CodePageFromBase => Numbers::from(page_ids::code_page_from_base(base)),
         PageFunction::BasePageFromHeap => {
-            library::base(page_ids::base_page_from_heap(PageId(id)))
+            Numbers::answer(page_ids::base_page_from_heap(PageId(id)))
         }
-        PageFunction::NextPageGroup => {
-            library::base(page_ids::next_page_group(BasePage(id), stride))
-        }
-    })
+        PageFunction::NextPageGroup => Numbers::answer(page_ids::next_page_group(base, stride)),
+    }
 }
 
 pub fn pointer(word: Word) -> Numbers {

@@ -20,7 +20,7 @@ fn status_number(status: ExecutionStatus) -> u64 {
         ExecutionStatus::Running => RUNNING,
         ExecutionStatus::SuspendedOnHook(_) => SUSPENDED,
         ExecutionStatus::Panicked => PANICKED,
-        ExecutionStatus::Refused(number) => u64::from(number),
+        ExecutionStatus::Refused(refusal) => u64::from(u32::from(refusal)),
     }
 }
 
@@ -73,7 +73,7 @@ pub fn with_own_registers(memory: &mut Memory, given: &Given) -> Numbers {
             u64::from(frame.heap_bound),
             u64::from(frame.aux_bound),
         ]),
-        ExecutionStatus::Refused(number) => Numbers::new(&[u64::from(number)]),
+        ExecutionStatus::Refused(refusal) => Numbers::from(refusal),
     }
 }
 

@@ -9,7 +9,6 @@ mod fields;
 mod input;
 mod instruction;
 mod kept;
-mod library;
 mod machine;
 mod memory;
 mod numbers;

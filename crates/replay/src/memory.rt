@@ -1,19 +1,21 @@
 // A memory in four buffers of its own, and the library's calls on it.
 use crate::call::Location;
+use crate::content;
 use crate::instruction::{Instruction, Op};
-use crate::library::Refusal;
-use crate::{content, library};
+use opening::Capacity;
+use outcome::Refusal;
 use page_ids::{Address, Layout, PageId};
+use reads::Marks;
 use registers::LENGTH;
 use word::Word;
 use write_back::Executed;
 
-// What a memory has room for: chunks, pages, and words of each journal.
-const CHUNKS: u32 = 96;
-
-const PAGES: u32 = 24;
-
-const JOURNAL_WORDS: u32 = 128;
+// What a memory has room for.
+const CAPACITY: Capacity = Capacity {
+    chunks: 96,
+    pages: 24,
+    journal_words: 128,
+};
 
 // The lengths of its buffers, by the rule of docs/BUFFERS.md.
 const BYTES: usize = 32768;
@@ -48,52 +50,50 @@ impl Memory {
     // ---- calls that change it
 
     pub fn open(&mut self, layout: Layout, calldata: &[u8]) -> Result<(), Refusal> {
-        library::done(opening::open(
+        opening::open(
             &mut self.bytes,
             &mut self.keys,
             &mut self.order,
             &mut self.words,
             layout,
-            CHUNKS,
-            PAGES,
-            JOURNAL_WORDS,
+            CAPACITY,
             calldata,
-        ))
+        )
     }
 
     pub fn allocate(&mut self, page: PageId) -> Result<(), Refusal> {
-        library::done(writes::allocate_at(
+        writes::allocate_at(
             &mut self.bytes,
             &mut self.keys,
             &mut self.order,
             &mut self.words,
             page,
-        ))
+        )
     }
 
     pub fn allocate_with_content(&mut self, page: PageId, content: &[u8]) -> Result<(), Refusal> {
-        library::done(writes::allocate_with_content_at(
+        writes::allocate_with_content_at(
             &mut self.bytes,
             &mut self.keys,
             &mut self.order,
             &mut self.words,
             page,
             content,
-        ))
+        )
     }
 
     pub fn deallocate(&mut self, page: PageId) -> Result<(), Refusal> {
-        library::done(freeing::deallocate(
+        freeing::deallocate(
             &mut self.bytes,
             &mut self.keys,
             &mut self.order,
             &mut self.words,
             page,
-        ))
+        )
     }
 
     pub fn write_word(&mut self, at: Location, word: Word) -> Result<(), Refusal> {
-        library::done(writes::write_u256(
+        writes::write_u256(
             &mut self.bytes,
             &mut self.keys,
             &mut self.order,
@@ -101,11 +101,11 @@ impl Memory {
             at.page,
             at.address,
             word,
-        ))
+        )
     }
 
     pub fn write_bytes(&mut self, start: Location, content: &[u8]) -> Result<(), Refusal> {
-        library::done(writes::write_bytes(
+        writes::write_bytes(
             &mut self.bytes,
             &mut self.keys,
             &mut self.order,
@@ -113,11 +113,11 @@ impl Memory {
             start.page,
             start.address,
             content,
-        ))
+        )
     }
 
     pub fn compact_to_window(&mut self, start: Location, length: u32) -> Result<(), Refusal> {
-        library::done(freeing::compact_to_window(
+        freeing::compact_to_window(
             &mut self.bytes,
             &mut self.keys,
             &mut self.order,
@@ -125,37 +125,32 @@ impl Memory {
             start.page,
             start.address,
             length,
-        ))
+        )
     }
 
     pub fn truncate(&mut self, length: u64) -> Result<(), Refusal> {
-        library::done(freeing::truncate_dynamic_to(
+        freeing::truncate_dynamic_to(
             &mut self.bytes,
             &mut self.keys,
             &mut self.order,
             &mut self.words,
             length,
-        ))
+        )
     }
 
     pub fn roll_back(&mut self, heap: u64, aux: u64) -> Result<(), Refusal> {
-        library::done(history::rollback(
+        history::rollback(
             &mut self.bytes,
             &self.keys,
             &self.order,
             &mut self.words,
             heap,
             aux,
-        ))
+        )
     }
 
     pub fn delete_history(&mut self) -> Result<(), Refusal> {
-        library::done(history::delete_history(
-            &self.bytes,
-            &self.keys,
-            &self.order,
-            &mut self.words,
-        ))
+        history::delete_history(&self.bytes, &self.keys, &self.order, &mut self.words)
     }
 
     // ---- instructions
@@ -235,18 +230,19 @@ impl Memory {
     // ---- calls that read it
 
     pub fn read_word(&self, at: Location) -> Result<Word, Refusal> {
-        library::word(reads::read_u256(
+        reads::read_u256(
             &self.bytes,
             &self.keys,
             &self.order,
             &self.words,
             at.page,
             at.address,
-        ))
+        )
     }
 
+    // Without the number of bytes that lead the word: vm2 does not tell it.
     pub fn read_word_partially(&self, start: Location, end: Address) -> Result<Word, Refusal> {
-        library::partial_word(reads::read_u256_partially(
+        let read = reads::read_u256_partially(
             &self.bytes,
             &self.keys,
             &self.order,
@@ -254,11 +250,12 @@ impl Memory {
             start.page,
             start.address,
             end,
-        ))
+        )?;
+        Ok(read.word)
     }
 
     pub fn read_range(&self, start: Location, end: Address, out: &mut [u8]) -> Result<(), Refusal> {
-        library::done(reads::read_range_big_endian(
+        reads::read_range_big_endian(
             &self.bytes,
             &self.keys,
             &self.order,
@@ -267,24 +264,24 @@ impl Memory {
             start.address,
             end,
             out,
-        ))
+        )
     }
 
     pub fn read_byte(&self, at: Location) -> Result<u8, Refusal> {
-        library::byte(reads::read_byte(
+        reads::read_byte(
             &self.bytes,
             &self.keys,
             &self.order,
             &self.words,
             at.page,
             at.address,
-        ))
+        )
     }
 
     // The digest of a chunk's bytes.
     pub fn read_chunk(&self, page: PageId, number: u32) -> Result<u64, Refusal> {
         let block = [0u8; CHUNK];
-        library::done(reads::chunk_check(
+        reads::chunk_check(
             &self.bytes,
             &self.keys,
             &self.order,
@@ -292,7 +289,7 @@ impl Memory {
             page,
             number,
             &block,
-        ))?;
+        )?;
         Ok(content::digest(reads::chunk(
             &self.bytes,
             &self.keys,
@@ -305,12 +302,11 @@ impl Memory {
     }
 
     pub fn dynamic_length(&self) -> Result<u32, Refusal> {
-        library::length(reads::dynamic_len(&self.bytes, &self.keys, &self.order, &self.words))
+        reads::dynamic_len(&self.bytes, &self.keys, &self.order, &self.words)
     }
 
-    // The lengths of the journals.
-    pub fn snapshot(&self) -> Result<(u32, u32), Refusal> {
-        library::marks(reads::snapshot(&self.bytes, &self.keys, &self.order, &self.words))
+    pub fn snapshot(&self) -> Result<Marks, Refusal> {
+        reads::snapshot(&self.bytes, &self.keys, &self.order, &self.words)
     }
 
     // The number of held chunks.
@@ -319,7 +315,7 @@ impl Memory {
     }
 
     pub fn is_equal(&self, other: &Memory) -> Result<bool, Refusal> {
-        library::is_equal(compare::compare(
+        compare::compare(
             &self.bytes,
             &self.keys,
             &self.order,
@@ -328,6 +324,6 @@ impl Memory {
             &other.keys,
             &other.order,
             &other.words,
-        ))
+        )
     }
 }

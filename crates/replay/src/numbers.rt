@@ -3,8 +3,10 @@ ghost use Rattle.std.specs.Prelude.{◌≤◌, length};
 
 use crate::fields;
 use crate::fields::Unreadable;
-use crate::library::Refusal;
 use arrayvec::ArrayVec;
+use outcome::Refusal;
+use page_ids::{BasePage, PageId};
+use reads::Marks;
 use std::fmt;
 use std::str::FromStr;
 use word::Word;
@@ -30,7 +32,7 @@ impl Numbers {
     pub fn answer<T: Into<Numbers> + Drop>(answer: Result<T, Refusal>) -> Self {
         match answer {
             Ok(values) => values.into(),
-            Err(refusal) => Numbers::new(&[u64::from(refusal.0)]),
+            Err(refusal) => Numbers::from(refusal),
         }
     }
 }
@@ -56,6 +58,12 @@ impl fmt::Display for Numbers {
             write!(f, " {number}")?;
         }
         Ok(())
+    }
+}
+
+impl From<Refusal> for Numbers {
+    fn from(refusal: Refusal) -> Self {
+        Numbers::new(&[u64::from(u32::from(refusal))])
     }
 }
 
@@ -94,6 +102,24 @@ impl From<u64> for Numbers {
 impl From<(u32, u32)> for Numbers {
     fn from(pair: (u32, u32)) -> Self {
         Numbers::new(&[0, u64::from(pair.0), u64::from(pair.1)])
+    }
+}
+
+impl From<PageId> for Numbers {
+    fn from(page: PageId) -> Self {
+        Numbers::from(page.0)
+    }
+}
+
+impl From<BasePage> for Numbers {
+    fn from(page: BasePage) -> Self {
+        Numbers::from(page.0)
+    }
+}
+
+impl From<Marks> for Numbers {
+    fn from(marks: Marks) -> Self {
+        Numbers::from((marks.heap, marks.aux))
     }
 }
 

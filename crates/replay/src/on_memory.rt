@@ -4,6 +4,7 @@ use crate::fields::Unreadable;
 use crate::memory::Memory;
 use crate::numbers::Numbers;
 use crate::{content, execute};
+use reads::Marks;
 use registers::LENGTH;
 
 // The answer to a call on a memory. It may have too many bytes.
@@ -55,7 +56,7 @@ pub fn answer(
 // Held chunks, dynamic length, and the lengths of the journals; no status. A refusal counts as zeros.
 fn counts(memory: &Memory) -> Numbers {
     let length = memory.dynamic_length().unwrap_or(0);
-    let (heap, aux) = memory.snapshot().unwrap_or((0, 0));
+    let Marks { heap, aux } = memory.snapshot().unwrap_or(Marks { heap: 0, aux: 0 });
     Numbers::new(&[
         memory.held(),
         u64::from(length),

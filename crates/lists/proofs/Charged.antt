@@ -6,11 +6,13 @@ use mathlib.Core.List.{List, [], ◌∷◌}
 use Prim.Native.Nat.{ℕ, suc, ◌≤◌}
 use lib.Dec.{ltb}
 use lib.ListN.{length}
+use Rattle.std.specs.Prelude.{Result, Ok, Err}
 use Rattle.outcome.specs.Outcome.{refused, done}
+use Rattle.outcome.specs.declared.Refusal.{Refusal}
+use Rattle.outcome.specs.declared.Refusal.TheVariants.{Range}
 use Rattle.state.specs.declared.Frame.{Frame}
 use Rattle.state.specs.declared.Area.{Area}
-use Rattle.state.specs.declared.quote.Quoted.{Quoted}
-use Rattle.state.specs.declared.quote.Quoted.TheVariants.{Refused, Ended}
+use Rattle.state.specs.declared.quote.RunEnd.{RunEnd}
 use Rattle.state.specs.Access.{bound_of, frame_accessed}
 use Rattle.state.specs.Quote.{end_of, walked, quote_outcome, quoted}
 use Rattle.state.proofs.quote.quote.Met as quote_met
@@ -69,9 +71,9 @@ module _ (m : Mem) (w : well_formed m ≡ true) (area : Area) where
 
 -- ---- there are such quotes
 module _ (list : List ℕ) (gas bound : ℕ) where
-  answering : (b : Bool) → (r : Quoted) × (quote_outcome r ≡ cond b (refused 8) (done (walked gas list gas bound 0)))
-  answering true = (Refused 8, refl)
-  answering false = (Ended (walked gas list gas bound 0), refl)
+  answering : (b : Bool) → (r : Result RunEnd Refusal) × (quote_outcome r ≡ cond b (refused 8) (done (walked gas list gas bound 0)))
+  answering true = (Err Range, refl)
+  answering false = (Ok (walked gas list gas bound 0), refl)
 
   quote_asked : QuoteExists list gas bound
   quote_asked =

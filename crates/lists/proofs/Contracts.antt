@@ -21,14 +21,14 @@ use Rattle.lists.specs.Steps.{PublicStep, Step, public, linked, owned, did_open,
 -- each line is the contract itself, that of a read by its law
 public_does : {m m' : Mem} {c : Call} {o : Outcome Value} → PublicStep m c o m' → Meets m c o m'
 public_does (did_open w) = by_open _ _ w.ensures
-public_does (did_read_word w) = by_call _ (λ s d e. never (cc)) (λ _. word_call (lent w.args) (rest w.args).0.0 (rest w.args).1.0.0 _ w.ensures.answer)
-public_does (did_read_partial w) = by_call _ (λ s d e. never (cc)) (λ _. partial_call (lent w.args) (rest w.args).0.0 (rest w.args).1.0.0 (rest w.args).1.1.0.0 _ w.ensures.answer)
+public_does (did_read_word w) = by_call _ (λ s d e. never (cc)) (λ _. word_call (lent w.args) (rest w.args).0.0 (rest w.args).1.0.0 _ w.ensures)
+public_does (did_read_partial w) = by_call _ (λ s d e. never (cc)) (λ _. partial_call (lent w.args) (rest w.args).0.0 (rest w.args).1.0.0 (rest w.args).1.1.0.0 _ w.ensures)
 public_does (did_read_range w) = by_call _ (λ s d e. never (cc)) (λ _. range_call (lent w.args) (rest w.args).0.0 (rest w.args).1.0.0 (rest w.args).1.1.0.0 _ _ _ w.ensures)
-public_does (did_read_byte w) = by_call _ (λ s d e. never (cc)) (λ _. byte_call (lent w.args) (rest w.args).0.0 (rest w.args).1.0.0 _ w.ensures.answer)
-public_does (did_dynamic_length w) = by_call _ (λ s d e. never (cc)) (λ _. length_call (lent w.args) _ w.ensures.answer)
+public_does (did_read_byte w) = by_call _ (λ s d e. never (cc)) (λ _. byte_call (lent w.args) (rest w.args).0.0 (rest w.args).1.0.0 _ w.ensures)
+public_does (did_dynamic_length w) = by_call _ (λ s d e. never (cc)) (λ _. length_call (lent w.args) _ w.ensures)
 public_does (did_lookup w) = by_call _ (λ s d e. never (cc)) (λ f. lookup_call (lent w.args) (rest w.args).0.0 (rest w.args).1.0 (rest w.args).1.1.0.now _ (f _ _ _ refl) w.ensures)
 public_does (did_lookup_check w) = by_call _ (λ s d e. never (cc)) (λ _. check_call (lent w.args) (rest w.args).0.0 (rest w.args).1.0 (rest w.args).1.1.0.now _ w.ensures)
-public_does (did_snapshot w) = by_call _ (λ s d e. never (cc)) (λ _. marks_call (lent w.args) _ w.ensures.answer)
+public_does (did_snapshot w) = by_call _ (λ s d e. never (cc)) (λ _. marks_call (lent w.args) _ w.ensures)
 public_does (did_write_word w) = by_call _ (λ s d e. never (cc)) (λ _. w.ensures)
 public_does (did_write_bytes w) = by_call _ (λ s d e. never (cc)) (λ _. w.ensures)
 public_does (did_allocate w) = by_call _ (λ s d e. never (cc)) (λ _. w.ensures)

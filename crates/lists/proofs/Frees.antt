@@ -8,6 +8,7 @@ use lib.Dec.{leb, eqb}
 use borrow.Author.Tests.{eqb-true}
 use Rattle.view.proofs.Refused.{end}
 use Rattle.index.proofs.Logic.{and_left, and_right}
+use Rattle.outcome.specs.declared.Refusal.TheVariants.{Undecodable, Fixed, NotAllocated, BadLength}
 use Rattle.store.specs.Mem.{Mem, layout_of}
 use Rattle.formed.specs.Pages.{dynamic, group}
 use Rattle.formed.specs.WellFormed.{WellFormed}
@@ -54,7 +55,7 @@ module _ (m : Mem) where
 -- ---- the steps
 pub can_free : (p : ℕ) (m : Mem) → Goes m (Free p) (answer_of m (Free p))
 can_free p m =
-    goes m (Free p) (free_checks (setting_of m) (view_of m) p) (free_refusals (setting_of m) (view_of m) p) refl
+    goes m (Free p) (free_checks (setting_of m) (view_of m) p) (free_refusals (setting_of m) (view_of m) p) ((Undecodable, refl), ((Fixed, refl), ((NotAllocated, refl), tt))) refl
     (λ r m' l d.
     did_free
     (record {
@@ -70,7 +71,7 @@ can_free p m =
 
 pub can_window : (p start n : ℕ) (m : Mem) → Goes m (Window p start n) (answer_of m (Window p start n))
 can_window p start n m =
-    goes m (Window p start n) [] end refl
+    goes m (Window p start n) [] end tt refl
     (λ r m' l d.
     did_window
     (record {
@@ -86,7 +87,7 @@ can_window p start n m =
 
 pub can_truncate : (n : ℕ) (m : Mem) → Goes m (Truncate n) (answer_of m (Truncate n))
 can_truncate n m =
-    goes m (Truncate n) (truncate_checks (view_of m) n) (truncate_refusals (view_of m) n) refl
+    goes m (Truncate n) (truncate_checks (view_of m) n) (truncate_refusals (view_of m) n) ((BadLength, refl), tt) refl
     (λ r m' l d.
     did_truncate
     (record {

@@ -4,7 +4,7 @@
 use mathlib.Core.Path.{◌≡◌, refl, sym, ap, ◌∙◌, subst}
 use mathlib.Core.Bool.{Bool, true, false, cond, not, ◌&&◌, true≢false}
 use mathlib.Core.List.{List, [], ◌∷◌}
-use Prim.Native.Nat.{ℕ, zero, suc, ◌+◌, ◌*◌, ◌-◌, ◌/◌, ◌%◌, ◌^◌, ◌<◌, ◌≤◌}
+use Prim.Native.Nat.{ℕ, zero, suc, ◌+◌, ◌*◌, ◌-◌, ◌/◌, ◌%◌, ◌^◌, ◌≤◌}
 use native.Mathlib.Omega.{arith}
 use lib.Dec.{ltb, eqb}
 use lib.ListN.{length, set}
@@ -12,24 +12,23 @@ use borrow.Author.Tests.{eqb-true}
 use denote.Ref.{Bor, MutBor}
 use Rattle.view.proofs.Refused.{Refusals, end, next, ill_does, refused_does, done_does}
 use Rattle.formed.proofs.Same.{tab_long}
-use Rattle.outcome.specs.Outcome.{Outcome, refused, panicked, done, carried_out, answered, refusal_number, answer_outcome, unit_outcome}
-use Rattle.outcome.specs.declared.Answer.{Answer}
-use Rattle.outcome.specs.declared.Answer.TheVariants.{Done, Refused}
+use Rattle.std.specs.Prelude.{Result, Ok, Err, ⊤}
+use Rattle.outcome.specs.Outcome.{Outcome, refused, panicked, done, carried_out, answered, refusal_number, number_of, result_outcome, answer_outcome, unit_outcome}
+use Rattle.outcome.specs.declared.Refusal.{Refusal}
+use Rattle.outcome.specs.declared.Refusal.TheVariants as because
+use Rattle.outcome.proofs.Numbers.{number_nonzero}
+use Rattle.word.specs.declared.Word.{Word}
 use Rattle.word.specs.Value.{value, big_endian}
 use Rattle.store.specs.Mem.{Mem, mem, slot_count, page_count, journal_words}
 use Rattle.formed.specs.Formed.{well_formed, zeros}
 use Rattle.formed.specs.WellFormed.{WellFormed}
 use Rattle.view.specs.View.{View, view_of, Setting, setting_of}
 use Rattle.view.specs.Steps.{run, padded, touched_count, aligned_count}
-use Rattle.view.specs.Checks.{on_memory, rollback_checks, partial_checks, range_checks, lookup_checks, counts_right, lengths_right, Check, word_write_checks, byte_write_checks, allocate_checks}
+use Rattle.view.specs.Checks.{on_memory, rollback_checks, partial_checks, range_checks, lookup_checks, counts_right, lengths_right, opening_checks, capacity_checks_at, Check, word_write_checks, byte_write_checks, allocate_checks}
 use Rattle.view.specs.Calls.{Call, Value, ReadWord, ReadPartial, ReadRange, ReadByte, DynamicLength, Lookup, LookupCheck, Snapshot, bytes, shown, answer_of, Open, Rollback, DeleteHistory, nothing, CallDoes, OpenDoes, Allocate, WriteWord, WriteBytes, next_of, first_refusal}
-use Rattle.reads.specs.declared.WordRead.{WordRead}
-use Rattle.reads.specs.declared.PartialRead.{PartialRead}
-use Rattle.reads.specs.declared.ByteRead.{ByteRead}
-use Rattle.reads.specs.declared.LengthRead.{LengthRead}
+use Rattle.reads.specs.declared.PartialWord.{PartialWord}
 use Rattle.reads.specs.declared.Marks.{Marks}
-use Rattle.reads.specs.Calls.{word_and_count, partial_outcome, byte_outcome, length_outcome, snapshot_outcome, ReadDoes, RangeDoes}
-use Rattle.reads.specs.Calls as reads
+use Rattle.reads.specs.Calls.{word_outcome, word_and_count, partial_outcome, byte_outcome, length_outcome, snapshot_outcome, RangeDoes}
 use Rattle.reads.proofs.Calls.{word_call, partial_call, range_call, byte_call, length_call, check_call, marks_call}
 use Rattle.view.specs.Does.{Shows, Does}
 use Rattle.formed.proofs.Meaning.{well_formed_means}
@@ -57,7 +56,7 @@ ref_mut l = record { ref_ptr = (0, 0); ghost_name = 0; now = l }
 
 -- ---- answers that tell an outcome whose refusals have a number of 01's table; a read does not panic
 abbrev Right : {A : Type 0} → Outcome A → Type 0
-Right (refused n) = 0 < n
+Right (refused n) = (e : Refusal) × (number_of e ≡ n)
 Right (panicked a) = ⊥
 Right (done a) = Unit {0}
 
@@ -67,15 +66,26 @@ module _ {A : Type 0} (m : Mem) (a : A) where
     where
       go : (b : Bool) → Right (cond (not b) (refused 3) (done a))
       go true = tt
-      go false = omega arith
+      go false = (because.NotFormed, refl)
 
   right_check : (t : Bool) → Right (on_memory m ((t, refused 8) ∷ []) a)
   right_check t = go (well_formed m) t
     where
       go : (b c : Bool) → Right (cond (not b) (refused 3) (cond c (refused 8) (done a)))
-      go true true = omega arith
+      go true true = (because.Range, refl)
       go true false = tt
-      go false c = omega arith
+      go false c = (because.NotFormed, refl)
+
+-- its value is made by g
+abbrev answer_to : {A B : Type 0} → (A → B) → (o : Outcome A) → Right o → Result B Refusal
+answer_to g (refused n) r = Err r.0
+answer_to g (panicked a) r = absurd r
+answer_to g (done a) r = Ok (g a)
+
+told_to : {A B : Type 0} (f : B → A) (g : A → B) → ((a : A) → f (g a) ≡ a) → (o : Outcome A) (r : Right o) → result_outcome f (answer_to g o r) ≡ o
+told_to f g back (refused n) r = ap refused r.1
+told_to f g back (panicked a) r = absurd r
+told_to f g back (done a) r = ap done (back a)
 
 -- the number n in four limbs of 64 bits, the lowest first; what is past 256 bits stays in the highest
 abbrev B : ℕ
@@ -91,88 +101,61 @@ pub value_is : (n : ℕ) → value (limbs n) ≡ n
 unfolding value limbs
 value_is n = ap (λ (x : ℕ). n % B + B * (n / B % B + B * x)) (limb (n / B / B)) ∙ (ap (λ (x : ℕ). n % B + B * x) (limb (n / B)) ∙ limb n)
 
-abbrev value_of : {A : Type 0} → A → Outcome A → A
-value_of z (refused n) = z
-value_of z (panicked a) = z
-value_of z (done a) = a
-
-read_does : {A : Type 0} (z : A) (o : Outcome A) → Right o → ReadDoes o (answered (refusal_number o) (value_of z o)) (value_of z o) z
-read_does z (refused zero) l = absurd (omega (arith, l))
-read_does z (refused (suc n)) l = record { answer = refl; zero = λ _. refl }
-read_does z (panicked a) l = absurd l
-read_does z (done a) l = record { answer = refl; zero = λ e. absurd (true≢false e) }
-
-word_does : (o : Outcome ℕ) → Right o → ReadDoes o (answered (refusal_number o) (value (limbs (value_of 0 o)))) (value (limbs (value_of 0 o))) 0
-word_does o r = subst (λ (x : ℕ). ReadDoes o (answered (refusal_number o) x) x 0) (sym (value_is (value_of 0 o))) (read_does 0 o r)
-
-part_does : (o : Outcome (ℕ × ℕ)) → Right o → ReadDoes o (answered (refusal_number o) (value (limbs (value_of (0, 0) o).0), (value_of (0, 0) o).1)) (value (limbs (value_of (0, 0) o).0), (value_of (0, 0) o).1) (0, 0)
-part_does o r = subst (λ (x : ℕ). ReadDoes o (answered (refusal_number o) (x, (value_of (0, 0) o).1)) (x, (value_of (0, 0) o).1) (0, 0)) (sym (value_is (value_of (0, 0) o).0)) (read_does (0, 0) o r)
-
-abbrev answer_to : {A : Type 0} → Outcome A → Answer
-answer_to (refused n) = Refused n
-answer_to (panicked a) = Done
-answer_to (done a) = Done
-
-told_to : (o : Outcome (Unit {0})) → Right o → unit_outcome (answer_to o) ≡ o
-told_to (refused n) r = refl
-told_to (panicked a) r = absurd r
-told_to (done tt) r = refl
-
 -- ---- the reads
-abbrev word : Outcome ℕ → WordRead
-word o = record { refusal = refusal_number o; word = record { limbs = limbs (value_of 0 o) } }
+abbrev word : ℕ → Word
+word n = record { limbs = limbs n }
 
-abbrev part : Outcome (ℕ × ℕ) → PartialRead
-part o = record { refusal = refusal_number o; word = record { limbs = limbs (value_of (0, 0) o).0 }; bytes_read = (value_of (0, 0) o).1 }
+abbrev part : ℕ × ℕ → PartialWord
+part x = record { word = word x.0; bytes_read = x.1 }
 
-abbrev byte : Outcome ℕ → ByteRead
-byte o = record { refusal = refusal_number o; byte = value_of 0 o }
-
-abbrev size : Outcome ℕ → LengthRead
-size o = record { refusal = refusal_number o; length = value_of 0 o }
-
-abbrev marks : Outcome (ℕ × ℕ) → Marks
-marks o = record { refusal = refusal_number o; heap = (value_of (0, 0) o).0; aux = (value_of (0, 0) o).1 }
+abbrev marks : ℕ × ℕ → Marks
+marks x = record { heap = x.0; aux = x.1 }
 
 pub can_read_word : (p a : ℕ) → Answers (ReadWord p a)
 can_read_word p a m =
-    subst (λ (o : Outcome Value). PublicStep m (ReadWord p a) o m) (word_call m p a (reads.word_outcome (word out)) d.answer).answer
+    subst (λ (o : Outcome Value). PublicStep m (ReadWord p a) o m) (word_call m p a (word_outcome (answer_to (word) out right)) told).answer
     (did_read_word
     (record {
       lifetimes = ([], ([], ([], ([], tt))));
       args = (ref m.bytes, (ref m.keys, (ref m.order, (ref m.words, (record { 0 = p }, (record { 0 = a }, tt))))));
-      result = word out;
+      result = answer_to (word) out right;
       last = (tt, (tt, (tt, (tt, (tt, (tt, tt))))));
       asked = tt;
       kept = (tt, (tt, (tt, (tt, (tt, (tt, tt))))));
-      ensures = d;
+      ensures = told;
     }))
   where
     out : Outcome ℕ
     out = on_memory m [] (big_endian (run (view_of m) p a 32))
 
-    d : ReadDoes out (reads.word_outcome (word out)) (value (word out).word.limbs) 0
-    d = word_does out (right_plain m (big_endian (run (view_of m) p a 32)))
+    right : Right out
+    right = right_plain m (big_endian (run (view_of m) p a 32))
+
+    told : word_outcome (answer_to (word) out right) ≡ out
+    told = told_to (λ w. value w.limbs) (word) (value_is) out right
 
 pub can_read_partial : (p x y : ℕ) → Answers (ReadPartial p x y)
 can_read_partial p x y m =
-    subst (λ (o : Outcome Value). PublicStep m (ReadPartial p x y) o m) (partial_call m p x y (partial_outcome (part out)) d.answer).answer
+    subst (λ (o : Outcome Value). PublicStep m (ReadPartial p x y) o m) (partial_call m p x y (partial_outcome (answer_to (part) out right)) told).answer
     (did_read_partial
     (record {
       lifetimes = ([], ([], ([], ([], tt))));
       args = (ref m.bytes, (ref m.keys, (ref m.order, (ref m.words, (record { 0 = p }, (record { 0 = x }, (record { 0 = y }, tt)))))));
-      result = part out;
+      result = answer_to (part) out right;
       last = (tt, (tt, (tt, (tt, (tt, (tt, (tt, tt)))))));
       asked = tt;
       kept = (tt, (tt, (tt, (tt, (tt, (tt, (tt, tt)))))));
-      ensures = d;
+      ensures = told;
     }))
   where
     out : Outcome (ℕ × ℕ)
     out = on_memory m (partial_checks x y) (big_endian (padded (run (view_of m) p x (y - x))), y - x)
 
-    d : ReadDoes out (partial_outcome (part out)) (word_and_count (part out)) (0, 0)
-    d = part_does out (right_check m (big_endian (padded (run (view_of m) p x (y - x))), y - x) (ltb 32 (y - x)))
+    right : Right out
+    right = right_check m (big_endian (padded (run (view_of m) p x (y - x))), y - x) (ltb 32 (y - x))
+
+    told : partial_outcome (answer_to (part) out right) ≡ out
+    told = told_to (word_and_count) (part) (λ a i. (value_is a.0 i, a.1)) out right
 
 -- an output that takes the bytes
 abbrev taken : Outcome (Unit {0}) → List ℕ → List ℕ → List ℕ
@@ -180,9 +163,16 @@ taken (refused n) l bs = l
 taken (panicked u) l bs = l
 taken (done u) l bs = bs
 
-range_does : (o : Outcome (Unit {0})) (l bs : List ℕ) → Right o → RangeDoes o (unit_outcome (answer_to o)) bs l (taken o l bs)
+-- a call without a value
+abbrev unit_to : (o : Outcome (Unit {0})) → Right o → Result ⊤ Refusal
+unit_to o r = answer_to (λ u. u) o r
+
+unit_told : (o : Outcome (Unit {0})) (r : Right o) → unit_outcome (unit_to o r) ≡ o
+unit_told o r = told_to (λ u. tt) (λ u. u) (λ u. refl) o r
+
+range_does : (o : Outcome (Unit {0})) (l bs : List ℕ) (r : Right o) → RangeDoes o (unit_outcome (unit_to o r)) bs l (taken o l bs)
 range_does (panicked u) l bs r = absurd r
-range_does (refused n) l bs r = record { answer = refl; kept = λ _. refl; read = λ e. absurd (true≢false (sym e)) }
+range_does (refused n) l bs r = record { answer = unit_told (refused n) r; kept = λ _. refl; read = λ e. absurd (true≢false (sym e)) }
 range_does (done tt) l bs r = record { answer = refl; kept = λ e. absurd (true≢false e); read = λ _. refl }
 
 -- it is as long as before
@@ -196,12 +186,12 @@ taken_long m p x y l = go (well_formed m) (eqb (length l) (y - x)) refl
 
 pub can_read_range : (p x y : ℕ) (l : List ℕ) → Answers (ReadRange p x y (length l))
 can_read_range p x y l m =
-    subst (λ (o : Outcome Value). PublicStep m (ReadRange p x y (length l)) o m) (range_call m p x y l (taken out l bs) (unit_outcome (answer_to out)) (range_does out l bs right)).answer
+    subst (λ (o : Outcome Value). PublicStep m (ReadRange p x y (length l)) o m) (range_call m p x y l (taken out l bs) (unit_outcome (unit_to out right)) (range_does out l bs right)).answer
     (did_read_range
     (record {
       lifetimes = ([], ([], ([], ([], ([], tt)))));
       args = (ref m.bytes, (ref m.keys, (ref m.order, (ref m.words, (record { 0 = p }, (record { 0 = x }, (record { 0 = y }, (ref_mut l, tt))))))));
-      result = answer_to out;
+      result = unit_to out right;
       last = (tt, (tt, (tt, (tt, (tt, (tt, (tt, (taken out l bs, tt))))))));
       asked = tt;
       kept = (tt, (tt, (tt, (tt, (tt, (tt, (tt, (taken_long m p x y l, tt))))))));
@@ -219,63 +209,72 @@ can_read_range p x y l m =
 
 pub can_read_byte : (p a : ℕ) → Answers (ReadByte p a)
 can_read_byte p a m =
-    subst (λ (o : Outcome Value). PublicStep m (ReadByte p a) o m) (byte_call m p a (byte_outcome (byte out)) d.answer).answer
+    subst (λ (o : Outcome Value). PublicStep m (ReadByte p a) o m) (byte_call m p a (byte_outcome (answer_to (λ b. b) out right)) told).answer
     (did_read_byte
     (record {
       lifetimes = ([], ([], ([], ([], tt))));
       args = (ref m.bytes, (ref m.keys, (ref m.order, (ref m.words, (record { 0 = p }, (record { 0 = a }, tt))))));
-      result = byte out;
+      result = answer_to (λ b. b) out right;
       last = (tt, (tt, (tt, (tt, (tt, (tt, tt))))));
       asked = tt;
       kept = (tt, (tt, (tt, (tt, (tt, (tt, tt))))));
-      ensures = d;
+      ensures = told;
     }))
   where
     out : Outcome ℕ
     out = on_memory m [] ((view_of m).bytes p a)
 
-    d : ReadDoes out (byte_outcome (byte out)) (byte out).byte 0
-    d = read_does 0 out (right_plain m ((view_of m).bytes p a))
+    right : Right out
+    right = right_plain m ((view_of m).bytes p a)
+
+    told : byte_outcome (answer_to (λ b. b) out right) ≡ out
+    told = told_to (λ b. b) (λ b. b) (λ b. refl) out right
 
 pub can_tell_length : Answers DynamicLength
 can_tell_length m =
-    subst (λ (o : Outcome Value). PublicStep m DynamicLength o m) (length_call m (length_outcome (size out)) d.answer).answer
+    subst (λ (o : Outcome Value). PublicStep m DynamicLength o m) (length_call m (length_outcome (answer_to (λ n. n) out right)) told).answer
     (did_dynamic_length
     (record {
       lifetimes = ([], ([], ([], ([], tt))));
       args = (ref m.bytes, (ref m.keys, (ref m.order, (ref m.words, tt))));
-      result = size out;
+      result = answer_to (λ n. n) out right;
       last = (tt, (tt, (tt, (tt, tt))));
       asked = tt;
       kept = (tt, (tt, (tt, (tt, tt))));
-      ensures = d;
+      ensures = told;
     }))
   where
     out : Outcome ℕ
     out = on_memory m [] (view_of m).dynamic_length
 
-    d : ReadDoes out (length_outcome (size out)) (size out).length 0
-    d = read_does 0 out (right_plain m (view_of m).dynamic_length)
+    right : Right out
+    right = right_plain m (view_of m).dynamic_length
+
+    told : length_outcome (answer_to (λ n. n) out right) ≡ out
+    told = told_to (λ n. n) (λ n. n) (λ n. refl) out right
 
 pub can_snapshot : Answers Snapshot
 can_snapshot m =
-    subst (λ (o : Outcome Value). PublicStep m Snapshot o m) (marks_call m (snapshot_outcome (marks out)) d.answer).answer
+    subst (λ (o : Outcome Value). PublicStep m Snapshot o m) (marks_call m (snapshot_outcome (answer_to (marks) out right)) told).answer
     (did_snapshot
     (record {
       lifetimes = ([], ([], ([], ([], tt))));
       args = (ref m.bytes, (ref m.keys, (ref m.order, (ref m.words, tt))));
-      result = marks out;
+      result = answer_to (marks) out right;
       last = (tt, (tt, (tt, (tt, tt))));
       asked = tt;
       kept = (tt, (tt, (tt, (tt, tt))));
-      ensures = d;
+      ensures = told;
     }))
   where
     out : Outcome (ℕ × ℕ)
     out = on_memory m [] (length ((view_of m).journal 0), length ((view_of m).journal 1))
 
-    d : ReadDoes out (snapshot_outcome (marks out)) ((marks out).heap, (marks out).aux) (0, 0)
-    d = read_does (0, 0) out (right_plain m (length ((view_of m).journal 0), length ((view_of m).journal 1)))
+    right : Right out
+    right = right_plain m (length ((view_of m).journal 0), length ((view_of m).journal 1))
+
+    told : snapshot_outcome (answer_to (marks) out right) ≡ out
+    told = told_to (λ k. (k.heap, k.aux)) (marks) (λ x. refl) out right
 
 pub can_look_up : (p k : ℕ) (z : List ℕ) (m : Mem) → PublicStep m (Lookup p k z) (done (bytes (cond (well_formed m) (shown (view_of m) p k z) []))) m
 can_look_up p k z m =
@@ -292,16 +291,16 @@ can_look_up p k z m =
 
 pub can_check : (p k : ℕ) (z : List ℕ) → Answers (LookupCheck p k z)
 can_check p k z m =
-    subst (λ (o : Outcome Value). PublicStep m (LookupCheck p k z) o m) (check_call m p k z (unit_outcome (answer_to out)) (told_to out right)).answer
+    subst (λ (o : Outcome Value). PublicStep m (LookupCheck p k z) o m) (check_call m p k z (unit_outcome (unit_to out right)) (unit_told out right)).answer
     (did_lookup_check
     (record {
       lifetimes = ([], ([], ([], ([], ([], tt)))));
       args = (ref m.bytes, (ref m.keys, (ref m.order, (ref m.words, (record { 0 = p }, (k, (ref z, tt)))))));
-      result = answer_to out;
+      result = unit_to out right;
       last = (tt, (tt, (tt, (tt, (tt, (tt, (tt, tt)))))));
       asked = tt;
       kept = (tt, (tt, (tt, (tt, (tt, (tt, (tt, tt)))))));
-      ensures = told_to out right;
+      ensures = unit_told out right;
     }))
   where
     out : Outcome (Unit {0})
@@ -344,9 +343,21 @@ record Carried (m : Mem) (c : Call) : Type 0 where
   shows : Shows (setting_of m) (next_of (setting_of m) c (view_of m)) after
   step : CallDoes m c (done nothing) after → PublicStep m c (done nothing) after
 
+-- the checks' outcomes are such
+abbrev Named : List (Check Value) → Type 0
+Named [] = Unit {0}
+Named ((b, o) ∷ rest) = Right o × Named rest
+
+first_named : (checks : List (Check Value)) → Named checks → (n : ℕ) → n ≡ first_refusal checks → (n ≡ 0 → ⊥) → (e : Refusal) × (number_of e ≡ n)
+first_named [] t n q z = absurd (z q)
+first_named ((true, refused k) ∷ rest) t n q z = (t.0.0, t.0.1 ∙ sym q)
+first_named ((true, panicked a) ∷ rest) t n q z = absurd t.0
+first_named ((true, done a) ∷ rest) t n q z = absurd (z q)
+first_named ((false, o) ∷ rest) t n q z = first_named rest t.1 n q z
+
 -- ---- a call that goes by a list of tests: it is refused where the memory is not well formed or a test holds, else carried out
-module _ (m : Mem) (c : Call) (checks : List (Check Value)) (tests : Refusals checks) (is : answer_of m c ≡ on_memory m checks nothing)
-    (refuse : (n : ℕ) → CallDoes m c (refused n) m → PublicStep m c (refused n) m) (carry : WellFormed m → first_refusal checks ≡ 0 → Carried m c) where
+module _ (m : Mem) (c : Call) (checks : List (Check Value)) (tests : Refusals checks) (named : Named checks) (is : answer_of m c ≡ on_memory m checks nothing)
+    (refuse : (e : Refusal) → CallDoes m c (refused (number_of e)) m → PublicStep m c (refused (number_of e)) m) (carry : WellFormed m → first_refusal checks ≡ 0 → Carried m c) where
   ended : {o : Outcome Value} {m' : Mem} → (CallDoes m c o m' → PublicStep m c o m') → CallDoes m c o m' → Goes m c (answer_of m c)
   ended {o} {m'} step d = record { after = m'; step = subst (λ (x : Outcome Value). PublicStep m c x m') d.answer (step d) }
 
@@ -357,18 +368,20 @@ module _ (m : Mem) (c : Call) (checks : List (Check Value)) (tests : Refusals ch
   on_formed f zero e =
       let t = carry f (sym e) in
       ended t.step (turned (done_does m f checks (setting_of m) (next_of (setting_of m) c (view_of m)) tests (sym e) t.shows))
-  on_formed f (suc n) e = ended (refuse (suc n)) (turned (refused_does m f checks (setting_of m) (next_of (setting_of m) c (view_of m)) (suc n) e (λ z. omega arith)))
+  on_formed f (suc n) e =
+      let r = first_named checks named (suc n) e (λ z. omega arith) in
+      ended (refuse r.0) (turned (refused_does m f checks (setting_of m) (next_of (setting_of m) c (view_of m)) (number_of r.0) (r.1 ∙ e) (number_nonzero r.0)))
 
   tested : Goes m c (answer_of m c)
   tested = go (well_formed m) refl
     where
       go : (b : Bool) → well_formed m ≡ b → Goes m c (answer_of m c)
       go true e = on_formed (well_formed_means m e) (first_refusal checks) refl
-      go false e = ended (refuse 3) (ill_does m c e)
+      go false e = ended (refuse because.NotFormed) (ill_does m c e)
 
 -- ---- history
 module _ (heap aux : ℕ) (m : Mem) where
-  roll_back : (r : Answer) (bs ws : List ℕ) → length bs ≡ length m.bytes → length ws ≡ length m.words → CallDoes m (Rollback heap aux) (answer_outcome nothing r) (mem bs m.keys m.order ws)
+  roll_back : (r : Result ⊤ Refusal) (bs ws : List ℕ) → length bs ≡ length m.bytes → length ws ≡ length m.words → CallDoes m (Rollback heap aux) (answer_outcome nothing r) (mem bs m.keys m.order ws)
       → PublicStep m (Rollback heap aux) (answer_outcome nothing r) (mem bs m.keys m.order ws)
   roll_back r bs ws lb lw d =
       did_rollback
@@ -384,13 +397,13 @@ module _ (heap aux : ℕ) (m : Mem) where
 
   pub can_roll_back : Goes m (Rollback heap aux) (answer_of m (Rollback heap aux))
   can_roll_back =
-      tested m (Rollback heap aux) (rollback_checks (view_of m) heap aux) (rollback_refusals m heap aux) refl (λ n. roll_back (Refused n) m.bytes m.words refl refl)
+      tested m (Rollback heap aux) (rollback_checks (view_of m) heap aux) (rollback_refusals m heap aux) ((because.BadMark, refl), tt) refl (λ e. roll_back (Err e) m.bytes m.words refl refl)
       (λ f e.
       let t = rolled_there m heap aux (rollback_asks m heap aux f e) in
       let l = setting_same f t.shows in
-      record { after = _; shows = t.shows; step = roll_back Done t.bytes t.words l.bytes l.words })
+      record { after = _; shows = t.shows; step = roll_back (Ok tt) t.bytes t.words l.bytes l.words })
 
-delete : (m : Mem) (r : Answer) (ws : List ℕ) → length ws ≡ length m.words → CallDoes m DeleteHistory (answer_outcome nothing r) (mem m.bytes m.keys m.order ws) → PublicStep m DeleteHistory (answer_outcome nothing r) (mem m.bytes m.keys m.order ws)
+delete : (m : Mem) (r : Result ⊤ Refusal) (ws : List ℕ) → length ws ≡ length m.words → CallDoes m DeleteHistory (answer_outcome nothing r) (mem m.bytes m.keys m.order ws) → PublicStep m DeleteHistory (answer_outcome nothing r) (mem m.bytes m.keys m.order ws)
 delete m r ws lw d =
     did_delete_history
     (record {
@@ -405,27 +418,32 @@ delete m r ws lw d =
 
 pub can_delete : (m : Mem) → Goes m DeleteHistory (answer_of m DeleteHistory)
 can_delete m =
-    tested m DeleteHistory [] end refl (λ n. delete m (Refused n) m.words refl)
+    tested m DeleteHistory [] end tt refl (λ e. delete m (Err e) m.words refl)
     (λ f e.
     let h = forget_shows m.bytes m.keys m.order m.words f in
-    record { after = _; shows = h; step = delete m Done (set (set m.words 12 0) 13 0) (setting_same f h).words })
+    record { after = _; shows = h; step = delete m (Ok tt) (set (set m.words 12 0) 13 0) (setting_same f h).words })
 
 -- ---- a call that is lent every buffer to change
-module _ (m : Mem) (c : Call) (checks : List (Check Value)) (tests : Refusals checks) (is : answer_of m c ≡ on_memory m checks nothing)
-    (step : (r : Answer) (m' : Mem) → Same m m' → CallDoes m c (answer_outcome nothing r) m' → PublicStep m c (answer_outcome nothing r) m')
+module _ (m : Mem) (c : Call) (checks : List (Check Value)) (tests : Refusals checks) (named : Named checks) (is : answer_of m c ≡ on_memory m checks nothing)
+    (step : (r : Result ⊤ Refusal) (m' : Mem) → Same m m' → CallDoes m c (answer_outcome nothing r) m' → PublicStep m c (answer_outcome nothing r) m')
     (there : (WellFormed m) × (first_refusal checks ≡ 0) → Reached (setting_of m) (next_of (setting_of m) c (view_of m))) where
   pub goes : Goes m c (answer_of m c)
   goes =
-      tested m c checks tests is (λ n. step (Refused n) m (same m))
+      tested m c checks tests named is (λ e. step (Err e) m (same m))
       (λ f e.
       let t = there (f, e) in
-      record { after = t.memory; shows = t.shows; step = step Done t.memory (setting_same f t.shows) })
+      record { after = t.memory; shows = t.shows; step = step (Ok tt) t.memory (setting_same f t.shows) })
+
+-- the last three checks of all writes and allocations
+module _ (s : Setting) (v : View) (p a n w : ℕ) where
+  room_named : Named (capacity_checks_at s v p a n w)
+  room_named = ((because.NoPage, refl), ((because.NoChunk, refl), ((because.NoJournal, refl), tt)))
 
 -- ---- writes and allocations, of a page and an address of 32 bits, as the code's have
 module _ (p a : ℕ) (page : p ≤ 4294967295) (address : a ≤ 4294967295) where
   pub can_write_word : (n : ℕ) (m : Mem) → Goes m (WriteWord p a n) (answer_of m (WriteWord p a n))
   can_write_word n m =
-      goes m (WriteWord p a n) (word_write_checks (setting_of m) (view_of m) p a) (next (room_refusals (setting_of m) (view_of m) p a 32 1)) refl
+      goes m (WriteWord p a n) (word_write_checks (setting_of m) (view_of m) p a) (next (room_refusals (setting_of m) (view_of m) p a 32 1)) ((because.Undecodable, refl), room_named (setting_of m) (view_of m) p a 32 1) refl
       (λ r m' l d.
       subst (λ (x : ℕ). PublicStep m (WriteWord p a x) (answer_outcome nothing r) m') (value_is n)
       (did_write_word
@@ -442,7 +460,7 @@ module _ (p a : ℕ) (page : p ≤ 4294967295) (address : a ≤ 4294967295) wher
 
   pub can_write_bytes : (bs : List ℕ) (m : Mem) → Goes m (WriteBytes p a bs) (answer_of m (WriteBytes p a bs))
   can_write_bytes bs m =
-      goes m (WriteBytes p a bs) (byte_write_checks (setting_of m) (view_of m) p a (length bs)) (next (next (room_refusals (setting_of m) (view_of m) p a (length bs) (aligned_count a (length bs))))) refl
+      goes m (WriteBytes p a bs) (byte_write_checks (setting_of m) (view_of m) p a (length bs)) (next (next (room_refusals (setting_of m) (view_of m) p a (length bs) (aligned_count a (length bs))))) ((because.Undecodable, refl), ((because.Range, refl), room_named (setting_of m) (view_of m) p a (length bs) (aligned_count a (length bs)))) refl
       (λ r m' l d.
       did_write_bytes
       (record {
@@ -459,7 +477,7 @@ module _ (p a : ℕ) (page : p ≤ 4294967295) (address : a ≤ 4294967295) wher
 module _ (p : ℕ) (page : p ≤ 4294967295) where
   pub can_allocate_with : (bs : List ℕ) (m : Mem) → Goes m (Allocate p bs) (answer_of m (Allocate p bs))
   can_allocate_with bs m =
-      goes m (Allocate p bs) (allocate_checks (setting_of m) (view_of m) p (length bs)) (next (next (next (room_refusals (setting_of m) (view_of m) p 0 (length bs) 0)))) refl
+      goes m (Allocate p bs) (allocate_checks (setting_of m) (view_of m) p (length bs)) (next (next (next (room_refusals (setting_of m) (view_of m) p 0 (length bs) 0)))) ((because.Undecodable, refl), ((because.Fixed, refl), ((because.Allocated, refl), room_named (setting_of m) (view_of m) p 0 (length bs) 0))) refl
       (λ r m' l d.
       did_allocate_with
       (record {
@@ -476,7 +494,7 @@ module _ (p : ℕ) (page : p ≤ 4294967295) where
   -- an empty page
   pub can_allocate : (m : Mem) → Goes m (Allocate p []) (answer_of m (Allocate p []))
   can_allocate m =
-      goes m (Allocate p []) (allocate_checks (setting_of m) (view_of m) p 0) (next (next (next (room_refusals (setting_of m) (view_of m) p 0 0 0)))) refl
+      goes m (Allocate p []) (allocate_checks (setting_of m) (view_of m) p 0) (next (next (next (room_refusals (setting_of m) (view_of m) p 0 0 0)))) ((because.Undecodable, refl), ((because.Fixed, refl), ((because.Allocated, refl), room_named (setting_of m) (view_of m) p 0 0 0))) refl
       (λ r m' l d.
       did_allocate
       (record {
@@ -507,7 +525,7 @@ module _ (s : Setting) (calldata : List ℕ) (narrow : Narrow s) (m : Mem) where
       go false true true = refl
       go false true false = refl
 
-  opens : (r : Answer) (m' : Mem) → Same m m' → OpenDoes m s calldata (answer_outcome nothing r) m' → PublicStep m (Open s calldata) (answer_outcome nothing r) m'
+  opens : (r : Result ⊤ Refusal) (m' : Mem) → Same m m' → OpenDoes m s calldata (answer_outcome nothing r) m' → PublicStep m (Open s calldata) (answer_outcome nothing r) m'
   opens r m' l d =
       did_open
       (record {
@@ -537,17 +555,19 @@ module _ (s : Setting) (calldata : List ℕ) (narrow : Narrow s) (m : Mem) where
       record { bytes = omega arith; keys = omega arith; order = omega arith; words = omega arith }
 
   pub can_open : Goes m (Open s calldata) result
-  can_open = go (refusal_number result) number_is
+  can_open = go (refusal_number result) refl
     where
-      go : (n : ℕ) → answered n nothing ≡ result → Goes m (Open s calldata) result
-      go zero e =
+      go : (n : ℕ) → n ≡ refusal_number result → Goes m (Open s calldata) result
+      go zero q =
+          let e = ap (λ (k : ℕ). answered k nothing) q ∙ number_is in
           let asks = open_asks nothing s m (length calldata) 0 e refl in
           let t = started_there s m asks (λ w. head_width s w narrow.statics narrow.calldata narrow.heap narrow.aux narrow.base narrow.stride) in
-          let q = calldata_asks nothing s m (length calldata) 0 e refl t.memory t.shows in
-          let u = calldata_there t.memory s.layout.calldata.0 calldata q in
+          let k = calldata_asks nothing s m (length calldata) 0 e refl t.memory t.shows in
+          let u = calldata_there t.memory s.layout.calldata.0 calldata k in
           let d = open_done nothing s m calldata 0 e refl t.memory u.memory t.shows u.shows in
           let l = size_same asks (d.changed (ap carried_out (sym d.answer))) in
-          record { after = u.memory; step = subst (λ (o : Outcome Value). PublicStep m (Open s calldata) o u.memory) d.answer (opens Done u.memory l d) }
-      go (suc n) e =
-          let d = open_refused nothing s m calldata (suc n) e (λ z. omega arith) in
-          record { after = m; step = subst (λ (o : Outcome Value). PublicStep m (Open s calldata) o m) d.answer (opens (Refused (suc n)) m (same m) d) }
+          record { after = u.memory; step = subst (λ (o : Outcome Value). PublicStep m (Open s calldata) o u.memory) d.answer (opens (Ok tt) u.memory l d) }
+      go (suc n) q =
+          let r = first_named (opening_checks s (lengths_right s m) (length calldata)) ((because.Layout, refl), ((because.Sizes, refl), ((because.NoChunk, refl), tt))) (suc n) q (λ z. omega arith) in
+          let d = open_refused nothing s m calldata (number_of r.0) (ap (λ (k : ℕ). answered k nothing) (r.1 ∙ q) ∙ number_is) (number_nonzero r.0) in
+          record { after = m; step = subst (λ (o : Outcome Value). PublicStep m (Open s calldata) o m) d.answer (opens (Err r.0) m (same m) d) }

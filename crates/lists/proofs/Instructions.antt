@@ -9,7 +9,10 @@ use native.Mathlib.Omega.{arith}
 use lib.Dec.{eqb, ltb}
 use lib.ListN.{length, length-set}
 use borrow.Author.Tests.{ltb-false, not-false}
-use Rattle.outcome.specs.Outcome.{Outcome, refused, panicked, done, carried_out, first_of}
+use Rattle.outcome.specs.Outcome.{Outcome, refused, panicked, done, carried_out, first_of, number_of}
+use Rattle.outcome.specs.declared.Refusal.{Refusal}
+use Rattle.outcome.specs.declared.Refusal.TheVariants.{NotFormed, Undecodable, NoPage, NoChunk, NoJournal, Pointer, HookValue}
+use Rattle.outcome.specs.declared.Refusal.TheVariants as refusals
 use Rattle.word.specs.Value.{last_address}
 use Rattle.registers.specs.declared.Place.{Place}
 use Rattle.registers.specs.declared.LoadPlaces.{LoadPlaces}
@@ -81,7 +84,7 @@ module _ {g : Registers} (k : Numbered g) (r : InstructionResult) where
 
 -- ---- an answer for each outcome that an instruction can have; `value` is the value of one that is carried out, and a panic stops nothing
 data Ran (value : Executed → Value) : Outcome Value → Type 0 where
-  is_refused : (n : ℕ) → Ran value (refused n)
+  is_refused : (e : Refusal) → Ran value (refused (number_of e))
   is_panicked : (e : Executed) → running ≡ e.stop → Numbered e.registers → Ran value (panicked (executed e))
   is_done : (e : Executed) → Numbered e.registers → Ran value (done (value e))
 
@@ -96,14 +99,14 @@ first_ran ((false, x) ∷ rest) a o r = first_ran rest a.1 o r
 
 -- 3 comes first, and then 16
 answer_ran : {value : Executed → Value} (m : Mem) (c : Call) → Ran value (outcome_of (setting_of m) c (view_of m)) → Ran value (answer_of m c)
-answer_ran m c r = first_ran ((not (well_formed m), refused 3) ∷ []) (is_refused 3, tt) (outcome_of (setting_of m) c (view_of m)) r
+answer_ran m c r = first_ran ((not (well_formed m), refused 3) ∷ []) (is_refused NotFormed, tt) (outcome_of (setting_of m) c (view_of m)) r
 
 taken_ran : {value : Executed → Value} (takes : Bool) (o : Outcome Value) → (takes ≡ true → Ran value o) → Ran value (cond (not takes) (refused 16) o)
 taken_ran true o r = r refl
-taken_ran false o r = is_refused 16
+taken_ran false o r = is_refused refusals.Operand
 
 write_ran : {value : Executed → Value} (s : Setting) (v : View) (p a : ℕ) (rest : List (Check Value)) → AllRan value rest → AllRan value (word_write_checks s v p a ++ rest)
-write_ran s v p a rest r = (is_refused 4, (is_refused 9, (is_refused 10, (is_refused 11, r))))
+write_ran s v p a rest r = (is_refused Undecodable, (is_refused NoPage, (is_refused NoChunk, (is_refused NoJournal, r))))
 
 abbrev status_for : Stop → ExecutionStatus
 status_for running = Running
@@ -113,7 +116,7 @@ told_again : (value : Executed → Value) (s : Stop) (f : Frame) (g : Registers)
 told_again value running f g = refl
 told_again value (on_hook n) f g = refl
 
-not_refused : (s : Stop) (n : ℕ) → status_for s ≡ Refused n → ⊥
+not_refused : (s : Stop) (n : Refusal) → status_for s ≡ Refused n → ⊥
 not_refused running n e = let z : ◌≡◌ {A = ℕ} 0 1 = cc in omega arith
 not_refused (on_hook k) n e = let z : ◌≡◌ {A = ℕ} 0 1 = cc in omega arith
 
@@ -140,7 +143,7 @@ module _ (f : Frame) (l : List ℕ) (count : length l ≡ 65) {value : Executed 
   told_execute (is_done e k) =
       told_again value e.stop e.frame (registers_from k.numbers) ∙ (λ i. done (value (record { frame = e.frame; registers = k.are i; stop = e.stop })))
 
-  alone : {o : Outcome Value} (r : Ran value o) (n : ℕ) → (execute r).status ≡ Refused n → ((execute r).frame ≡ f) × (after r ≡ l)
+  alone : {o : Outcome Value} (r : Ran value o) (n : Refusal) → (execute r).status ≡ Refused n → ((execute r).frame ≡ f) × (after r ≡ l)
   alone (is_refused k) n e = (refl, refl)
   alone (is_panicked d q k) n e = absurd (let z : ◌≡◌ {A = ℕ} 0 1 = cc in omega arith)
   alone (is_done d k) n e = absurd (not_refused d.stop n e)
@@ -204,7 +207,7 @@ module _ (f : Frame) (k : Registers) (numbered : Numbered k) (p : LoadPlaces) (m
       answer_ran m (LoadPointer f k p)
       (taken_ran (pointer_takes p) _ (λ t.
       let d = (pointer_parts p t).1 in
-      first_ran (pointer_checks gone f x) (panicked_ran (panic f) refl d.1, (panicked_ran (panic f) refl d.1, (is_refused 14, tt))) (done (pointer_loaded (loaded_into k p (pointed (view_of m) f x)) (read_count (pointer_of x.word)))) (done_ran (pointed (view_of m) f x) d)))
+      first_ran (pointer_checks gone f x) (panicked_ran (panic f) refl d.1, (panicked_ran (panic f) refl d.1, (is_refused Pointer, tt))) (done (pointer_loaded (loaded_into k p (pointed (view_of m) f x)) (read_count (pointer_of x.word)))) (done_ran (pointed (view_of m) f x) d)))
 
   static_ran : Ran executed (answer_of m (LoadStatic f k p))
   static_ran =
@@ -347,7 +350,7 @@ module _ (f : Frame) (g : Registers) (p : StorePlaces) (kernel : Bool) where
         (taken_ran (store_takes p) _ (λ t.
         let d = (store_parts p t).1.1 in
         first_ran (store_checks broken (setting_of m) (view_of m) area f y.word n h)
-        (broken_ran (panic (frame_accessed f area y.word).frame) refl d.1, write_ran (setting_of m) (view_of m) (heap_of f area) y.word ((hooked h y.word && ltb 4294967295 n, refused 15) ∷ []) (is_refused 15, tt))
+        (broken_ran (panic (frame_accessed f area y.word).frame) refl d.1, write_ran (setting_of m) (view_of m) (heap_of f area) y.word ((hooked h y.word && ltb 4294967295 n, refused 15) ∷ []) (is_refused HookValue, tt))
         (done (executed (stored_into g p (stored area f y n h)))) (stored_ran (stored area f y n h) d)))
 
     static_store_ran : Ran executed (answer_of m (StoreStatic f g p kernel))

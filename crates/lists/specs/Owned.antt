@@ -11,11 +11,11 @@ use Rattle.view.specs.Calls.{Call, Value, Open, Allocate, WriteWord, WriteBytes,
 use Rattle.page_ids.specs.Decode.{layout_from}
 use Rattle.opening.specs.Opening.{setting_from}
 use Rattle.registers.specs.Registers.{registers_from, load_places_from, store_places_from}
-use Rattle.reads.specs.Calls.{partial_outcome, partial_value}
+use Rattle.reads.specs.Calls.{partial_value}
 use Rattle.write_back.specs.Runs.{executed_outcome, pointer_outcome}
 use Rattle.frames.specs.Frames.{area_of}
 use Rattle.abi.specs.Executing.{hook_from}
-use Rattle.owned.specs.Answers.{compared_outcome, frame_of, executed_of, pointer_executed_of}
+use Rattle.owned.specs.Answers.{partial_outcome, compared_outcome, frame_of, executed_of, pointer_executed_of}
 use Rattle.lists.specs.Linked.{copied_part}
 use Rattle.owned.proofs.memory.own_open.Kinds as own_open_kinds
 use Rattle.owned.proofs.memory.own_open.Reads as own_open_reads

@@ -10,6 +10,6 @@ use Rattle.heaptrace.specs.Puts.{Puts}
 
 pub record Answers (s s' : Session) : Type 0 where
   pub reply : Reported
-  pub tells : TraceTells s.open (mem_of s.buffers) (meaning s.line.items) s'.open reply (mem_of s'.buffers)
+  pub tells : TraceTells s.current (mem_of s.buffers) (meaning s.line.items) s'.current reply (mem_of s'.buffers)
   pub puts : Puts reply s.output s'.output
   pub line : s'.line.items ≡ []

@@ -15,14 +15,14 @@ use trace_calls::Buffers;
 #[derive(Drop)]
 pub struct Session {
     pub buffers: Buffers,
-    pub open: Option<Counts>,
+    pub current: Option<Counts>,
     pub line: ArrayVec<u8, 104>,
     pub output: Output,
 }
 
 // No memory is open, and nothing is gathered.
 pub fn start() -> Session
-    ensures { result.open ≡ None }
+    ensures { result.current ≡ None }
 {
     Session {
         buffers: Buffers {
@@ -31,7 +31,7 @@ pub fn start() -> Session
             order: [0; 452],
             words: [0; 1554],
         },
-        open: None,
+        current: None,
         line: ArrayVec::new(),
         output: output::empty(),
     }
@@ -60,11 +60,11 @@ fn answer(session: &mut Session)
 {
     let Session {
         buffers,
-        open,
+        current,
         line,
         output,
     } = session;
-    let reply = trace_calls::take(buffers, open, line.as_slice());
+    let reply = trace_calls::take(buffers, current, line.as_slice());
     line.clear();
     output.put(reply);
 }

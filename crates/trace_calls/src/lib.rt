@@ -203,29 +203,29 @@ fn lent(buffers: &mut Buffers, counts: Counts, command: Command) -> Reply
 
 // ---- lines
 
-// What a command does, and its answer. Before an accepted opening only an opening is carried out; `open` has the open memory's counts, if one is open.
-fn carry_out(buffers: &mut Buffers, open: &mut Option<Counts>, command: Command) -> Reply
-    ensures { TraceTells open.old (mem_of buffers.old) (command_line command) open.new (reply_of result) (mem_of buffers.new) }
+// What a command does, and its answer. Before an accepted opening only an opening is carried out; `current` has the open memory's counts, if one is open.
+fn carry_out(buffers: &mut Buffers, current: &mut Option<Counts>, command: Command) -> Reply
+    ensures { TraceTells current.old (mem_of buffers.old) (command_line command) current.new (reply_of result) (mem_of buffers.new) }
 {
     if let Command::Open(opening) = command {
         let reply = lent(buffers, opening.counts, command);
         if let Reply::Done = reply {
-            *open = Some(opening.counts);
+            *current = Some(opening.counts);
         }
         return reply;
     }
-    match *open {
+    match *current {
         Some(counts) => lent(buffers, counts, command),
         None => Reply::Unread,
     }
 }
 
 // What a line does, and its answer.
-pub fn take(buffers: &mut Buffers, open: &mut Option<Counts>, line: &[u8]) -> Reply
-    ensures { TraceTells open.old (mem_of buffers.old) (meaning line.now) open.new (reply_of result) (mem_of buffers.new) }
+pub fn take(buffers: &mut Buffers, current: &mut Option<Counts>, line: &[u8]) -> Reply
+    ensures { TraceTells current.old (mem_of buffers.old) (meaning line.now) current.new (reply_of result) (mem_of buffers.new) }
 {
     match trace::parse(line) {
-        Some(command) => carry_out(buffers, open, command),
+        Some(command) => carry_out(buffers, current, command),
         None => Reply::Unread,
     }
 }

@@ -128,15 +128,7 @@ fn begin(
         pages: counts.pages,
         journal_words: counts.journal_words,
     };
-    said(opening::open(
-        bytes,
-        keys,
-        order,
-        words,
-        layout_of(opening),
-        capacity,
-        &[],
-    ))
+    said(opening::open(bytes, keys, order, words, layout_of(opening), capacity, &[]))
 }
 
 // The call that a command asks.

@@ -4,10 +4,7 @@ use mathlib.Core.Path.{◌≡◌, sym, ap, ◌∙◌, subst}
 use mathlib.Core.List.{[]}
 use Prim.Native.Nat.{ℕ}
 use lib.ListN.{length}
-use Rattle.std.specs.Prelude.{Err}
-use Rattle.outcome.specs.Outcome.{Outcome, refused, done, answered, number_of}
-use Rattle.outcome.specs.declared.Refusal.{Refusal}
-use Rattle.outcome.proofs.Numbers.{status_answered}
+use Rattle.outcome.specs.Outcome.{Outcome, done}
 use Rattle.word.specs.Value.{big_endian}
 use Rattle.store.specs.Mem.{Mem}
 use Rattle.formed.specs.WellFormed.{WellFormed}
@@ -16,10 +13,6 @@ use Rattle.view.specs.Steps.{run}
 use Rattle.view.specs.Calls.{Value, ReadWord, ReadByte, DynamicLength, Snapshot, WriteWord, number, lengths, CallDoes}
 use Rattle.reads.proofs.Answers.{on_formed, pair_told}
 use Rattle.reads.proofs.Calls.{word_call, byte_call, length_call, marks_call}
-
--- a refusal by its number
-pub refusal_told : {A : Type 0} (e : Refusal) (a : A) {n : ℕ} → n ≡ number_of e → answered n a ≡ refused (number_of e)
-refusal_told e a q = ap (λ (k : ℕ). answered k a) q ∙ status_answered a (Err e)
 
 -- ---- reads, which a well-formed memory cannot refuse
 module _ (m : Mem) (formed : WellFormed m) where

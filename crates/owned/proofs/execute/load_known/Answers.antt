@@ -6,51 +6,13 @@ use Rattle.index.proofs.Logic.{passed}
 use Rattle.registers.specs.Registers.{operand_of}
 use Rattle.store.specs.Mem.{mem}
 use Rattle.formed.proofs.Hints.{find_asked}
-use Rattle.write_back.proofs.Laws.{load_parts}
-use Rattle.owned.proofs.Words.{slot_inside, word_found}
-use Rattle.owned.proofs.Known.{load_unknown, source_few, load_takes_lem, load_known}
-use borrow.Author.Rules.{rules}
+use Rattle.owned.proofs.Words.{word_found}
+use Rattle.owned.proofs.Known.{load_known}
 use Rattle.owned.proofs.execute.load_known.Goals as goal
-
-pub returns-then-not-are_registers : goal.returns-then-not-are_registers
-returns-then-not-are_registers c = load_unknown
-
-pub source-operand-requires : goal.source-operand-requires
-source-operand-requires c =
-    (search rules, source_few c.args.source c.args.dst0 c.args.dst1 (passed c.are_registers.ensures c.if-not-are_registers.false))
-
-pub returns-then-not-is_paid : goal.returns-then-not-is_paid
-returns-then-not-is_paid c = load_unknown
 
 pub in_one_piece-s-requires : goal.in_one_piece-s-requires
 in_one_piece-s-requires c =
     find_asked (mem c.args.bytes.now c.args.keys.now c.args.order.now c.args.words.now) c.requires.well_formed
-
-pub bounds-words-6 : goal.bounds-words-6
-bounds-words-6 c =
-    let w = c.requires.well_formed.lengths.in_words in
-    omega (arith, w)
-
-pub returns-then-s-words : goal.returns-then-s-words
-returns-then-s-words c = load_unknown
-
-pub overflow_mul-at : goal.overflow_mul-at
-overflow_mul-at c =
-    let b = c.requires.well_formed.lengths.chunks_hi in
-    omega (arith, c.if-s-words.false)
-
-pub overflow_add-at : goal.overflow_add-at
-overflow_add-at c =
-    let b = c.requires.well_formed.lengths.chunks_hi in
-    omega (arith, c.if-s-words.false)
-
-pub word_at-requires : goal.word_at-requires
-word_at-requires c =
-    slot_inside (mem c.args.bytes.now c.args.keys.now c.args.order.now c.args.words.now) c.requires.well_formed _ c.low_u32.result c.in_one_piece-s.result (c.in_one_piece-s.ensures c.if-s-words.false)
-
-pub write_load-requires : goal.write_load-requires
-write_load-requires c =
-    (search rules, (load_parts c.load_places-places.result (load_takes_lem c.args.source c.args.dst0 c.args.dst1 c.args.increment (passed c.are_registers.ensures c.if-not-are_registers.false) c.load_places-places.ensures)).1)
 
 pub returns : goal.returns
 returns c =

@@ -1,4 +1,4 @@
-use mathlib.Core.Path.{refl, sym, ap, ◌∙◌}
+use mathlib.Core.Path.{sym, ap, ◌∙◌}
 use mathlib.Core.Bool.{false}
 use Prim.Native.Nat.{ℕ}
 use Rattle.word.specs.Value.{value}
@@ -7,29 +7,9 @@ use Rattle.registers.specs.Registers.{operand_of}
 use Rattle.store.specs.Mem.{mem}
 use Rattle.execution.specs.Executions.{hook_of}
 use Rattle.write_back.proofs.Laws.{store_parts}
-use Rattle.owned.proofs.Known.{store_unknown, source_few, store_takes_lem, store_known}
+use Rattle.owned.proofs.Known.{store_takes_lem, store_known}
 use borrow.Author.Rules.{rules}
 use Rattle.owned.proofs.execute.store_known.Goals as goal
-
-pub returns-then-not-are_registers : goal.returns-then-not-are_registers
-returns-then-not-are_registers c = store_unknown refl
-
-pub returns-then-value-gt-LAST_REGISTER : goal.returns-then-value-gt-LAST_REGISTER
-returns-then-value-gt-LAST_REGISTER c = store_unknown refl
-
-pub source-operand-requires : goal.source-operand-requires
-source-operand-requires c =
-    (search rules, source_few c.args.source c.args.dst0 c.args.dst1 (passed c.are_registers.ensures c.if-not-are_registers.false))
-
-pub returns-then-not-is_paid : goal.returns-then-not-is_paid
-returns-then-not-is_paid c = store_unknown refl
-
-pub returns-then-hits : goal.returns-then-hits
-returns-then-hits c = store_unknown refl
-
-pub returns-then-not-write_known : goal.returns-then-not-write_known
-returns-then-not-write_known c =
-    store_unknown (c.write_known.ensures.unknown (c.if-not-write_known.true))
 
 pub write_store-requires : goal.write_store-requires
 write_store-requires c =

@@ -3,24 +3,12 @@ use native.Mathlib.Omega.{arith}
 use Rattle.word.specs.Value.{value}
 use Rattle.store.specs.Mem.{mem}
 use Rattle.formed.proofs.Hints.{find_asked}
-use Rattle.owned.proofs.Words.{slot_inside, piece_does, word_wide}
-use Rattle.owned.proofs.Known.{write_unknown}
+use Rattle.owned.proofs.Words.{piece_does}
 use Rattle.owned.proofs.execute.write_known.Goals as goal
 
 pub in_one_piece-s-requires : goal.in_one_piece-s-requires
 in_one_piece-s-requires c =
     find_asked (mem c.args.bytes.now c.args.keys.now c.args.order.now c.args.words.now) c.requires
-
-pub returns-then-s-words : goal.returns-then-s-words
-returns-then-s-words c = write_unknown
-
-pub returns-then-not-has_no_journal : goal.returns-then-not-has_no_journal
-returns-then-not-has_no_journal c = write_unknown
-
-pub copy-requires : goal.copy-requires
-copy-requires c =
-    let w = word_wide _ _ c.to_big_endian-value.ensures.1 in
-    (omega (arith, w), slot_inside (mem c.args.bytes.now c.args.keys.now c.args.order.now c.args.words.now) c.requires c.args.page.0 c.args.address.0 c.in_one_piece-s.result (c.in_one_piece-s.ensures c.if-s-words.false))
 
 pub returns : goal.returns
 returns c =

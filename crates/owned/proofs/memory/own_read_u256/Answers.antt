@@ -4,7 +4,7 @@ use Rattle.word.specs.Value.{big_endian}
 use Rattle.store.specs.Mem.{mem}
 use Rattle.formed.proofs.Hints.{find_asked}
 use Rattle.owned.proofs.Answers.{word_does}
-use Rattle.owned.proofs.Words.{slot_inside, word_found}
+use Rattle.owned.proofs.Words.{word_found}
 use Rattle.owned.proofs.memory.own_read_u256.Goals as goal
 
 pub in_one_piece-s-requires : goal.in_one_piece-s-requires
@@ -14,10 +14,6 @@ in_one_piece-s-requires c =
 pub returns-then-s-words : goal.returns-then-s-words
 returns-then-s-words c =
     word_does (mem c.args.bytes.now c.args.keys.now c.args.order.now c.args.words.now) c.requires c.args.page c.args.address c.read_u256-word.ensures
-
-pub word_at-requires : goal.word_at-requires
-word_at-requires c =
-    slot_inside (mem c.args.bytes.now c.args.keys.now c.args.order.now c.args.words.now) c.requires c.args.page c.args.address c.in_one_piece-s.result (c.in_one_piece-s.ensures c.if-s-words.false)
 
 pub returns : goal.returns
 returns c =

@@ -4,17 +4,12 @@ use Rattle.store.specs.Mem.{mem}
 use Rattle.formed.proofs.Hints.{find_asked}
 use Rattle.abi.proofs.Statuses.{word_status}
 use Rattle.owned.proofs.Answers.{written_as}
-use Rattle.owned.proofs.Words.{slot_inside, piece_found, piece_does, word_wide}
+use Rattle.owned.proofs.Words.{piece_found, piece_does}
 use Rattle.owned.proofs.memory.own_write_u256.Goals as goal
 
 pub in_one_piece-s-requires : goal.in_one_piece-s-requires
 in_one_piece-s-requires c =
     find_asked (mem c.args.bytes.now c.args.keys.now c.args.order.now c.args.words.now) c.requires
-
-pub copy-requires : goal.copy-requires
-copy-requires c =
-    let w = word_wide _ _ c.to_big_endian-value.ensures.1 in
-    (omega (arith, w), slot_inside (mem c.args.bytes.now c.args.keys.now c.args.order.now c.args.words.now) c.requires c.args.page c.args.address c.in_one_piece-s.result (c.in_one_piece-s.ensures c.if-s-words.true))
 
 pub returns-then-has_no_journal : goal.returns-then-has_no_journal
 returns-then-has_no_journal c =
@@ -23,11 +18,6 @@ returns-then-has_no_journal c =
     (piece_does m c.requires c.args.page c.args.address c.in_one_piece-s.result (omega (arith, c.ranges.page)) (omega (arith, c.ranges.address)) c.if-s-words.true (c.in_one_piece-s.ensures c.if-s-words.true) (c.has_no_journal.ensures.0 c.if-has_no_journal.true)
     (value c.word_of.result.limbs) c.copy.new.dst c.copy.auto.dst (rw c.to_big_endian-value.ensures.1 at c.copy.ensures))
 
-pub overflow_add-t-then-s-words : goal.overflow_add-t-then-s-words
-overflow_add-t-then-s-words c =
-    let b = c.requires.lengths.chunks_hi in
-    omega (arith, c.if-s-words.true)
-
 pub write_found-requires : goal.write_found-requires
 write_found-requires c =
     piece_found (mem c.args.bytes.now c.args.keys.now c.args.order.now c.args.words.now) c.requires c.args.page c.args.address c.in_one_piece-s.result (omega (arith, c.ranges.page)) (omega (arith, c.ranges.address)) c.if-s-words.true (c.in_one_piece-s.ensures c.if-s-words.true)
@@ -35,11 +25,3 @@ write_found-requires c =
 pub returns-then-s-words : goal.returns-then-s-words
 returns-then-s-words c =
     word_status c.args.page c.args.address c.write_found.result c.word_of-word.ensures c.status.ensures c.write_found.ensures
-
-pub returns-then-address-le224 : goal.returns-then-address-le224
-returns-then-address-le224 c =
-    word_status c.args.page c.args.address c.write_searched.result c.word_of-word-2.ensures c.status-then-address-le224.ensures c.write_searched.ensures
-
-pub returns : goal.returns
-returns c =
-    word_status c.args.page c.args.address c.write_word.result c.word_of-word-2.ensures c.status-2.ensures c.write_word.ensures

@@ -1,26 +1,10 @@
 use Rattle.formed.proofs.Meaning.{well_formed_means}
-use Rattle.index.proofs.Logic.{passed, failed}
-use Rattle.abi.proofs.Executing.{lengths, unfit, ill, executes, load, load_is, no_stop}
+use Rattle.index.proofs.Logic.{passed}
+use Rattle.abi.proofs.Executing.{lengths, executes, load, load_is, no_stop}
 use Rattle.zincpapaya.proofs.execute.zp_load.Goals as goal
-
-pub returns-then-not-lengths_fit : goal.returns-then-not-lengths_fit
-returns-then-not-lengths_fit c =
-    unfit (failed c.lengths_fit.ensures c.if-not-lengths_fit.true)
-
-pub returns-then-not-well_formed : goal.returns-then-not-well_formed
-returns-then-not-well_formed c =
-    ill c.from.ensures (passed c.lengths_fit.ensures c.if-not-lengths_fit.false) (failed c.well_formed-2.ensures c.if-not-well_formed.true)
-
-pub frame_of-before-requires : goal.frame_of-before-requires
-frame_of-before-requires c =
-    (lengths c.args.frame.now c.args.registers.now (passed c.lengths_fit.ensures c.if-not-lengths_fit.false)).0
 
 pub load-run-requires : goal.load-run-requires
 load-run-requires c = record { well_formed = well_formed_means _ (passed c.well_formed-2.ensures c.if-not-well_formed.false); registers_len = (lengths c.args.frame.now c.args.registers.now (passed c.lengths_fit.ensures c.if-not-lengths_fit.false)).1 }
-
-pub report-requires : goal.report-requires
-report-requires c =
-    (lengths c.args.frame.now c.args.registers.now (passed c.lengths_fit.ensures c.if-not-lengths_fit.false)).0
 
 pub returns : goal.returns
 returns c =

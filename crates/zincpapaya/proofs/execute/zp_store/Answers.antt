@@ -1,24 +1,9 @@
-use mathlib.Core.Path.{refl}
 use lib.ListN.{length}
-use borrow.Author.Tests.{eq-eqb, ne_eqb}
+use borrow.Author.Tests.{eq-eqb}
 use Rattle.formed.proofs.Meaning.{well_formed_means}
-use Rattle.index.proofs.Logic.{passed, failed, and_both, and_false_right}
-use Rattle.abi.specs.Executing.{fit}
-use Rattle.abi.proofs.Executing.{and_false_left, lengths, unfit, ill, executes, store, store_is, stop_told, stop_kept}
+use Rattle.index.proofs.Logic.{passed, and_both}
+use Rattle.abi.proofs.Executing.{lengths, executes, store, store_is, stop_told, stop_kept}
 use Rattle.zincpapaya.proofs.execute.zp_store.Goals as goal
-
-pub returns-then-not-lengths_fit : goal.returns-then-not-lengths_fit
-returns-then-not-lengths_fit c = record { executes = unfit (and_false_left _ _ (failed c.lengths_fit.ensures c.if-not-lengths_fit.true)); out_unchanged = λ _. refl }
-
-pub returns-then-out-ne1 : goal.returns-then-out-ne1
-returns-then-out-ne1 c = record { executes = unfit (and_false_right (fit c.args.frame.now c.args.registers.now 65) _ (ne_eqb (length c.args.out.now) 1 c.if-out-ne1.true)); out_unchanged = λ _. refl }
-
-pub returns-then-not-well_formed : goal.returns-then-not-well_formed
-returns-then-not-well_formed c = record { executes = ill c.from.ensures (and_both _ _ (passed c.lengths_fit.ensures c.if-not-lengths_fit.false) (eq-eqb (length c.args.out.now) 1 c.if-out-ne1.false)) (failed c.well_formed-2.ensures c.if-not-well_formed.true); out_unchanged = λ _. refl }
-
-pub frame_of-before-requires : goal.frame_of-before-requires
-frame_of-before-requires c =
-    (lengths c.args.frame.now c.args.registers.now (passed c.lengths_fit.ensures c.if-not-lengths_fit.false)).0
 
 pub store-run-requires : goal.store-run-requires
 store-run-requires c = record { well_formed = well_formed_means _ (passed c.well_formed-2.ensures c.if-not-well_formed.false); registers_len = (lengths c.args.frame.now c.args.registers.now (passed c.lengths_fit.ensures c.if-not-lengths_fit.false)).1 }

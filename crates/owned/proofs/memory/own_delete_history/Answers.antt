@@ -1,6 +1,0 @@
-use Rattle.abi.proofs.Statuses.{call_status}
-use Rattle.owned.proofs.memory.own_delete_history.Goals as goal
-
-pub returns : goal.returns
-returns c =
-    call_status c.delete_history.result c.status.ensures c.delete_history.ensures

@@ -1,6 +1,0 @@
-use Rattle.abi.proofs.Statuses.{call_status}
-use Rattle.zincpapaya.proofs.memory.zp_allocate_at.Goals as goal
-
-pub returns : goal.returns
-returns c =
-    call_status c.allocate_at.result c.status.ensures c.allocate_at.ensures

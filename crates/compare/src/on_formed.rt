@@ -22,7 +22,7 @@ fn same_layout(left: &[u64], right: &[u64]) -> bool
     requires { (6 ≤ length left.now) × (6 ≤ length right.now) }
     ensures { result ≡ same_layout (layout_of left.now) (layout_of right.now) }
 {
-    (0..head::LAYOUT_LENGTH).all(|i| left[i] == right[i])
+    left[..head::LAYOUT_LENGTH] == right[..head::LAYOUT_LENGTH]
 }
 
 // The slot in which the page at entry e has the chunk that the key names, or the number of slots where it holds none.

@@ -3,4 +3,5 @@
 pub mod Halves
 pub mod Meaning
 pub mod Walk
+pub mod Bytes
 pub mod Answers

@@ -22,7 +22,7 @@ fn same_layout(left: &[u64], right: &[u64]) -> bool
     requires { (6 ≤ length left.now) × (6 ≤ length right.now) }
     ensures { result ≡ same_layout (layout_of left.now) (layout_of right.now) }
 {
-    (0..head::LAYOUT_LENGTH).all(|i| left[i] == right[i])
+    left[..head::LAYOUT_LENGTH] == right[..head::LAYOUT_LENGTH]
 }
 
 // The slot in which the page at entry e has the chunk that the key names, or the number of slots where it holds none.
@@ -34,23 +34,17 @@ fn slot_beside(keys: &[u64], order: &[u32], words: &[u64], e: usize, key: u64) -
     store::slot_at_entry(keys, order, words, e, store::key_chunk(key))
 }
 
-// Byte j of slot t, or 0 where there is no such slot.
-fn byte_beside(bytes: &[u8], slots: usize, t: usize, j: usize) -> u8
-    requires { (256 * slots ≤ length bytes.now) × (j < 256) }
-    ensures { result ≡ get_or (take (256 * slots) bytes.now) (256 * t + j) 0 }
-{
-    if t >= slots {
-        return 0;
-    }
-    bytes[256 * t + j]
-}
-
 // Whether slot s of the left memory has the bytes of slot t of the right one, or zeros where there is no such slot.
 fn same_chunk(left_bytes: &[u8], s: usize, right_bytes: &[u8], right_slots: usize, t: usize) -> bool
     requires { (256 * s + 256 ≤ length left_bytes.now) × (256 * right_slots ≤ length right_bytes.now) }
     ensures { result ≡ all (λ j. eqb (get_or left_bytes.now (256 * s + j) 0) (get_or (take (256 * right_slots) right_bytes.now) (256 * t + j) 0)) 256 }
 {
-    (0..256).all(|j| left_bytes[256 * s + j] == byte_beside(right_bytes, right_slots, t, j))
+    let left = &left_bytes[256 * s..256 * s + 256];
+    if t < right_slots {
+        left == &right_bytes[256 * t..256 * t + 256]
+    } else {
+        formed::slot::all_zero(left)
+    }
 }
 
 // Whether the right memory has every page that the left one has allocated, and the bytes of every chunk that the left one holds.

@@ -3,7 +3,7 @@
 // Stays: the lent buffers are parameters side by side. These functions are called with `&mut` buffers in hand, and most read two or three of the four.
 #![tactic(auto)]
 
-ghost use Rattle.std.specs.Prelude.{◌≡◌, true, false, ℕ, ◌+◌, ◌/◌, ◌%◌, ◌<◌, ◌≤◌, ◌^◌, ltb, length, drop};
+ghost use Rattle.std.specs.Prelude.{◌≡◌, true, false, ℕ, ◌+◌, ◌-◌, ◌/◌, ◌%◌, ◌<◌, ◌≤◌, ◌^◌, ltb, length, drop};
 ghost use Rattle.index.specs.Index.{seek};
 ghost use Rattle.outcome.specs.Outcome.{status_of};
 ghost use Rattle.view.specs.Calls.{first_refusal};
@@ -24,6 +24,15 @@ use outcome::Refusal;
 use page_ids::{Address, DecodedPage, PageId};
 use store::head;
 
+// How many parts of SIZE bytes n bytes at an address touch, of which there is one at least.
+fn parts<const SIZE: u64>(address: Address, n: usize) -> u64
+    requires { (address.0 + n < 2 ^ 64) × (0 < n) × (0 < SIZE) }
+    ensures { result ≡ (address.0 + (n - 1)) / SIZE - address.0 / SIZE + 1 }
+{
+    let first = address.0 as u64;
+    (first + (n as u64 - 1)) / SIZE - first / SIZE + 1
+}
+
 // How many chunks n bytes at an address touch.
 pub fn touched(address: Address, n: usize) -> u64
     requires { address.0 + n < 2 ^ 64 }
@@ -32,8 +41,7 @@ pub fn touched(address: Address, n: usize) -> u64
     if n == 0 {
         return 0;
     }
-    let first = address.0 as u64;
-    (first + (n as u64 - 1)) / 256 - first / 256 + 1
+    parts::<256>(address, n)
 }
 
 // How many aligned words they touch.
@@ -44,8 +52,7 @@ pub fn aligned(address: Address, n: usize) -> u64
     if n == 0 {
         return 0;
     }
-    let first = address.0 as u64;
-    (first + (n as u64 - 1)) / 32 - first / 32 + 1
+    parts::<32>(address, n)
 }
 
 pub fn is_allocated(bytes: &[u8], keys: &[u64], order: &[u32], words: &[u64], page: PageId) -> bool
@@ -345,7 +352,7 @@ pub fn allocate_refusal(
     let Some(decoded) = decode(words, page) else {
         return Err(Refusal::Undecodable);
     };
-    if page_ids::is_fixed(decoded) {
+    if page_ids::is_fixed(Some(decoded)) {
         return Err(Refusal::Fixed);
     }
     if is_allocated(bytes, keys, order, words, page) {

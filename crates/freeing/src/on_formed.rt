@@ -28,7 +28,7 @@ fn free_refusal(
     let Some(decoded) = checks::decode(words, page) else {
         return Err(Refusal::Undecodable);
     };
-    if page_ids::is_fixed(decoded) {
+    if page_ids::is_fixed(Some(decoded)) {
         return Err(Refusal::Fixed);
     }
     if !checks::is_allocated(bytes, keys, order, words, page) {
@@ -60,7 +60,7 @@ fn is_dynamic(bytes: &[u8], keys: &[u64], order: &[u32], words: &[u64], page: Pa
     let Some(decoded) = checks::decode(words, page) else {
         return false;
     };
-    !page_ids::is_fixed(decoded) && checks::is_allocated(bytes, keys, order, words, page)
+    !page_ids::is_fixed(Some(decoded)) && checks::is_allocated(bytes, keys, order, words, page)
 }
 
 pub fn compact_to_window(

@@ -2,7 +2,7 @@
 // vm2: page_ids.rs, and `DecodedPage` of heap.rs. Its constants are the six numbers of a `Layout` here.
 #![tactic(auto)]
 
-ghost use Rattle.std.specs.Prelude.{◌≡◌, Some};
+ghost use Rattle.std.specs.Prelude.{◌≡◌};
 ghost use Rattle.page_ids.specs.Arithmetic.{page_outcome, base_outcome, code_page, first_base, sum, difference};
 ghost use Rattle.page_ids.specs.Decode.{bad_layout, page_of, kind_number, group_number, is_fixed, decoding_outcome, by_remainder, decoded, decoding};
 
@@ -95,10 +95,13 @@ pub fn group_number(page: Option<DecodedPage>) -> u32
 }
 
 // vm2: `is_always_allocated`.
-pub fn is_fixed(page: DecodedPage) -> bool
-    ensures { result ≡ is_fixed (page_of (Some page)) }
+pub fn is_fixed(page: Option<DecodedPage>) -> bool
+    ensures { result ≡ is_fixed (page_of page) }
 {
-    !matches!(page, DecodedPage::Dynamic(_, _))
+    match page {
+        Some(decoded) => !matches!(decoded, DecodedPage::Dynamic(_, _)),
+        None => false,
+    }
 }
 
 // What a page id stands for. A layout that opened a memory has been tested; of any other only the stride 0 is excluded here.
@@ -145,6 +148,7 @@ pub fn decode(layout: Layout, page: PageId) -> Result<Option<DecodedPage>, Refus
 }
 
 // The page `offset` past a base, or 4 where that leaves 32 bits.
+// Stays: a function of its own beside `next_page_group`. A sum that both share would be matched in each again, to make a page of the one and a base of the other.
 fn page_from_base(base: u32, offset: u32) -> Result<PageId, Refusal>
     ensures { page_outcome result ≡ sum base offset }
 {

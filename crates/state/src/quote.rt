@@ -24,8 +24,8 @@ fn walk(list: &[u32], gas: u32, bound: u32) -> RunEnd
 {
     let mut left = gas;
     let mut reached = bound;
-    for i in 0..list.len() {
-        let grown = access(left, reached, Address(list[i]));
+    for (i, &address) in list.iter().enumerate() {
+        let grown = access(left, reached, Address(address));
         left = grown.gas;
         reached = grown.bound;
         if !grown.paid {

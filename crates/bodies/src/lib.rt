@@ -63,6 +63,7 @@ fn piece(address: u64, left: usize) -> usize
 }
 
 // The slot of a chunk of a page; `last` is the slot of the chunk before it, or at least the number of slots. Chunks that follow each other often have slots that do.
+// Stays: the number of slots stands for none, as in `store`.
 fn place_after(
     keys: &[u64],
     order: &[u32],
@@ -97,7 +98,7 @@ pub fn write_from(
 {
     let mut pos = 0;
     let mut last = words[head::CHUNKS] as usize;
-    // Stays: `pos` goes on by a piece, the first of which is cut off at its chunk's end, and gives the address too; a rest of `src` that shrinks would need it besides.
+    // Stays: the new form is no plainer. `pos` goes on by a piece, the first of which is cut off at its chunk's end, and gives the address too; a rest of `src` that shrinks would need it besides.
     while pos < src.len() {
         let abs = address.0 as u64 + pos as u64;
         let s = place_after(keys, order, words, page, (abs / 256) as u32, last);

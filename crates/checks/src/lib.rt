@@ -1,6 +1,6 @@
 // Which refusal a write to a well-formed memory or an allocation in it gets, if any: the tests in the order of 01's table.
 // How much of a range of chunks is known to be held, and the rank of the next one.
-// Stays: the lent buffers are parameters side by side. These functions are called with `&mut` buffers in hand, and most read two or three of the four.
+// Stays: the lent buffers are parameters side by side. A struct of four `&` is no plainer: callers have `&mut` buffers in hand and would build it for each call, most functions read two or three of the four, and an `ensures` would say `memory.entry.keys.now` for `keys.now`.
 #![tactic(auto)]
 
 ghost use Rattle.std.specs.Prelude.{◌≡◌, true, false, ℕ, ◌+◌, ◌-◌, ◌/◌, ◌%◌, ◌<◌, ◌≤◌, ◌^◌, ltb, length, drop};
@@ -65,6 +65,7 @@ pub fn is_allocated(bytes: &[u8], keys: &[u64], order: &[u32], words: &[u64], pa
 
 // ---- a range of chunks is located
 // The slot of a chunk whose key is k: `guess`, if that slot has the key, or the one that a hint names. An answer of at least the number of slots says nothing.
+// Stays: the number of slots stands for none, as in `store`.
 fn known_slot(
     keys: &[u64],
     order: &[u32],
@@ -111,6 +112,7 @@ fn known_run(
 }
 
 // What is known of a range of chunks: those before `chunk` are held. `rank` is the rank of the key of `chunk`, unless the range ends there.
+// Stays: `rank` means nothing where the range ends. An Option is no plainer: its callers know whether the range ends there from `chunk`.
 #[derive(Clone, Copy)]
 pub struct Located {
     pub chunk: u32,

@@ -1,6 +1,6 @@
 // Whether two lent memories are equal: every page has equal bytes, and the same pages are allocated.
 // The call tests first that both are well formed (refusal 3); `on_formed` has what is left of it.
-// Stays: the lent buffers are parameters side by side. The C interface lends four, and the theorem `Demand` (lists/specs) names them one by one.
+// Stays: the lent buffers are parameters side by side. The C interface lends four, and `Went` (lists/specs), by which the theorem `Demand` takes a call's arguments, has them by their places.
 #![tactic(auto)]
 
 ghost use Rattle.std.specs.Prelude.{◌≡◌};

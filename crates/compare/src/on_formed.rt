@@ -1,4 +1,5 @@
 // The comparison of two memories that are known to be well formed: what is left of the call after its two tests.
+// Stays: the lent buffers are parameters side by side, for the reason that lib.rt has.
 ghost use Rattle.std.specs.Prelude.{◌≡◌, ◌+◌, ◌*◌, ◌<◌, ◌≤◌, eqb, length, get_or, take};
 ghost use Rattle.index.specs.Index.{all};
 ghost use Rattle.store.specs.Keys.{key_chunk};

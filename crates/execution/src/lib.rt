@@ -51,6 +51,7 @@ pub struct Execution {
 }
 
 // What the step of a pointer load returns beside it: how many bytes of the pointer's range lead the word. A panic or a refusal has none.
+// Stays: a number beside the execution. A panic or a refusal is promised to have 0 (`PointerRuns.none`).
 #[derive(Clone, Copy)]
 pub struct PointerExecution {
     pub execution: Execution,

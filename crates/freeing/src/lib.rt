@@ -1,5 +1,6 @@
 // Pages freed, shrunk to a window, and cut off by truncation. A call tests first that the memory is well formed (refusal 3); `on_formed` has what is left of it.
-// Stays: the lent buffers are parameters side by side. The C interface lends four, and the theorem `Demand` (lists/specs) names them one by one.
+// Stays: the lent buffers are parameters side by side. The C interface lends four, and `Went` (lists/specs), by which the theorem `Demand` takes a call's arguments, has them by their places.
+// Stays: each call makes the test of the memory itself. A function that makes it and calls a closure is no plainer: it would be handed the buffers, some as `&` and some as `&mut`.
 #![tactic(auto)]
 
 ghost use Rattle.outcome.specs.Outcome.{answer_outcome};

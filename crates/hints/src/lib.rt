@@ -1,5 +1,5 @@
 // What one hint tells of a word: the lookup of the fast functions in `owned`.
-// Stays: the lent buffers are parameters side by side. These functions are called with `&mut` buffers in hand, and most read two or three of the four.
+// Stays: the lent buffers are parameters side by side. A struct of four `&` is no plainer: callers have `&mut` buffers in hand and would build it for each call, most functions read two or three of the four, and an `ensures` would say `memory.entry.keys.now` for `keys.now`.
 #![tactic(auto)]
 
 ghost use Rattle.std.specs.Prelude.{◌≡◌, true, false, ◌+◌, ◌<◌, ◌≤◌, length, get_or};
@@ -13,6 +13,7 @@ use store::head;
 
 // The slot in which the word at an address begins, if a hint names it and the word lies in one piece: in one chunk, or in two whose slots follow each other. Any other answer is at least the number of slots, and says nothing.
 // A page that grew without others between has its chunks in slots that follow each other.
+// Stays: the number of slots stands for none, as in `store`.
 pub fn in_one_piece(
     keys: &[u64],
     order: &[u32],

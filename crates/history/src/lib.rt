@@ -1,5 +1,6 @@
 // The history of the bootloader pages: rollback to a snapshot, and deletion. A call tests first that the memory is well formed (refusal 3); `on_formed` has what is left of it.
 // Stays: the lent buffers are parameters side by side. A rollback lends keys and order as `&`, and bytes and words as `&mut`, so no struct of four `&mut` can be made of them.
+// Stays: each call makes the test of the memory itself. A function that makes it and calls a closure is no plainer: it would be handed the buffers, some as `&` and some as `&mut`.
 #![tactic(auto)]
 
 ghost use Rattle.outcome.specs.Outcome.{answer_outcome};

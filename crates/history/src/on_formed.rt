@@ -1,4 +1,5 @@
 // Rollback and deletion in a memory that is known to be well formed: what is left of each call after the test.
+// Stays: the lent buffers are parameters side by side, for the reason that lib.rt has.
 ghost use Rattle.std.specs.Prelude.{◌≡◌};
 ghost use Rattle.outcome.specs.Outcome.{answer_outcome, status_of};
 ghost use Rattle.store.specs.Mem.{mem};

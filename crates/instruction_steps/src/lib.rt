@@ -87,6 +87,7 @@ pub fn load_pointer(
     }
 }
 
+// Stays: a function of its own beside `load`. They differ in the page and in what is paid, which is all that they say.
 pub fn load_static(
     bytes: &[u8],
     keys: &[u64],
@@ -103,6 +104,7 @@ pub fn load_static(
     execution::load_at(bytes, keys, order, words, page, operand, step)
 }
 
+// Stays: a function of its own beside `store`, for the same reason.
 pub fn store_static(
     bytes: &mut [u8],
     keys: &mut [u64],

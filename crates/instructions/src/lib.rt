@@ -1,6 +1,7 @@
 // The five heap instructions. Each takes its operands from the registers and writes its results there, as its places say.
 // It tests first that the memory is well formed (refusal 3); `on_formed` has what is left of it. vm2: heap_access.rs.
 // Stays: the lent buffers are parameters side by side. As one struct of four `&`, tried, a sequential load of an owned memory takes 1.12 times as long, which misses its bar.
+// Stays: each instruction makes the test of the memory itself. A function that makes it and calls a closure is no plainer: it would be handed the buffers, some as `&` and some as `&mut`.
 #![tactic(auto)]
 
 ghost use Rattle.registers.specs.Registers.{registers_from};

@@ -1,5 +1,6 @@
 // Each instruction on a memory that is known to be well formed: what is left of it after the test.
 // It is refused where a place is not one that it takes (16). Otherwise it reads its operands, makes its step, and writes the results back.
+// Stays: the lent buffers are parameters side by side, for the reason that lib.rt has.
 ghost use Rattle.std.specs.Prelude.{◌≡◌, length};
 ghost use Rattle.registers.specs.Registers.{registers_from};
 ghost use Rattle.store.specs.Mem.{mem};

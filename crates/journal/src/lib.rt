@@ -64,6 +64,7 @@ pub fn note_found(
 }
 
 // The slot of a chunk of the page at entry e: `guess` or the slot after it, if that has the chunk's key, or else by search.
+// Stays: the number of slots stands for none, as in `store`.
 fn slot_near(
     keys: &[u64],
     order: &[u32],

@@ -69,6 +69,7 @@ fn by_remainder(remainder: u32, group: u32) -> Option<DecodedPage>
 }
 
 // The number of a page's kind, 7 where it is undecodable: what the C interface tells of a page.
+// Stays: a number for a kind: the C interface.
 pub fn kind_number(page: Option<DecodedPage>) -> u32
     ensures { result ≡ kind_number (page_of page) }
 {
@@ -85,6 +86,7 @@ pub fn kind_number(page: Option<DecodedPage>) -> u32
 }
 
 // The group of a page, 0 where it has none.
+// Stays: 0 for no group: the C interface.
 pub fn group_number(page: Option<DecodedPage>) -> u32
     ensures { result ≡ group_number (page_of page) }
 {

@@ -1,6 +1,7 @@
 // Reads of a lent memory. A call tests first that the memory is well formed (refusal 3); `on_formed` has what is left of it.
 // vm2: the reading half of `Heaps`.
-// Stays: the lent buffers are parameters side by side. The C interface lends four, and the theorem `Demand` (lists/specs) names them one by one.
+// Stays: the lent buffers are parameters side by side. The C interface lends four, and `Went` (lists/specs), by which the theorem `Demand` takes a call's arguments, has them by their places.
+// Stays: each read makes the test of the memory itself. A function that makes it and calls a closure is no plainer: it would be handed the buffers, some as `&` and some as `&mut`.
 #![tactic(auto)]
 
 ghost use Rattle.std.specs.Prelude.{◌≡◌, [], ◌-◌, length};
@@ -126,6 +127,7 @@ pub fn snapshot(bytes: &[u8], keys: &[u64], order: &[u32], words: &[u64]) -> Res
 
 // The bytes of a chunk, held or not; an empty part where the lookup is refused. `chunk_check` says why.
 // The contract leaves open which of the two slices a part of zeros belongs to.
+// Stays: an empty part is the refusal, and `chunk_check` says which, as 01 has the lookup (`shown_of`, `Rules.lookup`).
 pub fn chunk<'a>(
     bytes: &'a [u8],
     keys: &[u64],

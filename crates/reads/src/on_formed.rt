@@ -1,4 +1,5 @@
 // Each read of a memory that is known to be well formed: what is left of the call after the test.
+// Stays: the lent buffers are parameters side by side. A struct of four `&` is no plainer here: both callers have the four in hand, as C lends them, and `read_steps` takes four.
 ghost use Rattle.std.specs.Prelude.{◌≡◌, ◌&&◌, [], ◌-◌, eqb, length};
 ghost use Rattle.outcome.specs.Outcome.{unit_outcome};
 ghost use Rattle.word.specs.Value.{value, big_endian};

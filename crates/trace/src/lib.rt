@@ -11,6 +11,7 @@ ghost use Rattle.trace.specs.Reading.{fields_left, before, Decimals, word_number
 use word::Word;
 
 // The counts of a memory.
+// Stays: no `opening::Capacity`, since a line is read in a crate that knows no memory.
 #[derive(Clone, Copy)]
 pub struct Counts {
     pub chunks: u32,

@@ -34,7 +34,7 @@ pub struct Buffers {
 }
 
 // ---- the calls, of a memory in just these buffers
-// Stays: they take four parts of the space, and no struct, as the library's calls do.
+// Stays: they take four parts of the space side by side. A struct is no plainer, since the library's calls take four.
 
 fn said(answer: Result<(), Refusal>) -> Reply
     ensures { reply_of result ≡ reported (answer_outcome nothing answer) }

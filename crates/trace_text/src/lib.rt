@@ -17,6 +17,7 @@ pub enum Reply {
     // The lengths of the heap journal and of the aux journal.
     Marks { heap: u32, aux: u32 },
     // The number of the refusal.
+    // Stays: a number, since its text is one, whatever refusal it has (`Reported.refused`).
     Refused(u32),
 }
 

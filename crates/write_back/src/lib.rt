@@ -23,6 +23,7 @@ pub struct Executed {
 }
 
 // What a pointer load returns: beside that, how many bytes of the pointer's range lead the word. A panic or a refusal has none.
+// Stays: a number beside what was executed, as in `PointerExecution`.
 #[derive(Clone, Copy)]
 pub struct PointerExecuted {
     pub executed: Executed,

@@ -111,7 +111,7 @@ fn equal(
     requires well_formed_2 { WellFormed (mem right_bytes.now right_keys.now right_order.now right_words.now) }
     ensures { result ≡ alike (view_of (mem left_bytes.now left_keys.now left_order.now left_words.now)) (view_of (mem right_bytes.now right_keys.now right_order.now right_words.now)) }
 {
-    if covered(
+    covered(
         left_bytes,
         left_keys,
         left_order,
@@ -120,19 +120,16 @@ fn equal(
         right_keys,
         right_order,
         right_words,
-    ) {
-        return covered(
-            right_bytes,
-            right_keys,
-            right_order,
-            right_words,
-            left_bytes,
-            left_keys,
-            left_order,
-            left_words,
-        );
-    }
-    false
+    ) && covered(
+        right_bytes,
+        right_keys,
+        right_order,
+        right_words,
+        left_bytes,
+        left_keys,
+        left_order,
+        left_words,
+    )
 }
 
 pub fn compare(

@@ -4,36 +4,32 @@ use mathlib.Core.Path.{◌≡◌, refl, sym, ap, ◌∙◌, subst}
 use mathlib.Core.Bool.{Bool, true, false, not, ◌&&◌, false≢true}
 use mathlib.Core.List.{List, [], ◌∷◌, ◌++◌}
 use mathlib.Core.Logic.{◌⊎◌, ⊎_elim}
-use Prim.Native.Nat.{ℕ, zero, suc, ◌<◌}
+use Prim.Native.Nat.{ℕ, suc, ◌<◌}
 use native.Mathlib.Omega.{arith}
 use lib.Dec.{eqb, ltb}
 use lib.ListN.{length, get_or}
 use borrow.Author.Tests.{ne_eqb, eqb-true, ltb-true}
 use Rattle.index.proofs.Logic.{and_left, and_right}
-use Rattle.outcome.specs.Outcome.{Outcome, refused, panicked, done, first_of, answered, number_of}
+use Rattle.outcome.specs.Outcome.{Outcome, refused, panicked, done, first_of, number_of}
 use Rattle.outcome.specs.declared.Refusal.{Refusal}
 use Rattle.registers.specs.declared.LoadPlaces.{LoadPlaces}
 use Rattle.registers.specs.declared.StorePlaces.{StorePlaces}
 use Rattle.registers.specs.Registers.{Registers, registers_from, register_number, source_of, value_of, load_takes, pointer_takes, store_takes}
 use Rattle.state.specs.declared.Frame.{Frame}
 use Rattle.state.specs.declared.Area.{Area}
-use Rattle.state.specs.declared.FrameStep.{FrameStep}
 use Rattle.store.specs.Mem.{Mem}
 use Rattle.formed.specs.Formed.{well_formed}
 use Rattle.view.specs.View.{setting_of, view_of}
 use Rattle.view.specs.Checks.{Check, word_write_checks}
 use Rattle.view.specs.Instructions.{Hook, InstructionResult, Executed, Stop, running, on_hook, heap_of, hooked, place_checks, panicked_into, loaded_into, stored_into, access_checks, loaded, store_checks, stored, pointer_checks, pointed, static_checks, static_loaded, static_store_checks, static_stored}
 use Rattle.view.specs.Calls.{Call, Value, Load, Store, LoadPointer, LoadStatic, StoreStatic, executed, pointer_loaded, answer_of, CallDoes}
-use Rattle.view.proofs.Refused.{ill_does}
 use Rattle.execution.specs.declared.ExecutionStatus.{ExecutionStatus}
 use Rattle.execution.specs.declared.ExecutionStatus.TheVariants.{Running, SuspendedOnHook, Panicked, Refused}
 use Rattle.write_back.specs.declared.Executed as code
 use Rattle.write_back.specs.declared.PointerExecuted.{PointerExecuted}
 use Rattle.write_back.specs.Runs.{ended_with, outcome_with, RunsWith, Runs, PointerRuns}
-use Rattle.frames.specs.Frames.{bit, flag, frame_from, frame_numbers, grown_numbers}
+use Rattle.frames.specs.Frames.{bit, flag, frame_from, frame_numbers}
 use Rattle.abi.specs.Executing.{fit, outcome_from, pointer_value, executed_status, frame_after, stop_value, read_value, ReportsExecuted, ExecutesWith, Executes, PointerExecutes}
-use Rattle.abi.specs.Interface.{Gives}
-use Rattle.abi.specs.Numbers.{as_they_are, Grows}
 
 -- ---- an outcome that a status is enough for: a refusal's number is none of 0, 100, 101; P says which stops there are
 data Reportable (P : Stop → Type 0) : Outcome Value → Type 0 where
@@ -212,31 +208,11 @@ module _ (value : Executed → Value) (tells : TellsStop value) (P : Stop → Ty
       }
 
 -- ---- the contract
-pub and_false_left : (a b : Bool) → a ≡ false → (a && b) ≡ false
-and_false_left a b e = rw e
-
 -- the lengths that a fit frame and other numbers have
 pub lengths : (frame others : List ℕ) {n : ℕ} → fit frame others n ≡ true → (length frame ≡ 6) × (length others ≡ n)
 lengths frame others {n} e = (eqb-true (length frame) 6 (and_left _ _ e), eqb-true (length others) n (and_right (eqb (length frame) 6) _ e))
 
 module _ {value : Executed → Value} {m : Mem} {c : Call} {frame l : List ℕ} {fits : Bool} {h : ℕ} where
-  pub unfit : fits ≡ false → ExecutesWith value m c frame l fits 102 h m frame l
-  unfit e = record {
-    unfit = λ _. (refl, (refl, (refl, refl)));
-    does = λ q. absurd (false≢true (sym e ∙ q));
-    kept = λ _ _ _. (refl, refl);
-    frame_numbers_lem = λ q. absurd (none (λ z. omega arith) (λ z. omega arith) (λ z. omega arith) q);
-  }
-
-  -- on a memory that is not well formed
-  pub ill : {r : ℕ} → r ≡ 3 → fits ≡ true → well_formed m ≡ false → ExecutesWith value m c frame l fits r h m frame l
-  ill q e w = subst (λ (r : ℕ). ExecutesWith value m c frame l fits r h m frame l) (sym q) (record {
-    unfit = λ z. absurd (false≢true (sym z ∙ e));
-    does = λ _. ill_does m c w;
-    kept = λ _ _ _. (refl, refl);
-    frame_numbers_lem = λ z. absurd (none (λ x. omega arith) (λ x. omega arith) (λ x. omega arith) z);
-  })
-
   -- d is the call as it was made, with the frame f
   executes_with : TellsStop value → fits ≡ true → (i : Instruction c) → {d : Call} → d ≡ c → {f : Frame} {m' : Mem} {l' : List ℕ} (x : code.Executed) → RunsWith value m d f l x m' l'
       → {r : ℕ} {frame' : List ℕ} → ReportsExecuted x frame r frame' → ((k : ℕ) → x.status ≡ SuspendedOnHook k → Stops i (on_hook k) → h ≡ k) → ExecutesWith value m c frame l fits r h m' frame' l'
@@ -313,23 +289,6 @@ read_kept Running n out e q z = absurd (z q)
 read_kept (SuspendedOnHook k) n out e q z = e
 read_kept Panicked n out e q z = e
 read_kept (Refused k) n out e q z = e
-
--- ---- a growth
-module _ {frame out : List ℕ} {step : FrameStep} where
-  pub grow_unfit : fit frame out 1 ≡ false → Grows frame out step 102 frame out
-  grow_unfit h = record { unfit = λ _. (refl, (refl, refl)); answer = λ e. absurd (false≢true (sym h ∙ e)) }
-
-  pub grows : fit frame out 1 ≡ true → {s : FrameStep} → s ≡ step → {r b : ℕ} {frame' out' : List ℕ} → frame' ≡ grown_numbers frame s.frame → Gives 1 (done (b ∷ [])) as_they_are r out out' → b ≡ bit s.paid → Grows frame out step r frame' out'
-  grows fits q {r} {b} {out' = out'} e g p = record {
-    unfit = λ h. absurd (false≢true (sym h ∙ fits));
-    answer = λ _.
-        let h = answered_is r (g.answer (lengths frame out fits).1) in
-        (h.0, (e ∙ ap (λ (x : FrameStep). grown_numbers frame x.frame) q, h.1 ∙ ap (λ (x : ℕ). x ∷ []) p ∙ ap (λ (x : FrameStep). bit x.paid ∷ []) q));
-  }
-    where
-      answered_is : (k : ℕ) → answered k out' ≡ done (b ∷ []) → (k ≡ 0) × (out' ≡ b ∷ [])
-      answered_is zero w = (refl, cc)
-      answered_is (suc k) w = absurd (let z : ◌≡◌ {A = ℕ} 0 1 = cc in omega arith)
 
 -- ---- the calls as they are made
 pub load_is : {area area' : Area} {f f' : Frame} {g : Registers} {p p' : LoadPlaces} → area ≡ area' → f ≡ f' → p ≡ p' → Load area f g p ≡ Load area' f' g p'

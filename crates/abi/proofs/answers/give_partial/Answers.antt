@@ -8,6 +8,3 @@ use Rattle.abi.proofs.answers.give_partial.Goals as goal
 
 pub returns-in-Ok : goal.returns-in-Ok
 returns-in-Ok c = gives_as partial_at c.give.ensures (ap done (partial_told c.in-Ok.read.word.limbs c.wide-count.ensures) ∙ sym (ap partial_outcome c.in-Ok.is))
-
-pub returns-in-Err : goal.returns-in-Err
-returns-in-Err c = gives_as partial_at c.give-in-Err.ensures (sym (ap partial_outcome c.in-Err.is))

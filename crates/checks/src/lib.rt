@@ -200,10 +200,7 @@ fn short_of_chunk(
     requires { (WellFormed (mem bytes.now keys.now order.now words.now)) × (s ≡ slot_of_chunk (mem bytes.now keys.now order.now words.now) page.0 chunk) }
     ensures { result ≡ ltb (view_of (mem bytes.now keys.now order.now words.now)).pool (missing ((view_of (mem bytes.now keys.now order.now words.now)).held page.0) chunk 1) }
 {
-    if s < words[head::CHUNKS] as usize {
-        return false;
-    }
-    !pool::has_pooled(words, 1)
+    s >= words[head::CHUNKS] as usize && !pool::has_pooled(words, 1)
 }
 
 // 11: w more words do not fit the page's journal.

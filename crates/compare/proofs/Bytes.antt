@@ -1,7 +1,7 @@
 -- Numbers compared as slices, and one by one.
 -- Assumes nothing.
 use mathlib.Core.Path.{◌≡◌, sym, ap, ◌∙◌}
-use mathlib.Core.Bool.{Bool, true}
+use mathlib.Core.Bool.{Bool}
 use mathlib.Core.List.{List}
 use Prim.Native.Nat.{ℕ, ◌+◌, ◌*◌, ◌-◌, ◌≤◌, ◌<◌}
 use native.Mathlib.Omega.{arith}
@@ -14,7 +14,7 @@ use Rattle.std.proofs.lemmas.Slice.Eq.{bytes_eq-Decides}
 use Rattle.index.specs.Index.{all}
 use Rattle.index.proofs.All.{all_at, all_intro}
 use Rattle.index.proofs.Logic.{both_ways}
-use Rattle.formed.specs.Formed.{zeros, chunk}
+use Rattle.formed.specs.Formed.{zeros}
 use Rattle.formed.proofs.Slots.{chunk_zero, zero_chunk}
 
 -- n numbers on each side: f j and g j at j
@@ -39,14 +39,20 @@ module _ (bs ds : List ℕ) (s c t : ℕ) where
   cut_at : (xs : List ℕ) (a j : ℕ) → j < 256 → get_or (take 256 (drop a xs)) j 0 ≡ get_or xs (a + j) 0
   cut_at xs a j l = get_or-take 256 (drop a xs) j 0 l ∙ get_or-drop a xs j 0
 
-  pub chunk_beside : 256 * s + 256 ≤ length bs → 256 * c ≤ length ds → t < c → bytes_eq (take 256 (drop (256 * s) bs)) (take 256 (drop (256 * t) ds)) ≡ all byte_same 256
-  chunk_beside k l h =
-      same_numbers _ _ _ _ 256 (cut_long bs (256 * s) k) (cut_long ds (256 * t) (omega arith)) (cut_at bs (256 * s))
-      (λ j u. cut_at ds (256 * t) j u ∙ sym (get_or-take (256 * c) ds (256 * t + j) 0 (omega arith)))
+  wide : (a : ℕ) → a + 256 - a ≡ 256
+  wide a = omega arith
 
-  pub zeros_beside : 256 * c ≤ length ds → c ≤ t → zeros (take 256 (drop (256 * s) bs)) ≡ all byte_same 256
+  pub chunk_beside : 256 * s + 256 ≤ length bs → 256 * c ≤ length ds → t < c
+      → bytes_eq (take (256 * s + 256 - 256 * s) (drop (256 * s) bs)) (take (256 * t + 256 - 256 * t) (drop (256 * t) ds)) ≡ all byte_same 256
+  chunk_beside k l h =
+      rw (wide (256 * s), wide (256 * t))
+      (same_numbers _ _ _ _ 256 (cut_long bs (256 * s) k) (cut_long ds (256 * t) (omega arith)) (cut_at bs (256 * s))
+      (λ j u. cut_at ds (256 * t) j u ∙ sym (get_or-take (256 * c) ds (256 * t + j) 0 (omega arith))))
+
+  pub zeros_beside : 256 * c ≤ length ds → c ≤ t → zeros (take (256 * s + 256 - 256 * s) (drop (256 * s) bs)) ≡ all byte_same 256
   zeros_beside l h =
       let none : (j : ℕ) → get_or (take (256 * c) ds) (256 * t + j) 0 ≡ 0 = λ j. get_or-eq_default (take (256 * c) ds) 0 (let w = length-take-le (256 * c) ds l in omega arith) in
-      both_ways _ _
+      rw (wide (256 * s))
+      (both_ways _ _
       (λ z. all_intro byte_same 256 (λ j u. eq-eqb _ _ (chunk_zero bs s z j u ∙ sym (none j))))
-      (λ a. zero_chunk bs s (λ j u. eqb-true _ _ (all_at byte_same 256 j a u) ∙ none j))
+      (λ a. zero_chunk bs s (λ j u. eqb-true _ _ (all_at byte_same 256 j a u) ∙ none j)))

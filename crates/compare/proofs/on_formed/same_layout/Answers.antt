@@ -1,4 +1,4 @@
-use Rattle.std.proofs.Common.{◌∙◌, arith, get_or, take}
+use Rattle.std.proofs.Common.{◌∙◌, get_or, take}
 use lib.Seq.{get_or-take, length-take-le}
 use Rattle.compare.proofs.Answers.{layout_is}
 use Rattle.compare.proofs.Bytes.{same_numbers}

@@ -86,7 +86,7 @@ def module(text, library, name, prefix):
         if kept and ghost:
             ghosts += f"ghost use {path}.{{{', '.join(kept)}}};\n"
         elif kept:
-            uses.append((path, kept))
+            uses.append((re.sub(r"^crate\b", library, path), kept))
     own = [it for it in re.findall(r"^pub (?:struct|enum) (\w+)", text, re.M) if named(types, it)]
     if own:
         uses.append((f"{library}::{name}", own))
@@ -98,11 +98,14 @@ def module(text, library, name, prefix):
 def written(crate, library, prefix, about):
     """The files of a crate's src/."""
     src = f"crates/{library}/src"
-    names = sorted(it[:-3] for it in os.listdir(src) if it.endswith(".rt") and it != "lib.rt")
-    out = {}
-    for name in names:
+    names, out = [], {}
+    for name in sorted(it[:-3] for it in os.listdir(src) if it.endswith(".rt") and it != "lib.rt"):
         with open(f"{src}/{name}.rt", encoding="utf-8") as f:
-            out[f"crates/{crate}/src/{name}.rt"] = module(f.read(), library, name, prefix)
+            text = f.read()
+        # a file of types alone has no exports
+        if f"\npub fn {prefix}" in text:
+            names.append(name)
+            out[f"crates/{crate}/src/{name}.rt"] = module(text, library, name, prefix)
     mods = "".join(f"pub mod {it};\n" for it in names)
     out[f"crates/{crate}/src/lib.rt"] = f"{about}\n#![tactic(auto)]\n\n{mods}"
     return out

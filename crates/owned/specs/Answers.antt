@@ -13,8 +13,8 @@ use Rattle.write_back.specs.declared.Executed.{Executed}
 use Rattle.write_back.specs.declared.PointerExecuted.{PointerExecuted}
 use Rattle.owned.specs.declared.memory.PartialRead.{PartialRead}
 use Rattle.owned.specs.declared.memory.Compared.{Compared}
-use Rattle.owned.specs.declared.execute.Ran.{Ran}
-use Rattle.owned.specs.declared.execute.PointerRan.{PointerRan}
+use Rattle.owned.specs.declared.ran.Ran.{Ran}
+use Rattle.owned.specs.declared.ran.PointerRan.{PointerRan}
 
 -- the word of a partial read, and how many bytes of the range lead it
 abbrev pub word_and_count : PartialRead → ℕ × ℕ
@@ -38,7 +38,7 @@ frame_of gas heap aux heap_bound aux_bound panicked = record {
   panicked = panicked;
 }
 
--- the refusal with this number; a number of no refusal is read as 1, with which no instruction is refused
+-- The refusal with this number. A refused `Ran` has a number of 1 to 16 (its field `numbered`), so `Layout` is read off 1 alone.
 abbrev pub refusal_from : ℕ → Refusal
 refusal_from n =
     first_of
@@ -60,7 +60,7 @@ refusal_from n =
     ∷ [])
     Layout
 
--- how it ended: 0 running, 1 suspended on the hook with the value n, 2 panicked, 3 and above refused with the number n
+-- how it ended: 0 running, 1 suspended on the hook with the value n, 2 panicked, 3 refused with the number n; a `Ran` has no other kind
 abbrev pub status_from : (kind n : ℕ) → ExecutionStatus
 status_from zero n = Running
 status_from (suc zero) n = SuspendedOnHook n

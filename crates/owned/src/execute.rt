@@ -1,5 +1,5 @@
 // The five instructions. Frames are given as numbers: a struct that was just made would be copied by wider loads than its stores were, and the processor would wait for them.
-ghost use Rattle.std.specs.Prelude.{◌≡◌, ◌&&◌, leb, length};
+ghost use Rattle.std.specs.Prelude.{◌≡◌, ◌&&◌, true, leb, length};
 ghost use Rattle.word.specs.Value.{value};
 ghost use Rattle.registers.specs.Registers.{registers_from, load_places_from, store_places_from};
 ghost use Rattle.store.specs.Mem.{mem};
@@ -11,8 +11,10 @@ ghost use Rattle.state.specs.Access.{bound_of};
 ghost use Rattle.frames.specs.Frames.{area_of};
 ghost use Rattle.abi.specs.Executing.{hook_from};
 ghost use Rattle.owned.specs.Answers.{frame_of, with_status, status_from, executed_of, pointer_executed_of};
+ghost use Rattle.owned.specs.Numbered.{is_numbered};
 ghost use Rattle.owned.specs.Known.{paid_below, LoadKnown, WriteKnown, StoreKnown};
 
+use crate::ran::{PointerRan, Ran};
 use abi::executions;
 use execution::{ExecutionStatus, Hook};
 use instructions::on_formed;
@@ -33,31 +35,6 @@ pub const PANICKED: u32 = 2;
 
 pub const REFUSED: u32 = 3;
 
-// What an instruction returns beside its registers: how it ended, and the frame.
-// Stays: the C interface.
-#[repr(C)]
-#[derive(Clone, Copy)]
-pub struct Ran {
-    pub kind: u32,
-    // the hook's value, or the number of the refusal
-    pub number: u32,
-    pub gas: u32,
-    pub heap: u32,
-    pub aux: u32,
-    pub heap_bound: u32,
-    pub aux_bound: u32,
-    pub panicked: bool,
-}
-
-// What a pointer load returns: beside that, how many bytes of the pointer's range lead the word. A panic or a refusal has none.
-// Stays: the C interface.
-#[repr(C)]
-#[derive(Clone, Copy)]
-pub struct PointerRan {
-    pub ran: Ran,
-    pub bytes_read: u32,
-}
-
 fn frame_of(gas: u32, heap: u32, aux: u32, heap_bound: u32, aux_bound: u32, panicked: bool) -> Frame
     ensures { result ≡ frame_of gas heap aux heap_bound aux_bound panicked }
 {
@@ -72,6 +49,7 @@ fn frame_of(gas: u32, heap: u32, aux: u32, heap_bound: u32, aux_bound: u32, pani
 }
 
 fn ended(kind: u32, number: u32, run: Executed) -> Ran
+    requires { is_numbered kind number ≡ true }
     ensures { executed_of result ≡ with_status (status_from kind number) run }
 {
     let frame = run.frame;

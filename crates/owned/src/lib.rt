@@ -6,3 +6,4 @@
 
 pub mod execute;
 pub mod memory;
+pub mod ran;

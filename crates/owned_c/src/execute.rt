@@ -8,7 +8,7 @@ ghost use Rattle.frames.specs.Frames.{area_of};
 ghost use Rattle.abi.specs.Executing.{hook_from};
 ghost use Rattle.owned.specs.Answers.{frame_of, executed_of, pointer_executed_of};
 
-use owned::execute::{PointerRan, Ran};
+use owned::ran::{PointerRan, Ran};
 
 #[unsafe(no_mangle)]
 pub extern "C" fn own_load(

@@ -379,7 +379,7 @@ module _ (s : Setting) (m : Mem) (asks : OpenAsks s m) where
       record {
         memory = mem _ _ _ _;
         shows =
-            started s m.bytes m.keys m.order filled_words filled_asks (width filled_words) full k₁ w₁ refl refl (replicate (length (take (256 * s.chunks - 0) m.bytes)) 0) t.keys t.order refl t.keys_long
+            started s m.bytes m.keys m.order filled_words filled_asks (width filled_words) full k₁ w₁ refl refl (replicate (length (take (256 * s.chunks) m.bytes)) 0) t.keys t.order refl t.keys_long
             t.order_long t.pages;
       }
 

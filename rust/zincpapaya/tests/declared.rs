@@ -268,7 +268,8 @@ fn structs_have_the_fields_that_they_have_in_rattle() {
 #[test]
 fn registers_have_the_length_that_they_have_in_rattle() {
     let registers = include_str!("../../../crates/registers/src/lib.rt");
-    assert!(registers.contains("pub const LENGTH: usize = 65;"));
+    assert!(registers.contains("pub const FLAGS: usize = 64;"));
+    assert!(registers.contains("pub const LENGTH: usize = FLAGS + 1;"));
     assert_eq!(size_of::<Registers>(), 65 * size_of::<u64>());
     let [memory, execute] = EXPORTED;
     assert!(!memory.contains("registers:"));
@@ -288,8 +289,8 @@ fn forms_of_places_have_their_numbers() {
         "LAST_REGISTER_CODE: u32 = 65535;",
         "FIRST_IMMEDIATE_CODE: u32 = 65536;",
         "LAST_IMMEDIATE_CODE: u32 = 131071;",
-        "if code <= LAST_REGISTER_CODE {",
-        "if code <= LAST_IMMEDIATE_CODE {",
+        "0..=LAST_REGISTER_CODE => Place::Register(code),",
+        "FIRST_IMMEDIATE_CODE..=LAST_IMMEDIATE_CODE => {",
         "Place::Immediate(code - FIRST_IMMEDIATE_CODE)",
     ] {
         assert_eq!(registers.matches(line).count(), 1, "{line}");

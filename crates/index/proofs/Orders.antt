@@ -8,14 +8,10 @@ use Prim.Native.Nat.{ℕ, zero, suc, ◌+◌, ◌≤◌, ◌<◌, zero-le}
 use native.Mathlib.Nat.{le_refl, le_of_suc-le-suc, not-suc-le-zero, eq-or-lt_of_le, lt_trans, le_antisymm, lt-suc_self, lt_of_not-le}
 use native.Mathlib.Numerals.{add-one}
 use native.Mathlib.Omega.{arith}
-use lib.Dec.{leb, eqb, ltb}
-use lib.ListN.{length, get_or, take, get_or-eq_default}
-use lib.Seq.{length-take-le, get_or-take}
-use borrow.Author.Tests.{lt-ltb, le-ltb, ltb-true, ltb-false, leb-true, eqb-true, eq-eqb, le-leb}
-use Rattle.std.specs.List.Sorted.{IsNonDecreasingBy, IsPartitionPoint}
-use Rattle.std.proofs.lemmas.List.{get_or_default}
-use Rattle.std.proofs.lemmas.List.Sorted.{IsNonDecreasingBy-from_default}
-use Rattle.index.specs.Index.{all, key_at, key_before, rises, used_count, indexed, Listed, LowerBound}
+use lib.Dec.{leb, eqb}
+use lib.ListN.{length, get_or, get_or-eq_default}
+use borrow.Author.Tests.{lt-ltb, le-ltb, ltb-true, leb-true, eqb-true, eq-eqb, le-leb}
+use Rattle.index.specs.Index.{all, key_at, key_before, rises, used_count, indexed, Listed}
 use Rattle.index.proofs.Logic.{and_left, and_right, le_of_not_lt}
 use Rattle.index.proofs.All.{all_at, all_intro}
 use Rattle.index.proofs.Counts.{all_listed}
@@ -58,29 +54,6 @@ module _ (ks os : List ℕ) (n : ℕ) (up : all (rises ks os) n ≡ true) where
         let a = held_listed s p in
         let b = held_listed t (subst (λ (k : ℕ). 0 < k) e p) in
         sym a.is ∙ ap (λ (i : ℕ). get_or os i 0) (rank_one a.rank b.rank a.rank_lt b.rank_lt (ap (λ (s : ℕ). get_or ks s 0) a.is ∙ e ∙ sym (ap (λ (s : ℕ). get_or ks s 0) b.is))) ∙ b.is
-
--- a search for the first rank whose key is at least k
-module _ (ks os : List ℕ) (n : ℕ) (short : n ≤ length os) (up : all (rises ks os) n ≡ true) (k : ℕ) where
-  front_key : (i : ℕ) → i < n → get_or ks (get_or (take n os) i 0) k ≡ key_at ks os i
-  front_key i l = rw get_or-take (get_or_default ks (get_or os i 0) k 0 (slot_lt ks os n up i l))
-
-  pub front_rises : IsNonDecreasingBy (λ s. get_or ks s k) (take n os)
-  front_rises = IsNonDecreasingBy-from_default (λ s. get_or ks s k) (take n os) 0 (λ i j l m.
-      let h : j < n = rw (length-take-le n os short) at m in
-      let e = front_key i (omega arith) in
-      let f = front_key j h in
-      let q = sorted_le ks os n up i j l h in
-      omega arith)
-
-  pub lower_bound : (r : ℕ) → r ≤ length (take n os) → IsPartitionPoint (λ s. ltb (get_or ks s k) k ≡ true) (λ s. ltb (get_or ks s k) k ≡ false) (take n os) r
-      → LowerBound ks os n k r
-  lower_bound r w h =
-      let e = length-take-le n os short in
-      record {
-        within = omega arith;
-        below = λ i l. let q = front_key i (omega arith) in let t = ltb-true _ _ (h.0 i 0 (omega arith) l) in omega arith;
-        above = λ i l m. let q = front_key i m in let t = ltb-false _ _ (h.1 i 0 l (omega arith)) in omega arith;
-      }
 
 -- the loop of `rising`
 pub before_suc : (ks os : List ℕ) (i : ℕ) → key_at ks os i ≡ key_before ks os (i + 1)

@@ -2,7 +2,7 @@
 // The table of chunk holders and the table of pages are both of this form.
 #![tactic(auto)]
 
-ghost use Rattle.std.specs.Prelude.{◌≡◌, true, ℕ, ◌+◌, ◌<◌, ◌≤◌, length, get_or, set};
+ghost use Rattle.std.specs.Prelude.{◌≡◌, true, ℕ, ◌+◌, ◌^◌, ◌<◌, ◌≤◌, length, get_or, set};
 ghost use Rattle.index.specs.Index.{all, rises, used_count, indexed, seek, LowerBound, MovedUp, Insertable, Cleared, MovedDown, Removed};
 
 // How many places are in use.
@@ -45,12 +45,36 @@ pub fn index_ok(keys: &[u64], order: &[u32], n: usize) -> bool
     n <= order.len() && count_used(keys) == n && rising(keys, order, n)
 }
 
-// The first rank whose key is at least k.
+// By how many bits a step is shifted: by none where x is below k, else by so many that nothing is left.
+fn away(x: u64, k: u64) -> usize
+    ensures { (result < 64) × (x < k → result ≡ 0) × (k ≤ x → result ≡ 63) }
+{
+    if x < k { 0 } else { 63 }
+}
+
+// `half` where x is below k, else 0. A shift makes no branch, which a search would mispredict at every second step.
+fn step(half: usize, x: u64, k: u64) -> usize
+    requires { half < 2 ^ 63 }
+    ensures { (x < k → result ≡ half) × (k ≤ x → result ≡ 0) }
+{
+    half >> away(x, k)
+}
+
+// The first rank whose key is at least k. `base` and `len` bracket it, and `base` moves up by a half or not at all.
 pub fn rank_below(keys: &[u64], order: &[u32], n: usize, k: u64) -> usize
     requires { (n ≤ length order.now) × (all (rises keys.now order.now) n ≡ true) }
     ensures { LowerBound keys.now order.now n k result }
 {
-    order[..n].partition_point(|s| keys.get(*s as usize).is_some_and(|key| *key < k))
+    let mut base = 0;
+    let mut len = n;
+    // Stays: `partition_point` branches on each key, which a search would mispredict at every second step, and takes a step more unless n is a power of 2.
+    while 0 < len {
+        let half = (len + 1) / 2;
+        let s = order[base + half - 1] as usize;
+        base += step(half, keys[s], k);
+        len -= half;
+    }
+    base
 }
 
 // The same, the end first: a page that grows asks for keys past all others.

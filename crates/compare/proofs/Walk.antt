@@ -2,21 +2,17 @@
 -- Assumes nothing.
 use mathlib.Core.Path.{◌≡◌, sym, ap, ◌∙◌}
 use mathlib.Core.Logic.{⊎_elim}
-use mathlib.Core.Bool.{Bool, true, false, false≢true}
+use mathlib.Core.Bool.{true, false}
 use Prim.Native.Nat.{ℕ, ◌+◌, ◌*◌, ◌-◌, ◌≤◌, ◌<◌}
 use native.Mathlib.Omega.{arith}
-use lib.Dec.{eqb}
 use lib.ListN.{get_or}
 use lib.Seq.{get_or-take, get_or-drop, length-take-le}
 use borrow.Author.Count.{below_more}
-use borrow.Author.Tests.{eq-eqb, eqb-true}
 use Rattle.store.specs.Keys.{key_of, key_entry, key_chunk}
-use Rattle.index.specs.Index.{all, seek}
-use Rattle.index.proofs.All.{all_at, all_intro}
-use Rattle.index.proofs.Logic.{lt_or_ge, same_or_not}
+use Rattle.index.specs.Index.{seek}
+use Rattle.index.proofs.Logic.{lt_or_ge}
 use Rattle.store.specs.Mem.{Mem, slot_count, page_count, held_now, holders, entries, slot_order, chunk_bytes}
 use Rattle.formed.specs.WellFormed.{holder, slot_byte, WellFormed}
-use Rattle.formed.proofs.Bools.{refute}
 use Rattle.formed.proofs.Keys.{in_table}
 use Rattle.formed.proofs.Sizes.{holders_long, entries_long}
 use Rattle.formed.proofs.Meaning.{facts_of}
@@ -153,29 +149,21 @@ module _ (m n : Mem) (f : WellFormed m) (g : WellFormed n) where
 
     -- ---- its slot at rank i: t is the slot of the same chunk in n
     module _ (i t : ℕ) (l : i < held_now m.words) (r : Ranks m n e i) (top : key_entry (get_or m.keys (ranked m i) 0) ≤ e)
-        (at : t ≡ seek (holders n) (key_of h (key_chunk (get_or m.keys (ranked m i) 0)))) where
-      left_byte : (j : ℕ) → j < 256 → slot_byte m (ranked m i) j ≡ get_or m.bytes (256 * ranked m i + j) 0
-      left_byte j lj = get_or-take (256 * slot_count m.words) m.bytes (256 * ranked m i + j) 0 (let x = ranked_lt m f i l in omega arith)
+        (at : t ≡ seek (holders n) (key_of h (key_chunk (get_or m.keys (ranked m i) 0)))) (j : ℕ) (lj : j < 256) where
+      left_byte : slot_byte m (ranked m i) j ≡ get_or m.bytes (256 * ranked m i + j) 0
+      left_byte = get_or-take (256 * slot_count m.words) m.bytes (256 * ranked m i + j) 0 (let x = ranked_lt m f i l in omega arith)
 
-      right_byte : (j : ℕ) → j < 256 → beside m n (ranked m i) j ≡ get_or (chunk_bytes n) (256 * t + j) 0
-      right_byte j lj =
+      right_byte : beside m n (ranked m i) j ≡ get_or (chunk_bytes n) (256 * t + j) 0
+      right_byte =
           let k = ranked_key m f i l in
           let y = r.next l in
           let x = entry_at m f e in
           let p : get_or m.keys (slot_count m.words + e) 0 - 1 + 1 ≡ get_or (entries m) e 0 - 1 + 1 = omega arith in
           beside_is m n f g (ranked m i) e h t (ranked_pos m f i l) (omega arith) (is ∙ ap (seek (entries n)) p) (at ∙ ap (λ (z : ℕ). seek (holders n) (key_of h (key_chunk z))) (sym k)) j lj
 
-      abbrev same : ℕ → Bool
-      same j = eqb (get_or m.bytes (256 * ranked m i + j) 0) (get_or (chunk_bytes n) (256 * t + j) 0)
+      module _ (x : ℕ) (ex : x ≡ get_or (chunk_bytes n) (256 * t + j) 0) where
+        pub byte_same : get_or m.bytes (256 * ranked m i + j) 0 ≡ x → slot_byte m (ranked m i) j ≡ beside m n (ranked m i) j
+        byte_same q = left_byte ∙ q ∙ ex ∙ sym right_byte
 
-      pub chunk_same : all same 256 ≡ true → Agrees m n (ranked m i)
-      chunk_same a j lj = left_byte j lj ∙ eqb-true _ _ (all_at same 256 j a lj) ∙ sym (right_byte j lj)
-
-      pub chunk_other : all same 256 ≡ false → covers (view_of m) (view_of n) ≡ false
-      chunk_other o =
-          sym (refute (covers (view_of m) (view_of n)) (λ c.
-          false≢true (sym o ∙ all_intro same 256 (λ j lj.
-          ⊎_elim
-          (λ (q : slot_byte m (ranked m i) j ≡ beside m n (ranked m i) j). eq-eqb _ _ (sym (left_byte j lj) ∙ q ∙ right_byte j lj))
-          (λ (ne : slot_byte m (ranked m i) j ≡ beside m n (ranked m i) j → ⊥). absurd (false≢true (sym (byte_differs m n f g (ranked m i) j (ranked_pos m f i l) lj ne) ∙ c)))
-          (same_or_not (slot_byte m (ranked m i) j) (beside m n (ranked m i) j))))))
+        pub byte_other : (get_or m.bytes (256 * ranked m i + j) 0 ≡ x → ⊥) → covers (view_of m) (view_of n) ≡ false
+        byte_other ne = byte_differs m n f g (ranked m i) j (ranked_pos m f i l) lj (λ q. ne (sym left_byte ∙ q ∙ right_byte ∙ sym ex))

@@ -1,7 +1,6 @@
 // The comparison of two memories that are known to be well formed: what is left of the call after its two tests.
 // Stays: the lent buffers are parameters side by side, for the reason that lib.rt has.
-ghost use Rattle.std.specs.Prelude.{◌≡◌, ◌+◌, ◌*◌, ◌<◌, ◌≤◌, eqb, length, get_or, take};
-ghost use Rattle.index.specs.Index.{all};
+ghost use Rattle.std.specs.Prelude.{◌≡◌, ◌+◌, ◌*◌, ◌<◌, ◌≤◌, length, get_or, take};
 ghost use Rattle.store.specs.Keys.{key_chunk};
 ghost use Rattle.store.specs.Find.{slot_at_entry};
 ghost use Rattle.store.specs.Mem.{mem, layout_of};
@@ -35,17 +34,15 @@ fn slot_beside(keys: &[u64], order: &[u32], words: &[u64], e: usize, key: u64) -
     store::slot_at_entry(keys, order, words, e, store::key_chunk(key))
 }
 
-// Whether slot s of the left memory has the bytes of slot t of the right one, or zeros where there is no such slot.
-fn same_chunk(left_bytes: &[u8], s: usize, right_bytes: &[u8], right_slots: usize, t: usize) -> bool
-    requires { (256 * s + 256 ≤ length left_bytes.now) × (256 * right_slots ≤ length right_bytes.now) }
-    ensures { result ≡ all (λ j. eqb (get_or left_bytes.now (256 * s + j) 0) (get_or (take (256 * right_slots) right_bytes.now) (256 * t + j) 0)) 256 }
+// Byte j of slot t, or 0 where there is no such slot.
+fn byte_beside(bytes: &[u8], slots: usize, t: usize, j: usize) -> u8
+    requires { (256 * slots ≤ length bytes.now) × (j < 256) }
+    ensures { result ≡ get_or (take (256 * slots) bytes.now) (256 * t + j) 0 }
 {
-    let left = &left_bytes[256 * s..256 * s + 256];
-    if t < right_slots {
-        left == &right_bytes[256 * t..256 * t + 256]
-    } else {
-        formed::slot::all_zero(left)
+    if t >= slots {
+        return 0;
     }
+    bytes[256 * t + j]
 }
 
 // Whether the right memory has every page that the left one has allocated, and the bytes of every chunk that the left one holds.
@@ -69,6 +66,7 @@ fn covered(
     let held = left_words[head::HELD] as usize;
     let right_slots = right_words[head::CHUNKS] as usize;
     let right_pages = right_words[head::PAGES] as usize + head::FIXED_ENTRIES;
+    let mut equal = true;
     let mut i = 0;
     'pages: for e in 0..pages {
         let listed = left_keys[slots + e];
@@ -76,7 +74,8 @@ fn covered(
             let page = PageId((listed - 1) as u32);
             let f = store::entry_of(right_keys, right_order, right_words, page);
             if f >= right_pages {
-                return false;
+                equal = false;
+                break 'pages;
             }
             // Stays: the new form is no plainer. The slots of a page begin where those of the page before end, and where they end is seen at the next slot alone.
             'chunks: while i < held {
@@ -86,14 +85,17 @@ fn covered(
                     break 'chunks;
                 }
                 let t = slot_beside(right_keys, right_order, right_words, f, key);
-                if !same_chunk(left_bytes, s, right_bytes, right_slots, t) {
-                    return false;
+                for j in 0..256 {
+                    if left_bytes[256 * s + j] != byte_beside(right_bytes, right_slots, t, j) {
+                        equal = false;
+                        break 'pages;
+                    }
                 }
                 i += 1;
             }
         }
     }
-    true
+    equal
 }
 
 // Whether two memories have equal bytes on every page and the same pages: each has what the other one has.

@@ -64,7 +64,14 @@ fn answer(session: &mut Session)
         line,
         output,
     } = session;
-    let reply = trace_calls::take(buffers, current, line.as_slice());
+    let reply = trace_calls::take(
+        &mut buffers.bytes,
+        &mut buffers.keys,
+        &mut buffers.order,
+        &mut buffers.words,
+        current,
+        line.as_slice(),
+    );
     line.clear();
     output.put(reply);
 }

@@ -8,7 +8,7 @@ ghost use Rattle.store.specs.Mem.{mem};
 ghost use Rattle.view.specs.Calls.{WriteWord, ReadWord, Snapshot, Rollback, nothing};
 ghost use Rattle.trace.specs.Language.{meaning, command_line};
 ghost use Rattle.trace_text.specs.Text.{reply_of};
-ghost use Rattle.trace_calls.specs.Space.{Space, mem_of};
+ghost use Rattle.trace_calls.specs.Space.{Space};
 ghost use Rattle.trace_calls.specs.Trace.{reported, opening_layout, opening_setting, CallTells, OpenTells, LineTells, PartsTell, TraceTells};
 
 use opening::Capacity;
@@ -24,7 +24,8 @@ const WORD_BYTES: usize = 32 * head::JOURNAL_COUNT;
 
 const WORD_NUMBERS: usize = 3 * head::JOURNAL_COUNT;
 
-// Space for 128 chunks, 64 pages and 256 words of each journal, of the lengths that docs/BUFFERS.md states.
+// Space for 128 chunks, 64 pages and 256 words of each journal, of the lengths that docs/BUFFERS.md states. A caller that has no space of its own keeps
+// one of these, and lends its four parts.
 #[derive(Drop)]
 pub struct Buffers {
     pub bytes: [u8; 49152],
@@ -159,7 +160,7 @@ fn called(
 
 // The call, in the leading parts of the space that these counts ask for; of counts beyond the space, in parts that are too short for them, which an
 // opening refuses by itself.
-fn in_parts(
+fn lent(
     bytes: &mut [u8],
     keys: &mut [u64],
     order: &mut [u32],
@@ -188,44 +189,47 @@ fn in_parts(
     )
 }
 
-// The same, in the buffers' space.
-fn lent(buffers: &mut Buffers, counts: Counts, command: Command) -> Reply
-    ensures { PartsTell counts.chunks counts.pages counts.journal_words (mem_of buffers.old) (command_line command) (reply_of result) (mem_of buffers.new) }
-{
-    let Buffers {
-        bytes,
-        keys,
-        order,
-        words,
-    } = buffers;
-    in_parts(bytes, keys, order, words, counts, command)
-}
-
 // ---- lines
 
 // What a command does, and its answer. Before an accepted opening only an opening is carried out; `current` has the open memory's counts, if one is open.
-fn carry_out(buffers: &mut Buffers, current: &mut Option<Counts>, command: Command) -> Reply
-    ensures { TraceTells current.old (mem_of buffers.old) (command_line command) current.new (reply_of result) (mem_of buffers.new) }
+fn carry_out(
+    bytes: &mut [u8],
+    keys: &mut [u64],
+    order: &mut [u32],
+    words: &mut [u64],
+    current: &mut Option<Counts>,
+    command: Command,
+) -> Reply
+    requires { Space bytes.old keys.old order.old words.old }
+    ensures { TraceTells current.old (mem bytes.old keys.old order.old words.old) (command_line command) current.new (reply_of result) (mem bytes.new keys.new order.new words.new) }
 {
     if let Command::Open(opening) = command {
-        let reply = lent(buffers, opening.counts, command);
+        let reply = lent(bytes, keys, order, words, opening.counts, command);
         if let Reply::Done = reply {
             *current = Some(opening.counts);
         }
         return reply;
     }
     match *current {
-        Some(counts) => lent(buffers, counts, command),
+        Some(counts) => lent(bytes, keys, order, words, counts, command),
         None => Reply::Unread,
     }
 }
 
 // What a line does, and its answer.
-pub fn take(buffers: &mut Buffers, current: &mut Option<Counts>, line: &[u8]) -> Reply
-    ensures { TraceTells current.old (mem_of buffers.old) (meaning line.now) current.new (reply_of result) (mem_of buffers.new) }
+pub fn take(
+    bytes: &mut [u8],
+    keys: &mut [u64],
+    order: &mut [u32],
+    words: &mut [u64],
+    current: &mut Option<Counts>,
+    line: &[u8],
+) -> Reply
+    requires { Space bytes.old keys.old order.old words.old }
+    ensures { TraceTells current.old (mem bytes.old keys.old order.old words.old) (meaning line.now) current.new (reply_of result) (mem bytes.new keys.new order.new words.new) }
 {
     match trace::parse(line) {
-        Some(command) => carry_out(buffers, current, command),
+        Some(command) => carry_out(bytes, keys, order, words, current, command),
         None => Reply::Unread,
     }
 }

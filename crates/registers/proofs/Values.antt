@@ -1,7 +1,7 @@
 -- Registers written and read, and erased words.
 -- Assumes nothing.
 use mathlib.Core.Path.{◌≡◌, refl, sym, ap, ap₂, ◌∙◌, fun_ext}
-use mathlib.Core.Bool.{Bool, true, false, cond}
+use mathlib.Core.Bool.{Bool, true, false, cond, ◌&&◌}
 use mathlib.Core.List.{List}
 use Prim.Native.Nat.{ℕ, ◌+◌, ◌*◌, ◌/◌, ◌%◌, ◌^◌, ◌<◌, ◌≤◌}
 use native.Mathlib.Omega.{arith}
@@ -63,6 +63,13 @@ erased_between x = ap (λ (q : ℕ). q % 2 ^ 64) (above_offset x) ∙ none (x / 
 
 pub erased_above : (x : ℕ) → erased x / 2 ^ 96 ≡ x / 2 ^ 96
 erased_above x = sym (div-div-eq-div-mul (erased x) (2 ^ 32) (2 ^ 64)) ∙ ap (λ (q : ℕ). q / 2 ^ 64) (above_offset x) ∙ whole (x / 2 ^ 96)
+
+-- ---- tests one after the other
+pub stopped : (r a b : Bool) → r ≡ a → r ≡ false → false ≡ (a && b)
+stopped r a b e h = sym (ap (λ (t : Bool). t && b) (sym e ∙ h))
+
+pub passed : (r a b v : Bool) → r ≡ a → r ≡ true → v ≡ b → v ≡ (a && b)
+passed r a b v e h f = f ∙ sym (ap (λ (t : Bool). t && b) (sym e ∙ h))
 
 -- ---- the numbers of the registers
 -- the numbers l with the limbs of register n and its flag written

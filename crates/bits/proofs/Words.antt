@@ -7,9 +7,10 @@ use mathlib.Core.List.{List, [], ◌∷◌}
 use Prim.Native.Nat.{ℕ, zero, suc, ◌+◌, ◌-◌, ◌*◌, ◌/◌, ◌%◌, ◌^◌, ◌≤◌, ◌<◌, zero-le, suc-le-suc}
 use native.Mathlib.Nat.{not-suc-le-zero, le_of_suc-le-suc, le_trans, le_of_eq, add-le-add, eq-zero-or-pos, pow-suc, add-zero, zero-add}
 use native.Mathlib.Omega.{arith}
+use lib.Arith.{lt-one}
 use lib.Pow.{shl_exact}
 use lib.Dec.{eqb, eqb-suc-zero}
-use lib.Count.{ones, ones_step, ones-ones, count_trailing_zeros}
+use lib.Count.{ones, ones_step, ones-ones, count_trailing_zeros, under}
 use lib.ListN.{length, get_or, drop, drop_of_length-le, get_or-eq_default}
 use lib.Seq.{drop-cons}
 use borrow.Author.Tests.{eqb-true, eqb-false, ne_eqb}
@@ -215,6 +216,36 @@ bit x r = x / 2 ^ r % 2
 bit_le : (r x : ℕ) → bit x r ≡ 1 → 2 ^ r ≤ x
 bit_le zero x b = let q : x / 1 ≡ x = omega arith in let o : x % 2 ≡ 1 = sym (ap (λ (z : ℕ). z % 2) q) ∙ b in omega (arith, o)
 bit_le (suc r) x b = let ih = bit_le r (x / 2) (sym (bit_at-suc x r) ∙ b) in let s = pow-suc 2 r in omega (arith, ih, s)
+
+record Lowest (n t : ℕ) : Type 0 where
+  set : bit n t ≡ 1
+  below : (i : ℕ) → i < t → bit n i ≡ 0
+
+half_lt : (k n : ℕ) → n < 2 ^ suc k → n / 2 < 2 ^ k
+half_lt k n h = let e = pow-suc 2 k in omega (arith, e)
+
+-- of a number of k bits, for every k
+lowest_of_lem : (k n : ℕ) → 0 < n → n < 2 ^ k → (count_trailing_zeros k n < k) × Lowest n (count_trailing_zeros k n)
+unfolding count_trailing_zeros
+lowest_of_lem zero n p h = absurd (let e = lt-one h in omega (arith, e))
+lowest_of_lem (suc k) n p h = go (n % 2) refl (λ q. lowest_of_lem k (n / 2) q (half_lt k n h))
+  where
+    below : n % 2 ≡ 0 → ((i : ℕ) → i < count_trailing_zeros k (n / 2) → bit (n / 2) i ≡ 0) → (i : ℕ) → i < suc (count_trailing_zeros k (n / 2)) → bit n i ≡ 0
+    below z f zero l = let q : n / 1 ≡ n = omega arith in ap (λ (x : ℕ). x % 2) q ∙ z
+    below z f (suc i) l = bit_at-suc n i ∙ f i (le_of_suc-le-suc l)
+
+    go : (d : ℕ) → n % 2 ≡ d → (0 < n / 2 → (count_trailing_zeros k (n / 2) < k) × Lowest (n / 2) (count_trailing_zeros k (n / 2)))
+        → (under d (count_trailing_zeros k (n / 2)) < suc k) × Lowest n (under d (count_trailing_zeros k (n / 2)))
+    go zero e rest =
+        let ih = rest (omega (arith, e)) in
+        (suc-le-suc ih.0, record { set = bit_at-suc n (count_trailing_zeros k (n / 2)) ∙ ih.1.set; below = below e ih.1.below })
+    go (suc d) e rest = (
+      suc-le-suc zero-le,
+      record {
+        set = let q : n / 1 ≡ n = omega arith in let g : n % 2 ≡ 1 = omega (arith, e) in ap (λ (x : ℕ). x % 2) q ∙ g;
+        below = λ i l. absurd (not-suc-le-zero l);
+      },
+    )
 
 -- ---- the lowest bit of words
 bit_here : (x : ℕ) (ws : List ℕ) (s : ℕ) → s < 64 → bit_of (x ∷ ws) s ≡ bit x s

@@ -6,7 +6,7 @@ use mathlib.Core.List.{List}
 use Prim.Native.Nat.{ℕ, ◌+◌, ◌*◌, ◌-◌, ◌/◌, ◌%◌, ◌^◌, ◌≤◌, ◌<◌, min}
 use native.Mathlib.Omega.{arith}
 use lib.ListN.{length, get_or, set, take, drop, length-set}
-use lib.Seq.{get_or-set_same, get_or-set_other, get_or-take, length-take-le}
+use lib.Seq.{get_or-set_same, get_or-set_other, get_or-take, length-take-le, set-get_or}
 use Rattle.index.proofs.Logic.{same_or_not, lt_or_ge}
 use Rattle.bits.specs.Bits.{ones_of, lowest_of, free_word}
 use Rattle.bits.proofs.Free.{free_lt, free_out, free_put, free_take}
@@ -54,6 +54,32 @@ module _ (w : List ℕ) (part : PoolPart w) (at : ℕ) (e : at ≡ pool_place w)
 
   pub cleared : (s : ℕ) (x : List ℕ) → x ≡ set w (at + s / 64) (get_or w (at + s / 64) 0 - 2 ^ (s % 64)) → set x pool_skip_place (s / 64) ≡ unpooled w s
   cleared s x q = ap (λ (y : List ℕ). set y pool_skip_place (s / 64)) q ∙ ap (λ (y : ℕ). set (set w (y + s / 64) (get_or w (y + s / 64) 0 - 2 ^ (s % 64))) pool_skip_place (s / 64)) e
+
+  -- the bit of a held slot is set
+  module _ (s : ℕ) (l : s < slot_count w) (fits : pool_word w (s / 64) + 2 ^ (s % 64) < 2 ^ 64) where
+    pub put_asks : (at + s / 64 < length w) × (get_or w (at + s / 64) 0 + 2 ^ (s % 64) < 2 ^ 64)
+    put_asks = (let h = part.room in omega (arith, h, l, e), rw e fits)
+
+    module _ (x : List ℕ) (q : x ≡ set w (at + s / 64) (get_or w (at + s / 64) 0 + 2 ^ (s % 64))) where
+      word_put_lem : x ≡ set w (pool_place w + s / 64) (pool_word w (s / 64) + 2 ^ (s % 64))
+      word_put_lem = q ∙ ap (λ (y : ℕ). set w (y + s / 64) (get_or w (y + s / 64) 0 + 2 ^ (s % 64))) e
+
+      skip_was : get_or x pool_skip_place 0 ≡ pool_skip w
+      skip_was =
+          ap (λ (y : List ℕ). get_or y pool_skip_place 0) word_put_lem
+          ∙ get_or-set_other w (pool_place w + s / 64) pool_skip_place (pool_word w (s / 64) + 2 ^ (s % 64)) 0 (λ b. let h = part.room in omega (arith, b, h))
+
+      pub put_less : s / 64 < get_or x pool_skip_place 0 → set x pool_skip_place (s / 64) ≡ repooled w s
+      put_less a =
+          let k = skip_was in
+          let m : s / 64 ≡ min (s / 64) (pool_skip w) = omega (arith, a, k) in
+          ap (set x pool_skip_place) m ∙ ap (λ (y : List ℕ). set y pool_skip_place (min (s / 64) (pool_skip w))) word_put_lem
+
+      pub put_same : get_or x pool_skip_place 0 ≤ s / 64 → x ≡ repooled w s
+      put_same a =
+          let k = skip_was in
+          let m : get_or x pool_skip_place 0 ≡ min (s / 64) (pool_skip w) = omega (arith, a, k) in
+          sym (set-get_or x pool_skip_place 0) ∙ ap (set x pool_skip_place) m ∙ ap (λ (y : List ℕ). set y pool_skip_place (min (s / 64) (pool_skip w))) word_put_lem
 
 -- ---- how many slots are held is noted
 module _ (keys w : List ℕ) (n : ℕ) (p : Pooling keys w) where

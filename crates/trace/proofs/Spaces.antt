@@ -9,7 +9,9 @@ use native.Mathlib.Omega.{arith}
 use lib.Dec.{eqb, ltb}
 use lib.ListN.{length, get_or, take, drop, length-drop}
 use lib.Seq.{take_all}
+use lib.Pointwise.{pointwise_long}
 use Rattle.std.specs.Prelude.{None, Some}
+use Rattle.std.specs.Str.{bytes_eq}
 use Rattle.std.specs.List.{position, position_or_len}
 use Rattle.std.proofs.lemmas.Bool.{ltb-false}
 use Rattle.std.proofs.lemmas.List.Sums.{prefix_len_passes}
@@ -74,3 +76,11 @@ some_field (b ∷ bs) = by_test (eqb b 32) refl
     by_test : (t : Bool) → eqb b 32 ≡ t → numbers [] (fields (b ∷ bs)) ≡ None
     by_test true e = ap (numbers []) (fields_here b bs e)
     by_test false e = ap (numbers []) (fields_there b bs e) ∙ on_any (fields bs)
+
+-- ---- the same bytes
+pub same_lengths_lem : (a b : List ℕ) → (length a ≡ length b → ⊥) → false ≡ bytes_eq a b
+same_lengths_lem a b n = by_test (bytes_eq a b) refl
+  where
+    by_test : (t : Bool) → bytes_eq a b ≡ t → false ≡ t
+    by_test true e = absurd (n (pointwise_long eqb a b e))
+    by_test false e = refl

@@ -7,34 +7,12 @@ use Prim.Native.Nat.{ℕ, ◌+◌, ◌*◌, ◌-◌, ◌≤◌, ◌<◌}
 use native.Mathlib.Nat.{not-suc-le-zero}
 use native.Mathlib.Omega.{arith}
 use lib.ListN.{length, get_or, set}
-use borrow.Author.Rules.{rules}
-use borrow.Rule.Slice.PartMut.{put_mid}
-use Rattle.std.specs.List.{between}
-use Rattle.std.proofs.lemmas.List.{places}
-use Rattle.std.proofs.lemmas.List.Edits.{length-between, get_or-between}
 use borrow.Author.Tests.{lt-ltb, le-ltb}
 use Rattle.formed.proofs.Same.{tab_is}
 use lib.Seq.{get_or-set_same, get_or-set_other}
-use Rattle.index.proofs.Logic.{same_or_not, lt_or_ge, le_of_not_lt}
+use Rattle.index.proofs.Logic.{same_or_not, lt_or_ge}
 use Rattle.formed.specs.Parts.{tab}
 use Rattle.bodies.specs.Words.{place_in, Spread}
-
--- ---- a part of a list copied to a part of another
-pub copied : (src dst : List ℕ) (from to n : ℕ) → from + n ≤ length src → to + n ≤ length dst → (xs : List ℕ) → xs ≡ between from (from + n) src
-    → Spread (λ i. to + i) (λ i. get_or src (from + i) 0) n dst (put_mid to (to + n - to) dst xs)
-copied src dst from to n l m xs e =
-    let size = length-between src from (from + n) l in
-    let k : to + n - to ≡ n = omega arith in
-    rw (k, e) record {
-      on = λ i li.
-          let h = get_or-between src from (from + n) i 0 (omega arith) in
-          search (rules, places);
-      off = λ b o.
-          ⊎_elim
-          (λ (lo : b < to). search (rules, places))
-          (λ (hi : to ≤ b). let past : to + n ≤ b = le_of_not_lt (λ x. o (b - to) (omega arith) (omega arith)) in search (rules, places))
-          (lt_or_ge b to);
-    }
 
 -- ---- a copy byte by byte
 pub copy_none : (f g : ℕ → ℕ) (ds : List ℕ) → Spread f g 0 ds ds
@@ -49,6 +27,9 @@ copy_more to n g ds es l w = record {
       (same_or_not i n);
   off = λ b h. get_or-set_other es (to + n) b (g n) 0 (h n (omega arith)) ∙ w.off b (λ i li. h i (omega arith));
 }
+
+pub copy_done : (f g : ℕ → ℕ) (i n : ℕ) (ds es : List ℕ) → i ≤ n → n ≤ i → Spread f g i ds es → Spread f g n ds es
+copy_done f g i n ds es l m w = let e : i ≡ n = omega arith in subst (λ (x : ℕ). Spread f g x ds es) e w
 
 -- ---- copies put together
 pub spread_same : (f g f' g' : ℕ → ℕ) (n : ℕ) (ds es : List ℕ) → ((i : ℕ) → i < n → (f' i ≡ f i) × (g' i ≡ g i)) → Spread f g n ds es → Spread f' g' n ds es

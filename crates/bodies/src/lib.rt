@@ -22,7 +22,10 @@ pub fn copy(src: &[u8], from: usize, dst: &mut [u8], to: usize, n: usize)
     requires { (from + n ≤ length src.now) × (to + n ≤ length dst.old) }
     ensures { Spread (λ i. to + i) (λ i. get_or src.now (from + i) 0) n dst.old dst.new }
 {
-    dst[to..to + n].copy_from_slice(&src[from..from + n]);
+    // Stays: `copy_from_slice` of a part whose length isn't a constant compiles to a call of memmove, which the C archives don't ask of their host.
+    for i in 0..n {
+        dst[to + i] = src[from + i];
+    }
 }
 
 // The word that begins at offset r of slot s and goes on in slot t.

@@ -9,21 +9,22 @@ mod samples;
 
 use memory::Memory;
 use paths::Path;
-use std::io;
 
-// The five lines, and how many paths are right.
-fn main(rt: HostRuntime) -> io::Result<()> {
+// The five lines, and how many paths are right. What cannot be written is left out.
+fn main(rt: HostRuntime) {
     let mut memory = Memory::new();
     let mut right: usize = 0;
     for path in Path::ALL {
-        print!(rt; "{path}:")?;
+        let _ = print!(rt; "{path}:");
         match path.walk(&mut memory) {
             Ok(()) => {
-                println!(rt; " ok")?;
+                let _ = println!(rt; " ok");
                 right += 1;
             }
-            Err(wrong) => println!(rt; " {wrong}")?,
+            Err(wrong) => {
+                let _ = println!(rt; " {wrong}");
+            }
         }
     }
-    println!(rt; "card: {right} of {} paths right", Path::ALL.len())
+    let _ = println!(rt; "card: {right} of {} paths right", Path::ALL.len());
 }

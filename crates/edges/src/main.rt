@@ -9,17 +9,13 @@ mod naive;
 mod walk;
 
 use memory::Memory;
-use std::io;
-use std::io::{BufWriter, Read, Write};
 
-// The most bytes of the input that are walked.
-const INPUT: u64 = 65536;
+// The descriptor of the standard input.
+const STDIN: i32 = 0;
 
-fn main(rt: HostRuntime) -> io::Result<()> {
-    let alloc = rt.alloc();
-    let mut input = Vec::new(alloc);
-    rt.reader().take(INPUT).read_to_end(&mut input)?;
-    let mut out = BufWriter::new(alloc, io::writer(&rt))?;
-    walk::walk(&mut out, &mut Memory::new(), input.as_slice())?;
-    out.flush()
+// The first 65,536 bytes of the input are walked, or as many as can be read.
+fn main(rt: HostRuntime) {
+    let mut input = io::large_buffer();
+    let n = io::read_full(STDIN, &mut input);
+    walk::walk(&rt, &mut Memory::new(), &input[..n]);
 }

@@ -5,8 +5,6 @@ use crate::call::{Call, PLACES};
 use crate::damage::Damage;
 use crate::library::Failure;
 use crate::memory::Memory;
-use std::io;
-use std::io::Write;
 
 // The places of a line's numbers: from 1 to EQUALS those of the call, and after a '=' the refusal and the value.
 const EQUALS: usize = 10;
@@ -79,6 +77,10 @@ fn numbers_of(text: &[u8]) -> [u64; PLACES] {
     numbers
 }
 
+fn print_title(rt: &impl Print, title: &[u8]) {
+    let _ = rt.write_all(title);
+}
+
 // How many answers were right and wrong since the last title.
 #[derive(Clone, Copy, Default)]
 struct Tally {
@@ -88,13 +90,13 @@ struct Tally {
 
 impl Tally {
     // Compares what a line returned with what it must, and counts it. A wrong answer is printed.
-    fn judge<W: Write>(
+    fn judge(
         &mut self,
-        out: &mut W,
+        rt: &impl Print,
         letter: u8,
         numbers: &[u64; PLACES],
         got: Result<u64, Failure>,
-    ) -> io::Result<()> {
+    ) {
         let [.., must_refuse, must_give] = *numbers;
         let (refusal, value) = match got {
             Ok(value) => (0, value),
@@ -102,55 +104,49 @@ impl Tally {
         };
         if u64::from(refusal) == must_refuse && value == must_give {
             self.right = self.right.saturating_add(1);
-            return Ok(());
+            return;
         }
         self.wrong = self.wrong.saturating_add(1);
-        out.write_all(b"(")?;
-        out.write_all(&[letter])?;
-        write!(out, " gave refusal {refusal}, value {value}) ")
+        let _ = rt.write_all(b"(");
+        let _ = rt.write_all(&[letter]);
+        let _ = print!(rt; " gave refusal {refusal}, value {value}) ");
     }
 
     // Ends a group: prints how many answers were right, and how many wrong.
-    fn end<W: Write>(&mut self, out: &mut W) -> io::Result<()> {
+    fn end(&mut self, rt: &impl Print) {
         let Tally { right, wrong } = *self;
         *self = Tally::default();
-        writeln!(out, ": {right} right, {wrong} wrong")
+        let _ = println!(rt; ": {right} right, {wrong} wrong");
     }
 
     // Carries out a line.
-    fn take<W: Write>(
-        &mut self,
-        out: &mut W,
-        memory: &mut Memory,
-        line: Line<'_>,
-    ) -> io::Result<()> {
+    fn take(&mut self, rt: &impl Print, memory: &mut Memory, line: Line<'_>) {
         match line {
-            Line::Blank => Ok(()),
-            Line::Title(title) => out.write_all(title),
-            Line::End => self.end(out),
+            Line::Blank => {}
+            Line::Title(title) => print_title(rt, title),
+            Line::End => self.end(rt),
             Line::Call { letter, numbers } => {
                 let got = match letter {
                     b'x' => Damage::from(&numbers).answer(memory),
                     _ => memory.call(Call::new(letter, &numbers)),
                 };
-                self.judge(out, letter, &numbers, got)
+                self.judge(rt, letter, &numbers, got);
             }
         }
     }
 }
 
-// Walks every line of the input. Of a last line with no end only a title counts.
-pub fn walk<W: Write>(out: &mut W, memory: &mut Memory, input: &[u8]) -> io::Result<()> {
+// Walks every line of the input. Of a last line with no end only a title counts. What cannot be written is left out.
+pub fn walk(rt: &impl Print, memory: &mut Memory, input: &[u8]) {
     let mut tally = Tally::default();
     for line in input.split_inclusive(|byte| *byte == b'\n') {
         match line.strip_suffix(b"\n") {
-            Some(line) => tally.take(out, memory, Line::from(line))?,
+            Some(line) => tally.take(rt, memory, Line::from(line)),
             None => {
                 if let Line::Title(title) = Line::from(line) {
-                    out.write_all(title)?;
+                    print_title(rt, title);
                 }
             }
         }
     }
-    Ok(())
 }

@@ -9,10 +9,10 @@ use memory::Memory;
 use question::{Beside, Question};
 use state::Area;
 use state::quote::RunEnd;
-use std::io;
 
 // A line: the list with its gas and bound, the quote, and the loads of both areas. A refused quote has no loads beside it.
-fn line(rt: &impl Print, memory: &Memory, list: &[u32], gas: u32, bound: u32) -> io::Result<()> {
+// What cannot be written is left out.
+fn line(rt: &impl Print, memory: &Memory, list: &[u32], gas: u32, bound: u32) {
     let asked = Question { list, gas, bound };
     match state::quote::quote(list, gas, bound) {
         Ok(quoted) => {
@@ -23,55 +23,57 @@ fn line(rt: &impl Print, memory: &Memory, list: &[u32], gas: u32, bound: u32) ->
                 bound,
                 position,
             } = quoted;
-            println!(rt;
+            let _ = println!(rt;
                 "{asked}=> spent {spent}, bound {bound}, position {position}; heap loads {heap}; aux loads {aux}"
-            )
+            );
         }
-        Err(refusal) => println!(rt; "{asked}=> {refusal}"),
+        Err(refusal) => {
+            let _ = println!(rt; "{asked}=> {refusal}");
+        }
     }
 }
 
 // Paid from one bound: growth by steps, gas that is just enough or one short, and a list of no addresses.
-fn paid(rt: &impl Print, memory: &Memory) -> io::Result<()> {
+fn paid(rt: &impl Print, memory: &Memory) {
     let steps = [4064, 4065, 0, 4070];
     for gas in [10, 6, 5] {
-        line(rt, memory, &steps, gas, 4096)?;
+        line(rt, memory, &steps, gas, 4096);
     }
-    line(rt, memory, &[4064], 0, 4096)?;
-    line(rt, memory, &[4065], 0, 4096)?;
-    line(rt, memory, &[], 7, 4096)?;
-    line(rt, memory, &[0, 4065, 64], 9, 4096)
+    line(rt, memory, &[4064], 0, 4096);
+    line(rt, memory, &[4065], 0, 4096);
+    line(rt, memory, &[], 7, 4096);
+    line(rt, memory, &[0, 4065, 64], 9, 4096);
 }
 
 // Addresses at the operand limit, with the lowest bound and with the highest.
-fn limit(rt: &impl Print, memory: &Memory) -> io::Result<()> {
+fn limit(rt: &impl Print, memory: &Memory) {
     let last = [word::LAST_ADDRESS];
-    line(rt, memory, &last, u32::MAX, 0)?;
-    line(rt, memory, &last, 0, u32::MAX)?;
+    line(rt, memory, &last, u32::MAX, 0);
+    line(rt, memory, &last, 0, u32::MAX);
     let past = [word::LAST_ADDRESS + 1];
-    line(rt, memory, &past, 7, 0)?;
-    line(rt, memory, &past, 7, u32::MAX)?;
-    line(rt, memory, &[0, u32::MAX], 100, 0)
+    line(rt, memory, &past, 7, 0);
+    line(rt, memory, &past, 7, u32::MAX);
+    line(rt, memory, &[0, u32::MAX], 100, 0);
 }
 
 // The same addresses in another order end elsewhere.
-fn in_order(rt: &impl Print, memory: &Memory) -> io::Result<()> {
-    line(rt, memory, &[32, 0], 40, 0)?;
-    line(rt, memory, &[0, 32], 40, 0)
+fn in_order(rt: &impl Print, memory: &Memory) {
+    line(rt, memory, &[32, 0], 40, 0);
+    line(rt, memory, &[0, 32], 40, 0);
 }
 
 // The longest list, and one that is too long.
-fn long(rt: &impl Print, memory: &Memory) -> io::Result<()> {
+fn long(rt: &impl Print, memory: &Memory) {
     let zeros = [0; 4097];
-    line(rt, memory, &zeros[..4096], 32, 0)?;
-    line(rt, memory, &zeros[..4096], 31, 0)?;
-    line(rt, memory, &zeros, 32, 0)
+    line(rt, memory, &zeros[..4096], 32, 0);
+    line(rt, memory, &zeros[..4096], 31, 0);
+    line(rt, memory, &zeros, 32, 0);
 }
 
-fn main(rt: HostRuntime) -> io::Result<()> {
+fn main(rt: HostRuntime) {
     let memory = Memory::open();
-    paid(&rt, &memory)?;
-    limit(&rt, &memory)?;
-    in_order(&rt, &memory)?;
-    long(&rt, &memory)
+    paid(&rt, &memory);
+    limit(&rt, &memory);
+    in_order(&rt, &memory);
+    long(&rt, &memory);
 }

@@ -1,6 +1,6 @@
 // The five instructions, each one step of a frame. Its line has one of two forms.
 //   X memory op gas heap aux hbound abound area source value dst0 dst1 increment kernel hooking hook = status gas hbound abound stop flags digest
-// runs it with the registers that are kept from line to line. The places are numbers as `registers::place_of` reads them. The answer always has all seven numbers: a refusal has the frame as given.
+// runs it with the registers that are kept from line to line. The places are numbers, which `registers::Place::from` reads. The answer always has all seven numbers: a refusal has the frame as given.
 //   x memory op gas heap aux hbound abound area WORD tag WORD hooking hook = status gas hbound abound WORD NEXT tag stop
 // runs it with registers of its own: the operand and its tag in register 1, the stored value in 2, all others 0. The results go to 3 and 4; it increments, in kernel mode.
 // The answer is the word read (0 of a store) and the operand plus 32 with its tag. A panic has no more than a frame, and a refusal no more than its number.

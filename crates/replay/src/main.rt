@@ -17,10 +17,6 @@ mod report;
 mod run;
 mod stored;
 
-use std::io;
-use std::io::BufReader;
-
-fn main(rt: HostRuntime) -> io::Result<()> {
-    let mut reader = BufReader::new(rt.alloc(), rt.reader())?;
-    run::replay(rt.alloc(), &mut reader, &mut io::writer(&rt))
+fn main(rt: HostRuntime) {
+    run::replay(&rt, rt.stdin());
 }

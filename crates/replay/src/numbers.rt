@@ -14,7 +14,7 @@ use word::Word;
 // The most numbers of an answer.
 const MOST: usize = 16;
 
-#[derive(PartialEq, Eq, Drop)]
+#[derive(Clone, PartialEq, Eq, Drop)]
 pub struct Numbers {
     list: ArrayVec<u64, MOST>,
 }

@@ -1,8 +1,7 @@
-// Counts the calls of each group and of all groups, and how many answers differ.
+// Counts the calls of each group and of all groups, and how many answers differ. What cannot be written is left out.
 use crate::stored::Failure;
-use std::alloc::Global;
-use std::io::Write;
-use std::{fmt, io};
+use arrayvec::ArrayVec;
+use std::fmt;
 
 // At most so many bytes of a title are printed.
 const MOST_TITLE: usize = 128;
@@ -35,17 +34,17 @@ impl fmt::Display for Counts {
 }
 
 // The title and the counts of a group, and the counts of all.
-#[derive(Drop)]
+#[derive(Clone, Drop)]
 pub struct Report {
-    title: Vec<u8>,
+    title: ArrayVec<u8, MOST_TITLE>,
     group: Counts,
     all: Counts,
 }
 
 impl Report {
-    pub fn new(alloc: Global) -> Self {
+    pub fn new() -> Self {
         Report {
-            title: Vec::new(alloc),
+            title: ArrayVec::new(),
             group: Counts::default(),
             all: Counts::default(),
         }
@@ -54,49 +53,43 @@ impl Report {
     // ---- groups
 
     // Ends a group. One without calls and without a title is not printed.
-    fn end_group(&self, out: &mut impl Write) -> io::Result<()> {
+    fn end_group(&self, rt: &impl Print) {
         let counts = self.group;
         if counts.calls == 0 && self.title.is_empty() {
-            return Ok(());
+            return;
         }
-        out.write_all(&self.title)?;
-        writeln!(out, ": {counts}")
+        let _ = rt.write_all(self.title.as_slice());
+        let _ = println!(rt; ": {counts}");
     }
 
     // Ends a group, and begins the next.
-    pub fn begin_group(&mut self, out: &mut impl Write, title: &[u8]) -> io::Result<()> {
-        self.end_group(out)?;
+    pub fn begin_group(&mut self, rt: &impl Print, title: &[u8]) {
+        self.end_group(rt);
         self.group = Counts::default();
         self.title.clear();
-        self.title
-            .extend_from_slice(title.get(..MOST_TITLE).unwrap_or(title))?;
-        Ok(())
+        let _ = self
+            .title
+            .try_extend_from_slice(title.get(..MOST_TITLE).unwrap_or(title));
     }
 
     // Ends the last group, and prints the counts of all.
-    pub fn end(&self, out: &mut impl Write) -> io::Result<()> {
-        self.end_group(out)?;
+    pub fn end(&self, rt: &impl Print) {
+        self.end_group(rt);
         let all = self.all;
-        writeln!(out, "{all}")
+        let _ = println!(rt; "{all}");
     }
 
     // ---- answers
 
     // Counts the call of a line, and prints why its answer is not right.
-    pub fn count(
-        &mut self,
-        out: &mut impl Write,
-        line: u64,
-        checked: Result<(), Failure>,
-    ) -> io::Result<()> {
+    pub fn count(&mut self, rt: &impl Print, line: u64, checked: Result<(), Failure>) {
         let is_right = checked.is_ok();
         if let Err(failure) = checked
             && self.all.differ < PRINTED
         {
-            writeln!(out, "line {line}: {failure}")?;
+            let _ = println!(rt; "line {line}: {failure}");
         }
         self.group.count(is_right);
         self.all.count(is_right);
-        Ok(())
     }
 }

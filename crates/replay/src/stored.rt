@@ -7,10 +7,10 @@ use std::fmt;
 use std::str::FromStr;
 
 // A call, and the answer that its line expects.
-#[derive(Drop)]
-struct StoredCall {
-    call: Call,
-    expected: Numbers,
+#[derive(Clone, Drop)]
+pub struct StoredCall {
+    pub call: Call,
+    pub expected: Numbers,
 }
 
 impl FromStr for StoredCall {

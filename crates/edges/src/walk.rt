@@ -77,10 +77,6 @@ fn numbers_of(text: &[u8]) -> [u64; PLACES] {
     numbers
 }
 
-fn print_title(rt: &impl Print, title: &[u8]) {
-    let _ = rt.write_all(title);
-}
-
 // How many answers were right and wrong since the last title.
 #[derive(Clone, Copy, Default)]
 struct Tally {
@@ -123,7 +119,9 @@ impl Tally {
     fn take(&mut self, rt: &impl Print, memory: &mut Memory, line: Line<'_>) {
         match line {
             Line::Blank => {}
-            Line::Title(title) => print_title(rt, title),
+            Line::Title(title) => {
+                let _ = rt.write_all(title);
+            }
             Line::End => self.end(rt),
             Line::Call { letter, numbers } => {
                 let got = match letter {
@@ -144,7 +142,7 @@ pub fn walk(rt: &impl Print, memory: &mut Memory, input: &[u8]) {
             Some(line) => tally.take(rt, memory, Line::from(line)),
             None => {
                 if let Line::Title(title) = Line::from(line) {
-                    print_title(rt, title);
+                    let _ = rt.write_all(title);
                 }
             }
         }

@@ -47,5 +47,5 @@ module _ (m : Mem) (p k : ℕ) (block : List ℕ) (a : Result ⊤ Refusal) (t : 
   pub chunk_asks : a ≡ Ok tt → WellFormed m × ((length block ≡ 256) × (zeros block ≡ true))
   chunk_asks e = let h = passes e in (well_formed_means m h.0, (block_long block h.1, block_zero block h.1))
 
-pub chunk_fits : (m : Mem) (p k : ℕ) (o : List ℕ) {d : List ℕ} → length o ≡ 256 → d ≡ run (view_of m) p (256 * k) 256 → length o ≡ length d
-chunk_fits m p k o l q = l ∙ sym (ap length q ∙ tab_long 256 _)
+pub chunk_fits : (m : Mem) (p k : ℕ) (o : List ℕ) {d : List ℕ} → length o ≡ 256 → d ≡ run (view_of m) p (256 * k) 256 → length d ≡ length o
+chunk_fits m p k o l q = ap length q ∙ tab_long 256 _ ∙ sym l

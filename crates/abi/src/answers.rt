@@ -155,3 +155,14 @@ pub fn give_pointer(out: &mut [u64], pointer: FatPointer) -> u32
     let length = frames::wide(pointer.length);
     give(out, Ok([offset, page, start, length]))
 }
+
+// Copies bytes to an output of their length.
+pub fn copy(output: &mut [u8], from: &[u8])
+    requires { length from.now ≡ length output.old }
+    ensures { output.new ≡ from.now }
+{
+    // Stays: `copy_from_slice` of bytes whose number isn't a constant compiles to a call of memmove, which the C archives don't ask of their host.
+    for i in 0..output.len() {
+        output[i] = from[i];
+    }
+}

@@ -179,7 +179,7 @@ pub fn zp_chunk<'a>(
                 number,
                 block,
             );
-            output.copy_from_slice(chunk);
+            answers::copy(output, chunk);
             0
         }
         Err(refusal) => u32::from(refusal),

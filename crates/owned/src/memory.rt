@@ -16,6 +16,7 @@ ghost use Rattle.opening.specs.Opening.{setting_from};
 ghost use Rattle.abi.specs.Interface.{Gives, chunk_answer};
 ghost use Rattle.owned.specs.Answers.{word_and_count, partial_outcome, compared_outcome};
 
+use abi::answers;
 use abi::status::UNFIT;
 use opening::Capacity;
 use outcome::Refusal;
@@ -242,7 +243,7 @@ pub fn own_chunk<'a>(
                 number,
                 block,
             );
-            output.copy_from_slice(chunk);
+            answers::copy(output, chunk);
             0
         }
         Err(refusal) => u32::from(refusal),

@@ -218,7 +218,7 @@ words_asks s bytes keys order words words' asks long = record {
   };
 }
 
--- ---- what the steps of `start_with` leave: k₁ and w₁ are the keys, cleared, and the words with the new head
+-- ---- what the steps of `start` leave: k₁ and w₁ are the keys, cleared, and the words with the new head
 module _ (s : Setting) (bytes keys order words : List ℕ) (asks : OpenAsks s (mem bytes keys order words)) (width : (i : ℕ) → i < 6 → get_or (headed s words) i 0 ≤ 4294967295)
     (full : PoolFull s.chunks words)
     (k₁ w₁ : List ℕ) (blank : k₁ ≡ replicate (length keys) 0) (head : w₁ ≡ headed s words) where

@@ -27,7 +27,7 @@ fields [] = [] ∷ []
 fields (b ∷ bs) = cond (eqb b 32) ([] ∷ fields bs) (on_first b (fields bs))
 
 -- ---- numbers
--- the digit that a byte stands for: `0` to `9`, and `a` to `f` for 10 to 15; 16 says that it stands for None
+-- the digit that a byte stands for: `0` to `9`, and `a` to `f` for 10 to 15; 16 says that it stands for none
 unfoldable pub digit : ℕ → ℕ
 digit b = cond (leb 48 b && leb b 57) (b - 48) (cond (leb 97 b && leb b 102) (b - 87) 16)
 
@@ -88,7 +88,7 @@ also None ns = None
 also (Some n) None = None
 also (Some n) (Some ns) = Some (n ∷ ns)
 
--- the fields' numbers; None where a field is not of its form, or there are more fields or fewer
+-- the fields' numbers; none where a field is not of its form, or there are more fields or fewer
 abbrev pub numbers : List (List ℕ → Option ℕ) → List (List ℕ) → Option (List ℕ)
 numbers [] [] = Some []
 numbers [] (f ∷ fs) = None

@@ -29,6 +29,22 @@ clear_more ks os ds from i l p c = record {
     earlier : (j : ℕ) → (get_or os j 0 ≡ get_or os i 0 → ⊥) → j < i + 1 → j < i
     earlier j n b = ⊎_elim (λ (e : j ≡ i). absurd (n (ap (λ (x : ℕ). get_or os x 0) e))) (λ (ne : j ≡ i → ⊥). omega arith) (same_or_not j i)
 
+-- the loop of `move_down`
+pub down_more : (os ds : List ℕ) (at from j : ℕ) → at ≤ from → from ≤ j → j < length os → ((i : ℕ) → j ≤ i → get_or ds i 0 ≡ get_or os i 0) → MovedDown os ds at from j
+    → MovedDown os (set ds (at + (j - from)) (get_or ds j 0)) at from (j + 1)
+down_more os ds at from j a l p rest d = record {
+  long = length-set ds (at + (j - from)) (get_or ds j 0) ∙ d.long;
+  low = λ i h. get_or-set_other ds (at + (j - from)) i (get_or ds j 0) 0 (λ e. omega arith) ∙ d.low i h;
+  high = λ i h k. ⊎_elim
+      (λ (e : i ≡ j). ap (λ (x : ℕ). get_or (set ds (at + (j - from)) (get_or ds j 0)) (at + (x - from)) 0) e ∙ get_or-set_same ds (at + (j - from)) (get_or ds j 0) 0 (let q = d.long in omega arith) ∙ rest j (omega arith) ∙ ap (λ (x : ℕ). get_or os x 0) (sym e))
+      (λ (n : i ≡ j → ⊥). get_or-set_other ds (at + (j - from)) (at + (i - from)) (get_or ds j 0) 0 (λ e. n (omega arith)) ∙ d.high i h (omega arith))
+      (same_or_not i j);
+}
+
+pub down_rest : (os ds : List ℕ) (at from j : ℕ) → at ≤ from → from ≤ j → ((i : ℕ) → j ≤ i → get_or ds i 0 ≡ get_or os i 0)
+    → (i : ℕ) → j + 1 ≤ i → get_or (set ds (at + (j - from)) (get_or ds j 0)) i 0 ≡ get_or os i 0
+down_rest os ds at from j a l rest i h = get_or-set_other ds (at + (j - from)) i (get_or ds j 0) 0 (λ e. omega arith) ∙ rest i (omega arith)
+
 -- what is left is indexed
 module _ (ks os ks' os' : List ℕ) (n from to : ℕ) (ix : indexed ks os n ≡ true) (l : from ≤ to) (h : to ≤ n) (c : Cleared ks os from to ks') (d : MovedDown os os' from to n) where
   was : Index ks os n

@@ -160,7 +160,10 @@ fn move_down(order: &mut [u32], at: usize, from: usize, n: usize)
     requires { (at ≤ from) × (from ≤ n) × (n ≤ length order.old) }
     ensures { MovedDown order.old order.new at from n }
 {
-    order.copy_within(from..n, at);
+    // Stays: `copy_within` takes a third more time where many slots stay.
+    for j in from..n {
+        order[at + (j - from)] = order[j];
+    }
 }
 
 // Frees the places of the ranks from `from` up to, but without, `to`; those above move down.

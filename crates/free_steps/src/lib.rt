@@ -81,9 +81,9 @@ pub fn free_groups(
     requires { WellFormed (mem bytes.old keys.old order.old words.old) }
     ensures { let m = mem bytes.old keys.old order.old words.old in Shows (setting_of m) (emptied (setting_of m) len (view_of m)) (mem bytes.new keys.new order.new words.new) }
 {
-    let end = words[head::PAGES] as usize + head::FIXED_ENTRIES;
-    for e in head::FIXED_ENTRIES..end {
-        free_entry(bytes, keys, order, words, e, len);
+    let pages = words[head::PAGES] as usize;
+    for i in 0..pages {
+        free_entry(bytes, keys, order, words, head::FIXED_ENTRIES + i, len);
     }
 }
 

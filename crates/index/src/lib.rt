@@ -67,7 +67,7 @@ pub fn rank_below(keys: &[u64], order: &[u32], n: usize, k: u64) -> usize
 {
     let mut base = 0;
     let mut len = n;
-    // Stays: `partition_point` branches on each key, which a search would mispredict at every second step, and takes a step more unless n is a power of 2.
+    // Stays: `partition_point` shifts no step away, and takes a step more unless n is a power of 2.
     while 0 < len {
         let half = (len + 1) / 2;
         let s = order[base + half - 1] as usize;

@@ -10,7 +10,7 @@ mod samples;
 use memory::Memory;
 use paths::Path;
 
-// The five lines, and how many paths are right. What cannot be written is left out.
+// The five lines, and how many paths are right. Each piece is a print of its own: one that cannot be written is left out, and the next is tried.
 fn main(rt: HostRuntime) {
     let mut memory = Memory::new();
     let mut right: usize = 0;
@@ -22,9 +22,12 @@ fn main(rt: HostRuntime) {
                 right += 1;
             }
             Err(wrong) => {
-                let _ = println!(rt; " {wrong}");
+                wrong.print(&rt);
+                let _ = println!(rt);
             }
         }
     }
-    let _ = println!(rt; "card: {right} of {} paths right", Path::ALL.len());
+    let _ = print!(rt; "card: ");
+    let _ = print!(rt; "{right}");
+    let _ = println!(rt; " of {} paths right", Path::ALL.len());
 }

@@ -1,5 +1,4 @@
 // Compares what came with what is expected. The first difference ends a path, whose line prints both.
-use std::fmt;
 use word::Word;
 
 // What came in the place of what is expected.
@@ -24,45 +23,58 @@ pub enum Wrong {
     },
 }
 
-// A word prints as its 64 hexadecimal digits, the highest first.
-#[derive(Clone, Copy)]
-struct Digits(Word);
-
-impl fmt::Display for Digits {
-    fn fmt<W: fmt::Write>(&self, f: &mut fmt::Formatter<W>) -> fmt::Result {
-        let [a, b, c, d] = self.0.limbs;
-        write!(f, "{d:016x}{c:016x}{b:016x}{a:016x}")
-    }
+// Prints the 64 hexadecimal digits of a word, the highest first.
+fn print_word(rt: &impl Print, word: Word) {
+    let [a, b, c, d] = word.limbs;
+    let _ = print!(rt; "{d:016x}");
+    let _ = print!(rt; "{c:016x}");
+    let _ = print!(rt; "{b:016x}");
+    let _ = print!(rt; "{a:016x}");
 }
 
-impl fmt::Display for Wrong {
-    fn fmt<W: fmt::Write>(&self, f: &mut fmt::Formatter<W>) -> fmt::Result {
-        match *self {
+// Prints the two numbers that differ.
+fn print_numbers(rt: &impl Print, expected: u64, came: u64) {
+    let _ = print!(rt; ": expected ");
+    let _ = print!(rt; "{expected}");
+    let _ = print!(rt; ", came ");
+    let _ = print!(rt; "{came}");
+}
+
+impl Wrong {
+    // Prints what differs. Each piece is a print of its own, so that all are tried.
+    pub fn print(self, rt: &impl Print) {
+        match self {
             Wrong::Number {
                 what,
                 expected,
                 came,
-            } => write!(f, "WRONG, {what}: expected {expected}, came {came}"),
+            } => {
+                let _ = print!(rt; " WRONG, ");
+                let _ = print!(rt; "{what}");
+                print_numbers(rt, expected, came);
+            }
             Wrong::Gas {
                 touch,
                 expected,
                 came,
-            } => write!(
-                f,
-                "WRONG, gas after touch {touch}: expected {expected}, came {came}"
-            ),
+            } => {
+                let _ = print!(rt; " WRONG, gas after touch ");
+                let _ = print!(rt; "{touch}");
+                print_numbers(rt, u64::from(expected), u64::from(came));
+            }
             Wrong::Word {
                 what,
                 address,
                 expected,
                 came,
             } => {
-                let expected = Digits(expected);
-                let came = Digits(came);
-                write!(
-                    f,
-                    "WRONG, {what} at {address}: expected {expected}, came {came}"
-                )
+                let _ = print!(rt; " WRONG, ");
+                let _ = print!(rt; "{what} at ");
+                let _ = print!(rt; "{address}");
+                let _ = print!(rt; ": expected ");
+                print_word(rt, expected);
+                let _ = print!(rt; ", came ");
+                print_word(rt, came);
             }
         }
     }

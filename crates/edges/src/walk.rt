@@ -77,6 +77,13 @@ fn numbers_of(text: &[u8]) -> [u64; PLACES] {
     numbers
 }
 
+// Prints a title byte by byte: of one that does not fit whole, what fits is written.
+fn print_title(rt: &impl Print, title: &[u8]) {
+    for byte in title {
+        let _ = rt.write_all(&[*byte]);
+    }
+}
+
 // How many answers were right and wrong since the last title.
 #[derive(Clone, Copy, Default)]
 struct Tally {
@@ -105,23 +112,29 @@ impl Tally {
         self.wrong = self.wrong.saturating_add(1);
         let _ = rt.write_all(b"(");
         let _ = rt.write_all(&[letter]);
-        let _ = print!(rt; " gave refusal {refusal}, value {value}) ");
+        let _ = print!(rt; " gave refusal ");
+        let _ = print!(rt; "{refusal}");
+        let _ = print!(rt; ", value ");
+        let _ = print!(rt; "{value}");
+        let _ = print!(rt; ") ");
     }
 
     // Ends a group: prints how many answers were right, and how many wrong.
     fn end(&mut self, rt: &impl Print) {
         let Tally { right, wrong } = *self;
         *self = Tally::default();
-        let _ = println!(rt; ": {right} right, {wrong} wrong");
+        let _ = print!(rt; ": ");
+        let _ = print!(rt; "{right}");
+        let _ = print!(rt; " right, ");
+        let _ = print!(rt; "{wrong}");
+        let _ = println!(rt; " wrong");
     }
 
     // Carries out a line.
     fn take(&mut self, rt: &impl Print, memory: &mut Memory, line: Line<'_>) {
         match line {
             Line::Blank => {}
-            Line::Title(title) => {
-                let _ = rt.write_all(title);
-            }
+            Line::Title(title) => print_title(rt, title),
             Line::End => self.end(rt),
             Line::Call { letter, numbers } => {
                 let got = match letter {
@@ -134,7 +147,8 @@ impl Tally {
     }
 }
 
-// Walks every line of the input. Of a last line with no end only a title counts. What cannot be written is left out.
+// Walks every line of the input. Of a last line with no end only a title counts.
+// Each piece is a write of its own: one that cannot be written is left out, and the next is tried.
 pub fn walk(rt: &impl Print, memory: &mut Memory, input: &[u8]) {
     let mut tally = Tally::default();
     for line in input.split_inclusive(|byte| *byte == b'\n') {
@@ -142,7 +156,7 @@ pub fn walk(rt: &impl Print, memory: &mut Memory, input: &[u8]) {
             Some(line) => tally.take(rt, memory, Line::from(line)),
             None => {
                 if let Line::Title(title) = Line::from(line) {
-                    let _ = rt.write_all(title);
+                    print_title(rt, title);
                 }
             }
         }

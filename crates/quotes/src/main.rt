@@ -8,29 +8,28 @@ mod question;
 use memory::Memory;
 use question::{Beside, Question};
 use state::Area;
-use state::quote::RunEnd;
 
 // A line: the list with its gas and bound, the quote, and the loads of both areas. A refused quote has no loads beside it.
-// What cannot be written is left out.
+// Each piece is a print of its own: one that cannot be written is left out, and the next is tried.
 fn line(rt: &impl Print, memory: &Memory, list: &[u32], gas: u32, bound: u32) {
     let asked = Question { list, gas, bound };
+    asked.print(rt);
+    let _ = print!(rt; "=> ");
     match state::quote::quote(list, gas, bound) {
         Ok(quoted) => {
-            let heap = Beside::new(memory, asked, quoted, Area::Heap);
-            let aux = Beside::new(memory, asked, quoted, Area::Aux);
-            let RunEnd {
-                spent,
-                bound,
-                position,
-            } = quoted;
-            let _ = println!(rt;
-                "{asked}=> spent {spent}, bound {bound}, position {position}; heap loads {heap}; aux loads {aux}"
-            );
+            question::print_quote(rt, quoted);
+            let _ = print!(rt; "; heap loads ");
+            Beside::new(memory, asked, quoted, Area::Heap).print(rt);
+            let _ = print!(rt; "; aux loads ");
+            Beside::new(memory, asked, quoted, Area::Aux).print(rt);
         }
         Err(refusal) => {
-            let _ = println!(rt; "{asked}=> {refusal}");
+            let number = u32::from(refusal);
+            let _ = print!(rt; "refused ");
+            let _ = print!(rt; "{number}");
         }
     }
+    let _ = println!(rt);
 }
 
 // Paid from one bound: growth by steps, gas that is just enough or one short, and a list of no addresses.

@@ -4,7 +4,6 @@ use crate::loads::Ran;
 use crate::memory::Memory;
 use state::Area;
 use state::quote::RunEnd;
-use std::fmt;
 
 // A list of addresses, and the gas and the bound that their loads begin with.
 #[derive(Clone, Copy)]
@@ -14,20 +13,41 @@ pub struct Question<'a> {
     pub bound: u32,
 }
 
-// A list of more than four addresses is told by how many there are.
-impl fmt::Display for Question<'_> {
-    fn fmt<W: fmt::Write>(&self, f: &mut fmt::Formatter<W>) -> fmt::Result {
+impl Question<'_> {
+    // Prints the bound, the gas and the list. One of more than four addresses is told by how many there are.
+    pub fn print(&self, rt: &impl Print) {
         let Question { list, gas, bound } = *self;
-        write!(f, "bound {bound}, gas {gas}: ")?;
+        let _ = print!(rt; "bound ");
+        let _ = print!(rt; "{bound}");
+        let _ = print!(rt; ", gas ");
+        let _ = print!(rt; "{gas}");
+        let _ = print!(rt; ": ");
         let count = list.len();
         if count > 4 {
-            return write!(f, "{count} addresses ");
+            let _ = print!(rt; "{count}");
+            let _ = print!(rt; " addresses ");
+            return;
         }
         for address in list {
-            write!(f, "{address} ")?;
+            let _ = print!(rt; "{address}");
+            let _ = print!(rt; " ");
         }
-        Ok(())
     }
+}
+
+// Prints a quote.
+pub fn print_quote(rt: &impl Print, quoted: RunEnd) {
+    let RunEnd {
+        spent,
+        bound,
+        position,
+    } = quoted;
+    let _ = print!(rt; "spent ");
+    let _ = print!(rt; "{spent}");
+    let _ = print!(rt; ", bound ");
+    let _ = print!(rt; "{bound}");
+    let _ = print!(rt; ", position ");
+    let _ = print!(rt; "{position}");
 }
 
 // A quote, beside the loads that it speaks of.
@@ -55,12 +75,12 @@ impl<'a> Beside<'a> {
             && quoted.bound == ran.bound
             && quoted.position as usize == ran.count
     }
-}
 
-impl fmt::Display for Beside<'_> {
-    fn fmt<W: fmt::Write>(&self, f: &mut fmt::Formatter<W>) -> fmt::Result {
+    // Prints whether the loads were the same, and how they ended where they were not.
+    pub fn print(&self, rt: &impl Print) {
         if self.is_same() {
-            return write!(f, "the same");
+            let _ = print!(rt; "the same");
+            return;
         }
         let Ran {
             gas,
@@ -68,9 +88,11 @@ impl fmt::Display for Beside<'_> {
             count,
             ..
         } = self.ran;
-        write!(
-            f,
-            "OTHERWISE: gas left {gas}, bound {bound}, position {count}"
-        )
+        let _ = print!(rt; "OTHERWISE: gas left ");
+        let _ = print!(rt; "{gas}");
+        let _ = print!(rt; ", bound ");
+        let _ = print!(rt; "{bound}");
+        let _ = print!(rt; ", position ");
+        let _ = print!(rt; "{count}");
     }
 }

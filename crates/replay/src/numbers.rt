@@ -7,7 +7,6 @@ use arrayvec::ArrayVec;
 use outcome::Refusal;
 use page_ids::{BasePage, PageId};
 use reads::Marks;
-use std::fmt;
 use std::str::FromStr;
 use word::Word;
 
@@ -35,6 +34,14 @@ impl Numbers {
             Err(refusal) => Numbers::from(refusal),
         }
     }
+
+    // Prints the numbers, each after a space. Each piece is a print of its own, so that all are tried.
+    pub fn print(&self, rt: &impl Print) {
+        for number in self.list.iter() {
+            let _ = print!(rt; " ");
+            let _ = print!(rt; "{number}");
+        }
+    }
 }
 
 // Each number is after a space. There is at least one, and there are not too many.
@@ -48,16 +55,6 @@ impl FromStr for Numbers {
                 .map_err(|_| Unreadable)?;
         }
         Ok(Numbers { list })
-    }
-}
-
-// Each number is after a space.
-impl fmt::Display for Numbers {
-    fn fmt<W: fmt::Write>(&self, f: &mut fmt::Formatter<W>) -> fmt::Result {
-        for number in self.list.iter() {
-            write!(f, " {number}")?;
-        }
-        Ok(())
     }
 }
 

@@ -1,7 +1,7 @@
-// Counts the calls of each group and of all groups, and how many answers differ. What cannot be written is left out.
+// Counts the calls of each group and of all groups, and how many answers differ.
+// Each piece is a print of its own: one that cannot be written is left out, and the next is tried.
 use crate::stored::Failure;
 use arrayvec::ArrayVec;
-use std::fmt;
 
 // At most so many bytes of a title are printed.
 const MOST_TITLE: usize = 128;
@@ -23,13 +23,15 @@ impl Counts {
             self.differ = self.differ.saturating_add(1);
         }
     }
-}
 
-impl fmt::Display for Counts {
-    fn fmt<W: fmt::Write>(&self, f: &mut fmt::Formatter<W>) -> fmt::Result {
+    // Prints the counts, and ends their line.
+    fn print(&self, rt: &impl Print) {
         let calls = self.calls;
         let differ = self.differ;
-        write!(f, "{calls} calls, {differ} differ")
+        let _ = print!(rt; "{calls}");
+        let _ = print!(rt; " calls, ");
+        let _ = print!(rt; "{differ}");
+        let _ = println!(rt; " differ");
     }
 }
 
@@ -59,7 +61,8 @@ impl Report {
             return;
         }
         let _ = rt.write_all(self.title.as_slice());
-        let _ = println!(rt; ": {counts}");
+        let _ = print!(rt; ": ");
+        counts.print(rt);
     }
 
     // Ends a group, and begins the next.
@@ -75,8 +78,7 @@ impl Report {
     // Ends the last group, and prints the counts of all.
     pub fn end(&self, rt: &impl Print) {
         self.end_group(rt);
-        let all = self.all;
-        let _ = println!(rt; "{all}");
+        self.all.print(rt);
     }
 
     // ---- answers
@@ -87,7 +89,9 @@ impl Report {
         if let Err(failure) = checked
             && self.all.differ < PRINTED
         {
-            let _ = println!(rt; "line {line}: {failure}");
+            let _ = print!(rt; "line ");
+            let _ = print!(rt; "{line}");
+            failure.print(rt);
         }
         self.group.count(is_right);
         self.all.count(is_right);

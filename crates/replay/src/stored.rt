@@ -3,7 +3,6 @@ use crate::call::Call;
 use crate::fields::Unreadable;
 use crate::machine::Machine;
 use crate::numbers::Numbers;
-use std::fmt;
 use std::str::FromStr;
 
 // A call, and the answer that its line expects.
@@ -38,11 +37,20 @@ impl From<Unreadable> for Failure {
     }
 }
 
-impl fmt::Display for Failure {
-    fn fmt<W: fmt::Write>(&self, f: &mut fmt::Formatter<W>) -> fmt::Result {
+impl Failure {
+    // Prints why, after the number of the line, and ends the line. Each piece is a print of its own, so that all are tried.
+    pub fn print(&self, rt: &impl Print) {
         match self {
-            Failure::Unreadable => write!(f, "cannot be read"),
-            Failure::Differs { expected, got } => write!(f, "expected{expected}, got{got}"),
+            Failure::Unreadable => {
+                let _ = println!(rt; ": cannot be read");
+            }
+            Failure::Differs { expected, got } => {
+                let _ = print!(rt; ": expected");
+                expected.print(rt);
+                let _ = print!(rt; ", got");
+                got.print(rt);
+                let _ = println!(rt);
+            }
         }
     }
 }

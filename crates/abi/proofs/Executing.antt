@@ -173,14 +173,14 @@ none : {r : ℕ} → (r ≡ 0 → ⊥) → (r ≡ 100 → ⊥) → (r ≡ 101 �
 none a b c = ⊎_elim a (⊎_elim b c)
 
 -- ---- what is left by an instruction that ended so, with registers of the numbers l; h is the hook's value
-record Left (value : Executed → Value) (s : ExecutionStatus) (x : code.Executed) (frame l : List ℕ) (r h : ℕ) (frame' : List ℕ) : Type 0 where
+record Left (value : Executed → Value) (s : ExecutionStatus Refusal) (x : code.Executed Refusal) (frame l : List ℕ) (r h : ℕ) (frame' : List ℕ) : Type 0 where
   same : outcome_from value r h frame' l ≡ ended_with value s x.frame (registers_from l)
   kept : (r ≡ 0 → ⊥) → (r ≡ 100 → ⊥) → (r ≡ 101 → ⊥) → (frame' ≡ frame) × ((e : Refusal) × (s ≡ Refused e))
   frame_numbers_lem : (r ≡ 0) ⊎ ((r ≡ 100) ⊎ (r ≡ 101)) → frame' ≡ frame_numbers (frame_from frame')
 
-module _ (value : Executed → Value) (tells : TellsStop value) (P : Stop → Type 0) (x : code.Executed) (frame l : List ℕ) (h : ℕ) where
-  left : (s : ExecutionStatus) → Reportable P (ended_with value s x.frame (registers_from l)) → ((k : ℕ) → s ≡ SuspendedOnHook k → P (on_hook k) → h ≡ k)
-      → Left value s x frame l (executed_status s) h (frame_after s x frame)
+module _ (value : Executed → Value) (tells : TellsStop value) (P : Stop → Type 0) (x : code.Executed Refusal) (frame l : List ℕ) (h : ℕ) where
+  left : (s : ExecutionStatus Refusal) → Reportable P (ended_with value s x.frame (registers_from l)) → ((k : ℕ) → s ≡ SuspendedOnHook k → P (on_hook k) → h ≡ k)
+      → Left value s x frame l (executed_status number_of s) h (frame_after s x frame)
   left Running p q = record {
     same = ap (λ (f : Frame). done (value (record { frame = f; registers = registers_from l; stop = running }))) (frame_back x.frame);
     kept = λ a b c. absurd (a refl);
@@ -214,13 +214,13 @@ lengths frame others {n} e = (eqb-true (length frame) 6 (and_left _ _ e), eqb-tr
 
 module _ {value : Executed → Value} {m : Mem} {c : Call} {frame l : List ℕ} {fits : Bool} {h : ℕ} where
   -- d is the call as it was made, with the frame f
-  executes_with : TellsStop value → fits ≡ true → (i : Instruction c) → {d : Call} → d ≡ c → {f : Frame} {m' : Mem} {l' : List ℕ} (x : code.Executed) → RunsWith value m d f l x m' l'
-      → {r : ℕ} {frame' : List ℕ} → ReportsExecuted x frame r frame' → ((k : ℕ) → x.status ≡ SuspendedOnHook k → Stops i (on_hook k) → h ≡ k) → ExecutesWith value m c frame l fits r h m' frame' l'
+  executes_with : TellsStop value → fits ≡ true → (i : Instruction c) → {d : Call} → d ≡ c → {f : Frame} {m' : Mem} {l' : List ℕ} (x : code.Executed Refusal) → RunsWith value m d f l x m' l'
+      → {r : ℕ} {frame' : List ℕ} → ReportsExecuted number_of x frame r frame' → ((k : ℕ) → x.status ≡ SuspendedOnHook k → Stops i (on_hook k) → h ≡ k) → ExecutesWith value m c frame l fits r h m' frame' l'
   executes_with tells fit i q {f} {m'} {l'} x runs {r} {frame'} t stop =
       let done : CallDoes m c (outcome_with value x l') m' = subst (λ (y : Call). CallDoes m y (outcome_with value x l') m') q runs.does in
       let left_is : Left value x.status x frame l' r h frame' =
       subst (λ (z : ℕ). Left value x.status x frame l' z h frame') (sym t.status)
-      (subst (λ (z : List ℕ). Left value x.status x frame l' (executed_status x.status) h z) (sym t.frame_is)
+      (subst (λ (z : List ℕ). Left value x.status x frame l' (executed_status number_of x.status) h z) (sym t.frame_is)
       (left value tells (Stops i) x frame l' h x.status (subst (Reportable (Stops i)) (sym done.answer) (reportable m i)) stop)) in
       record {
         unfit = λ e. absurd (false≢true (sym e ∙ fit));
@@ -230,8 +230,8 @@ module _ {value : Executed → Value} {m : Mem} {c : Call} {frame l : List ℕ} 
       }
 
 module _ {m : Mem} {c : Call} {frame l : List ℕ} {fits : Bool} {h : ℕ} where
-  pub executes : fits ≡ true → (i : Instruction c) → {d : Call} → d ≡ c → {f : Frame} {m' : Mem} {l' : List ℕ} (x : code.Executed) → Runs m d f l x m' l'
-      → {r : ℕ} {frame' : List ℕ} → ReportsExecuted x frame r frame' → ((k : ℕ) → x.status ≡ SuspendedOnHook k → Stops i (on_hook k) → h ≡ k) → Executes m c frame l fits r h m' frame' l'
+  pub executes : fits ≡ true → (i : Instruction c) → {d : Call} → d ≡ c → {f : Frame} {m' : Mem} {l' : List ℕ} (x : code.Executed Refusal) → Runs m d f l x m' l'
+      → {r : ℕ} {frame' : List ℕ} → ReportsExecuted number_of x frame r frame' → ((k : ℕ) → x.status ≡ SuspendedOnHook k → Stops i (on_hook k) → h ≡ k) → Executes m c frame l fits r h m' frame' l'
   executes = executes_with (λ P e p. stop_is p e refl)
 
 -- no instruction but a store stops
@@ -239,18 +239,18 @@ pub no_stop : {h k : ℕ} → on_hook k ≡ running → h ≡ k
 no_stop e = absurd (let z : ◌≡◌ {A = ℕ} 0 1 = cc in omega arith)
 
 -- a stop's value is the output's number, and without a stop the output is as it was
-pub stop_told : (s : ExecutionStatus) (out : List ℕ) {out' : List ℕ} → out' ≡ stop_value s out → (k : ℕ) → s ≡ SuspendedOnHook k → get_or out' 0 0 ≡ k
-stop_told s out e k q = ap (λ (l : List ℕ). get_or l 0 0) (e ∙ ap (λ (z : ExecutionStatus). stop_value z out) q)
+pub stop_told : {N : Type 0} (s : ExecutionStatus N) (out : List ℕ) {out' : List ℕ} → out' ≡ stop_value s out → (k : ℕ) → s ≡ SuspendedOnHook k → get_or out' 0 0 ≡ k
+stop_told {N} s out e k q = ap (λ (l : List ℕ). get_or l 0 0) (e ∙ ap (λ (z : ExecutionStatus N). stop_value z out) q)
 
-pub stop_kept : (s : ExecutionStatus) (out : List ℕ) {out' : List ℕ} {r : ℕ} → out' ≡ stop_value s out → r ≡ executed_status s → (r ≡ 101 → ⊥) → out' ≡ out
-stop_kept Running out e q n = e
-stop_kept (SuspendedOnHook k) out e q n = absurd (n q)
-stop_kept Panicked out e q n = e
-stop_kept (Refused k) out e q n = e
+pub stop_kept : {N : Type 0} (number : N → ℕ) (s : ExecutionStatus N) (out : List ℕ) {out' : List ℕ} {r : ℕ} → out' ≡ stop_value s out → r ≡ executed_status number s → (r ≡ 101 → ⊥) → out' ≡ out
+stop_kept number Running out e q n = e
+stop_kept number (SuspendedOnHook k) out e q n = absurd (n q)
+stop_kept number Panicked out e q n = e
+stop_kept number (Refused k) out e q n = e
 
 -- ---- a pointer load
 -- where it is carried out, its output is how many bytes it read
-told_read : (s : ExecutionStatus) (n : ℕ) (out : List ℕ) {out' : List ℕ} → out' ≡ read_value s n out → ((k : ℕ) → s ≡ SuspendedOnHook k → ⊥)
+told_read : (s : ExecutionStatus Refusal) (n : ℕ) (out : List ℕ) {out' : List ℕ} → out' ≡ read_value s n out → ((k : ℕ) → s ≡ SuspendedOnHook k → ⊥)
     → (f : Frame) (g : Registers) → ended_with (pointer_value out') s f g ≡ ended_with (λ x. pointer_loaded x n) s f g
 told_read Running n out e never f g = ap (λ (l : List ℕ). done (pointer_loaded (record { frame = f; registers = g; stop = running }) (get_or l 0 0))) e
 told_read (SuspendedOnHook k) n out e never f g = absurd (never k refl)
@@ -258,17 +258,17 @@ told_read Panicked n out e never f g = refl
 told_read (Refused k) n out e never f g = refl
 
 -- it never stops
-no_read_stop : (m : Mem) (f : Frame) (g : Registers) (p : LoadPlaces) (x : code.Executed) (n : ℕ) (l : List ℕ) → outcome_with (λ y. pointer_loaded y n) x l ≡ answer_of m (LoadPointer f g p)
+no_read_stop : (m : Mem) (f : Frame) (g : Registers) (p : LoadPlaces) (x : code.Executed Refusal) (n : ℕ) (l : List ℕ) → outcome_with (λ y. pointer_loaded y n) x l ≡ answer_of m (LoadPointer f g p)
     → (k : ℕ) → x.status ≡ SuspendedOnHook k → ⊥
 no_read_stop m f g p x n l e k s =
-    let is = sym (ap (λ (y : ExecutionStatus). ended_with (λ z. pointer_loaded z n) y x.frame (registers_from l)) s) ∙ e in
+    let is = sym (ap (λ (y : ExecutionStatus Refusal). ended_with (λ z. pointer_loaded z n) y x.frame (registers_from l)) s) ∙ e in
     let stop = stop_read_is (pointer_reportable m f g p) (record { frame = x.frame; registers = registers_from l; stop = on_hook k }) n (sym is) in
     let z : ◌≡◌ {A = ℕ} (suc k) k = no_stop stop in
     omega arith
 
 module _ {m : Mem} {f : Frame} {g : Registers} {p : LoadPlaces} {frame l : List ℕ} {fits : Bool} where
-  pub pointer_executes : fits ≡ true → {d : Call} → d ≡ LoadPointer f g p → {before : Frame} {m' : Mem} {l' : List ℕ} (x : PointerExecuted) → PointerRuns m d before l x m' l'
-      → {r : ℕ} {frame' : List ℕ} → ReportsExecuted x.executed frame r frame' → (out : List ℕ) {out' : List ℕ} → out' ≡ read_value x.executed.status x.bytes_read out
+  pub pointer_executes : fits ≡ true → {d : Call} → d ≡ LoadPointer f g p → {before : Frame} {m' : Mem} {l' : List ℕ} (x : PointerExecuted Refusal) → PointerRuns m d before l x m' l'
+      → {r : ℕ} {frame' : List ℕ} → ReportsExecuted number_of x.executed frame r frame' → (out : List ℕ) {out' : List ℕ} → out' ≡ read_value x.executed.status x.bytes_read out
       → PointerExecutes m (LoadPointer f g p) frame l fits r out' m' frame' l'
   pointer_executes fit {d} q {before} {m'} {l'} x runs t out {out'} e =
       let does = runs.runs.does in
@@ -284,11 +284,11 @@ module _ {m : Mem} {f : Frame} {g : Registers} {p : LoadPlaces} {frame l : List 
       } in
       executes_with (λ P y r. stop_read_is r y (get_or out' 0 0) refl) fit load_pointer q x.executed told t (λ k s _. absurd (never k s))
 
-pub read_kept : (s : ExecutionStatus) (n : ℕ) (out : List ℕ) {out' : List ℕ} {r : ℕ} → out' ≡ read_value s n out → r ≡ executed_status s → (r ≡ 0 → ⊥) → out' ≡ out
-read_kept Running n out e q z = absurd (z q)
-read_kept (SuspendedOnHook k) n out e q z = e
-read_kept Panicked n out e q z = e
-read_kept (Refused k) n out e q z = e
+pub read_kept : {N : Type 0} (number : N → ℕ) (s : ExecutionStatus N) (n : ℕ) (out : List ℕ) {out' : List ℕ} {r : ℕ} → out' ≡ read_value s n out → r ≡ executed_status number s → (r ≡ 0 → ⊥) → out' ≡ out
+read_kept number Running n out e q z = absurd (z q)
+read_kept number (SuspendedOnHook k) n out e q z = e
+read_kept number Panicked n out e q z = e
+read_kept number (Refused k) n out e q z = e
 
 -- ---- the calls as they are made
 pub load_is : {area area' : Area} {f f' : Frame} {g : Registers} {p p' : LoadPlaces} → area ≡ area' → f ≡ f' → p ≡ p' → Load area f g p ≡ Load area' f' g p'

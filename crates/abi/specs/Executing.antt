@@ -1,7 +1,7 @@
 -- What the numbers of an instruction mean, and its contract.
 -- Assumes nothing.
 use Rattle.std.specs.Prelude.{◌≡◌, Bool, true, false, ◌&&◌, List, [], ◌∷◌, ◌⊎◌, ℕ, eqb, length, get_or}
-use Rattle.outcome.specs.Outcome.{Outcome, refused, panicked, done, first_of, number_of}
+use Rattle.outcome.specs.Outcome.{Outcome, refused, panicked, done, first_of}
 use Rattle.registers.specs.Registers.{registers_from}
 use Rattle.store.specs.Mem.{Mem}
 use Rattle.view.specs.Instructions.{Hook, Stop, Executed, running, on_hook}
@@ -59,34 +59,34 @@ Executes m c frame registers fits r h m' frame' registers' = ExecutesWith execut
 abbrev pub PointerExecutes : Mem → Call → (frame registers : List ℕ) → (fits : Bool) → (r : ℕ) (out' : List ℕ) → Mem → (frame' registers' : List ℕ) → Type 0
 PointerExecutes m c frame registers fits r out' m' frame' registers' = ExecutesWith (pointer_value out') m c frame registers fits r 0 m' frame' registers'
 
--- ---- what the parts write
-abbrev pub executed_status : ExecutionStatus → ℕ
-executed_status Running = 0
-executed_status (SuspendedOnHook h) = 101
-executed_status Panicked = 100
-executed_status (Refused e) = number_of e
+-- ---- what the parts write. N is the type of what tells a refusal's number, and n reads it
+abbrev pub executed_status : {N : Type 0} → (n : N → ℕ) → ExecutionStatus N → ℕ
+executed_status n Running = 0
+executed_status n (SuspendedOnHook h) = 101
+executed_status n Panicked = 100
+executed_status n (Refused e) = n e
 
-abbrev pub frame_after : ExecutionStatus → code.Executed → List ℕ → List ℕ
+abbrev pub frame_after : {N : Type 0} → ExecutionStatus N → code.Executed N → List ℕ → List ℕ
 frame_after Running x frame = frame_numbers x.frame
 frame_after (SuspendedOnHook h) x frame = frame_numbers x.frame
 frame_after Panicked x frame = frame_numbers x.frame
 frame_after (Refused e) x frame = frame
 
 -- a stop's output is the hook's value
-abbrev pub stop_value : ExecutionStatus → List ℕ → List ℕ
+abbrev pub stop_value : {N : Type 0} → ExecutionStatus N → List ℕ → List ℕ
 stop_value Running out = out
 stop_value (SuspendedOnHook h) out = h ∷ []
 stop_value Panicked out = out
 stop_value (Refused e) out = out
 
 -- a pointer load's output is how many bytes it read, where it is carried out
-abbrev pub read_value : ExecutionStatus → ℕ → List ℕ → List ℕ
+abbrev pub read_value : {N : Type 0} → ExecutionStatus N → ℕ → List ℕ → List ℕ
 read_value Running n out = n ∷ []
 read_value (SuspendedOnHook h) n out = out
 read_value Panicked n out = out
 read_value (Refused e) n out = out
 
 -- r is the status of what an instruction returned, and frame' is written after it
-pub record ReportsExecuted (x : code.Executed) (frame : List ℕ) (r : ℕ) (frame' : List ℕ) : Type 0 where
-  pub status : r ≡ executed_status x.status
+pub record ReportsExecuted {N : Type 0} (n : N → ℕ) (x : code.Executed N) (frame : List ℕ) (r : ℕ) (frame' : List ℕ) : Type 0 where
+  pub status : r ≡ executed_status n x.status
   pub frame_is : frame' ≡ frame_after x.status x frame

@@ -5,6 +5,7 @@ ghost use Rattle.abi.specs.Executing.{hook_from, fit, ReportsExecuted, stop_valu
 
 use crate::status::{PANICKED, STOPPED};
 use execution::{ExecutionStatus, Hook};
+use outcome::Numbered;
 use page_ids::Address;
 use write_back::{Executed, PointerExecuted};
 
@@ -30,12 +31,12 @@ pub fn hook_of(on: bool, address: u32) -> Hook
 // ---- answers
 
 // Returns the status of what an instruction returned. Its frame is written except after a refusal.
-pub fn report(run: Executed, frame: &mut [u32]) -> u32
+pub fn report<N: Numbered>(run: Executed<N>, frame: &mut [u32]) -> u32
     requires { length frame.old ≡ 6 }
-    ensures { ReportsExecuted run frame.old result frame.new }
+    ensures { ReportsExecuted N.number run frame.old result frame.new }
 {
     let status = match run.status {
-        ExecutionStatus::Refused(refusal) => return u32::from(refusal),
+        ExecutionStatus::Refused(refusal) => return refusal.number(),
         ExecutionStatus::Running => 0,
         ExecutionStatus::Panicked => PANICKED,
         ExecutionStatus::SuspendedOnHook(_) => STOPPED,
@@ -45,9 +46,9 @@ pub fn report(run: Executed, frame: &mut [u32]) -> u32
 }
 
 // The same of a store: where the hook stops it, `out` gets the hook's value.
-pub fn report_stop(run: Executed, frame: &mut [u32], out: &mut [u64]) -> u32
+pub fn report_stop<N: Numbered>(run: Executed<N>, frame: &mut [u32], out: &mut [u64]) -> u32
     requires { (length frame.old ≡ 6) × (length out.old ≡ 1) }
-    ensures { ReportsExecuted run frame.old result frame.new × (out.new ≡ stop_value run.status out.old) }
+    ensures { ReportsExecuted N.number run frame.old result frame.new × (out.new ≡ stop_value run.status out.old) }
 {
     if let ExecutionStatus::SuspendedOnHook(value) = run.status {
         out[0] = frames::wide(value);
@@ -56,9 +57,9 @@ pub fn report_stop(run: Executed, frame: &mut [u32], out: &mut [u64]) -> u32
 }
 
 // The same of a pointer load: where it is carried out, `out` gets how many bytes of the pointer's range lead the word.
-pub fn report_read(run: PointerExecuted, frame: &mut [u32], out: &mut [u64]) -> u32
+pub fn report_read<N: Numbered>(run: PointerExecuted<N>, frame: &mut [u32], out: &mut [u64]) -> u32
     requires { (length frame.old ≡ 6) × (length out.old ≡ 1) }
-    ensures { ReportsExecuted run.executed frame.old result frame.new × (out.new ≡ read_value run.executed.status run.bytes_read out.old) }
+    ensures { ReportsExecuted N.number run.executed frame.old result frame.new × (out.new ≡ read_value run.executed.status run.bytes_read out.old) }
 {
     if let ExecutionStatus::Running = run.executed.status {
         out[0] = frames::wide(run.bytes_read);

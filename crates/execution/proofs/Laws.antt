@@ -11,7 +11,7 @@ use borrow.Author.Tests.{ltb-false, not-true, not-false}
 use Rattle.std.specs.Prelude.{Result, Ok, Err, ⊤}
 use Rattle.outcome.specs.declared.Refusal.{Refusal}
 use Rattle.outcome.specs.Outcome.{Outcome, refused, panicked, done, carried_out, refusal_number, first_of, number_of, answer_outcome, status_of}
-use Rattle.outcome.proofs.Numbers.{number_nonzero}
+use Rattle.outcome.specs.Nonzero.{number_nonzero}
 use Rattle.word.specs.Value.{big_endian, word_bytes, last_address}
 use Rattle.state.specs.declared.Frame.{Frame}
 use Rattle.state.specs.declared.Area.{Area}
@@ -42,11 +42,11 @@ pub address_is : (x : ℕ) → x ≤ last_address → x % 2 ^ 32 ≡ x
 address_is x l = mod-eq_of_lt (omega arith)
 
 -- ---- the contract
-module _ (b d : InstructionResult → Value) (m : Mem) {o : Outcome Value} {v : View} (f : Frame) (r : Execution) where
+module _ (b d : InstructionResult → Value) (m : Mem) {o : Outcome Value} {v : View} (f : Frame) (r : Execution Refusal) where
   refused_ends : (e : Refusal) → r.status ≡ Refused e → result_of r ≡ frame_alone f → o ≡ refused (number_of e) → Ends b d m o v f r m
   refused_ends e s g a = record {
     does = record {
-      answer = ap (λ (x : ExecutionStatus). status_outcome b d x (result_of r)) s ∙ sym a;
+      answer = ap (λ (x : ExecutionStatus Refusal). status_outcome b d x (result_of r)) s ∙ sym a;
       kept = λ _. refl;
       changed = λ q. absurd (false≢true (sym (ap carried_out a) ∙ q));
     };
@@ -55,7 +55,7 @@ module _ (b d : InstructionResult → Value) (m : Mem) {o : Outcome Value} {v : 
 
   panicked_ends : (g : InstructionResult) → r.status ≡ Panicked → result_of r ≡ g → o ≡ panicked (b g) → Ends b d m o v f r m
   panicked_ends g s e a =
-      let t : execution_outcome b d r ≡ panicked (b g) = ap (λ (x : ExecutionStatus). status_outcome b d x (result_of r)) s ∙ ap (λ (x : InstructionResult). panicked (b x)) e in
+      let t : execution_outcome b d r ≡ panicked (b g) = ap (λ (x : ExecutionStatus Refusal). status_outcome b d x (result_of r)) s ∙ ap (λ (x : InstructionResult). panicked (b x)) e in
       record {
         does = record { answer = t ∙ sym a; kept = λ _. refl; changed = λ q. absurd (false≢true (sym (ap carried_out a) ∙ q)) };
         refusal = λ k q. absurd (let z : ◌≡◌ {A = ℕ} 0 1 = cc in omega arith);
@@ -75,14 +75,14 @@ well m c e = ap (λ (b : Bool). cond (not b) (refused 3) (outcome_of (setting_of
 shows_itself : (m : Mem) → WellFormed m → Shows (setting_of m) (view_of m) m
 shows_itself m f = record { formed = f; setting = refl; view = refl }
 
-told_running : (b d : InstructionResult → Value) (r : Execution) (g : InstructionResult) → r.status ≡ Running → result_of r ≡ g → execution_outcome b d r ≡ done (d g)
-told_running b d r g s e = ap (λ (x : ExecutionStatus). status_outcome b d x (result_of r)) s ∙ ap (λ (x : InstructionResult). done (d x)) e
+told_running : (b d : InstructionResult → Value) (r : Execution Refusal) (g : InstructionResult) → r.status ≡ Running → result_of r ≡ g → execution_outcome b d r ≡ done (d g)
+told_running b d r g s e = ap (λ (x : ExecutionStatus Refusal). status_outcome b d x (result_of r)) s ∙ ap (λ (x : InstructionResult). done (d x)) e
 
 carried_is : {w w' y : ℕ} {t : Bool} {f : Frame} → w ≡ w' → carried Running w y t f ≡ carried Running w' y t f
 carried_is {y = y} {t = t} {f = f} d = λ i. carried Running (d i) y t f
 
 -- a value that stops has 32 bits
-suspended : (hit : Bool) (n : ℕ) → (hit && ltb 4294967295 n) ≡ false → stop_of (cond hit (SuspendedOnHook (n % 2 ^ 32)) Running) ≡ cond hit (on_hook n) running
+suspended : (hit : Bool) (n : ℕ) → (hit && ltb 4294967295 n) ≡ false → stop_of {N = Refusal} (cond hit (SuspendedOnHook (n % 2 ^ 32)) Running) ≡ cond hit (on_hook n) running
 suspended true n e = let l : n ≤ 4294967295 = ltb-false 4294967295 n e in ap on_hook (mod-eq_of_lt (omega arith))
 suspended false n e = refl
 
@@ -113,7 +113,7 @@ paid_first : (b : InstructionResult → Value) (s : FrameStep) (rest : List (Che
 paid_first b s rest o e = rw e
 
 module _ (m : Mem) (p : ℕ) (x : Operand) (s : FrameStep) where
-  module _ (r : Execution) (e : not s.paid ≡ true) (q : r.status ≡ Panicked) (g : result_of r ≡ panic s.frame) where
+  module _ (r : Execution Refusal) (e : not s.paid ≡ true) (q : r.status ≡ Panicked) (g : result_of r ≡ panic s.frame) where
     pub load_panics : Loads m p x s r
     load_panics b d f = panicked_ends b d m f r (panic s.frame) q g (rw e)
 
@@ -125,7 +125,7 @@ module _ (m : Mem) (p : ℕ) (x : Operand) (s : FrameStep) where
     at_operand : a ≡ x.word
     at_operand = address ∙ address_is x.word (limit (not-false _ paid))
 
-    pub load_done : WellFormed m → (w : ℕ) → w ≡ big_endian (run (view_of m) p a 32) → (r : Execution) → r.status ≡ Running
+    pub load_done : WellFormed m → (w : ℕ) → w ≡ big_endian (run (view_of m) p a 32) → (r : Execution Refusal) → r.status ≡ Running
         → result_of r ≡ carried Running w (incremented x.word) x.tag s.frame → Loads m p x s r
     load_done formed w e r q g b d f =
         let given = carried Running (big_endian (run (view_of m) p x.word 32)) (incremented x.word) x.tag s.frame in
@@ -148,24 +148,24 @@ module _ (m : Mem) (p : ℕ) (x : Operand) (s : FrameStep) where
       refusals : Refusals (tests x.word)
       refusals = store_refusals (setting_of m) (view_of m) p x.word (hooked h x.word) n
 
-      store_refused : (e : Refusal) → number_of e ≡ first_refusal (tests a) → (r : Execution) → r.status ≡ Refused e → result_of r ≡ frame_alone f → Stores m p x n h f s r m
+      store_refused : (e : Refusal) → number_of e ≡ first_refusal (tests a) → (r : Execution Refusal) → r.status ≡ Refused e → result_of r ≡ frame_alone f → Stores m p x n h f s r m
       store_refused e q r t g b d = refused_ends b d m f r e t g (tested b d ∙ by_number refusals (number_of e) (q ∙ tests_same) (number_nonzero e) (done (d given)))
 
       -- the hook is hit by a value that is too wide
       pub store_wide : (b : Bool) → b ≡ (hooked h a && ltb 4294967295 n) → b ≡ true → (e : Refusal) → number_of e ≡ first_refusal (word_write_checks (setting_of m) (view_of m) p a ++ ((true, refused 15) ∷ []))
-          → (r : Execution) → r.status ≡ Refused e → result_of r ≡ frame_alone f → Stores m p x n h f s r m
+          → (r : Execution Refusal) → r.status ≡ Refused e → result_of r ≡ frame_alone f → Stores m p x n h f s r m
       store_wide b is holds e q =
           store_refused e (q ∙ ap (λ (c : Bool). first_refusal (word_write_checks (setting_of m) (view_of m) p a ++ ((c, refused 15) ∷ []))) (sym holds ∙ is))
 
       -- the word write answered o
       module _ (formed : WellFormed m) (o : Result ⊤ Refusal) (m' : Mem) (d : CallDoes m (WriteWord p a n) (answer_outcome nothing o) m') where
-        pub store_refused_by : {e : Refusal} → o ≡ Err e → (r : Execution) → r.status ≡ Refused e → result_of r ≡ frame_alone f → Stores m p x n h f s r m'
+        pub store_refused_by : {e : Refusal} → o ≡ Err e → (r : Execution Refusal) → r.status ≡ Refused e → result_of r ≡ frame_alone f → Stores m p x n h f s r m'
         store_refused_by {e} was r t g =
             subst (λ (y : Mem). Stores m p x n h f s r y) (sym (write_kept m p a n o m' d was))
             (store_refused e (more_number (fifteen (hooked h a) n) (write_refusals (setting_of m) (view_of m) p a) (number_of e) (sym (ap status_of was) ∙ number_is m p a n o m' d formed) (number_nonzero e)) r t g)
 
         pub store_done : (b : Bool) → b ≡ (hooked h a && ltb 4294967295 n) → b ≡ false → {u : ⊤} → o ≡ Ok u
-            → (r : Execution) (t : ExecutionStatus) (w : ℕ) → t ≡ cond (hooked h a) (SuspendedOnHook (n % 2 ^ 32)) Running → w ≡ 0 → r.status ≡ t
+            → (r : Execution Refusal) (t : ExecutionStatus Refusal) (w : ℕ) → t ≡ cond (hooked h a) (SuspendedOnHook (n % 2 ^ 32)) Running → w ≡ 0 → r.status ≡ t
             → result_of r ≡ carried t w (incremented x.word) false s.frame → Stores m p x n h f s r m'
         store_done b is e q r t w u z v g on_panic on_done =
             done_ends on_panic on_done m f r given answers (tested on_panic on_done ∙ by_none refusals none (done (on_done given)))
@@ -191,7 +191,7 @@ module _ (m : Mem) (p : ℕ) (x : Operand) (s : FrameStep) where
 
             answers : execution_outcome on_panic on_done r ≡ done (on_done given)
             answers =
-                ap (λ (y : ExecutionStatus). status_outcome on_panic on_done y (result_of r)) (v ∙ stops) ∙ told_stop on_panic on_done (hooked h x.word) (n % 2 ^ 32) (result_of r)
+                ap (λ (y : ExecutionStatus Refusal). status_outcome on_panic on_done y (result_of r)) (v ∙ stops) ∙ told_stop on_panic on_done (hooked h x.word) (n % 2 ^ 32) (result_of r)
                 ∙ ap (λ (y : InstructionResult). done (on_done y)) given_is
 
 -- ---- the steps: s and the page p are theirs
@@ -200,7 +200,7 @@ module _ (m : Mem) (f : Frame) (x : Operand) (s : FrameStep) where
     pub within : s.paid ≡ true → x.word ≤ last_address
     within e = frame_within f area x.word (sym (ap (λ (u : FrameStep). u.paid) is) ∙ e)
 
-    module _ (p : ℕ) (page : p ≡ heap_of f area) {r : Execution} where
+    module _ (p : ℕ) (page : p ≡ heap_of f area) {r : Execution Refusal} where
       pub load_ends : Loads m p x s r → LoadStep m area f x r
       load_ends e b d = subst (λ (o : Outcome Value). Ends b d m o (view_of m) f r m) (λ i. load_outcome b d (view_of m) (page i) x (is i)) (e b d f)
 
@@ -219,7 +219,7 @@ module _ (m : Mem) (f : Frame) (x : Operand) (s : FrameStep) where
         go true = refl
         go false = refl
 
-    module _ (p : ℕ) (page : p ≡ static_of (layout_of m.words)) {r : Execution} where
+    module _ (p : ℕ) (page : p ≡ static_of (layout_of m.words)) {r : Execution Refusal} where
       pub static_load_ends : Loads m p x s r → StaticLoadStep m f x r
       static_load_ends e b d =
           subst (λ (o : Outcome Value). Ends b d m o (view_of m) f r m)

@@ -32,19 +32,20 @@ pub struct Hook {
 }
 
 // How an instruction ended. The run goes on, or stops on the hook with a value: vm2's `ExecutionStatus`, with the stop reason that a store has.
+// `N` is what tells the refusal. It is `Refusal` where no type is written.
 #[derive(Clone, Copy)]
-pub enum ExecutionStatus {
+pub enum ExecutionStatus<N = Refusal> {
     Running,
     SuspendedOnHook(u32),
     Panicked,
-    Refused(Refusal),
+    Refused(N),
 }
 
 // What a step returns: the word that it read, the operand plus 32, and the frame. A panic returns the frame alone, and a refusal the frame as it was.
 // Stays: no `Result`, for `Ends.refusal` promises the frame of a refusal too (must-fail edit growth_charged_on_a_refused_store).
 #[derive(Clone, Copy)]
-pub struct Execution {
-    pub status: ExecutionStatus,
+pub struct Execution<N = Refusal> {
+    pub status: ExecutionStatus<N>,
     pub word: Word,
     pub operand: Operand,
     pub frame: Frame,
@@ -53,8 +54,8 @@ pub struct Execution {
 // What the step of a pointer load returns beside it: how many bytes of the pointer's range lead the word. A panic or a refusal has none.
 // Stays: a number beside the execution. A panic or a refusal is promised to have 0 (`PointerRuns.none`).
 #[derive(Clone, Copy)]
-pub struct PointerExecution {
-    pub execution: Execution,
+pub struct PointerExecution<N = Refusal> {
+    pub execution: Execution<N>,
     pub bytes_read: u32,
 }
 
@@ -186,7 +187,7 @@ pub fn panicked(frame: Frame) -> Execution
 }
 
 // A pointer load that panicked or was refused.
-pub fn unread(execution: Execution) -> PointerExecution
+pub fn unread<N>(execution: Execution<N>) -> PointerExecution<N>
     ensures { (result.execution ≡ execution) × (result.bytes_read ≡ 0) }
 {
     PointerExecution {

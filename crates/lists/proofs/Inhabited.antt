@@ -16,7 +16,7 @@ use Rattle.std.specs.Prelude.{Result, Ok, Err, ⊤}
 use Rattle.outcome.specs.Outcome.{Outcome, refused, panicked, done, carried_out, answered, refusal_number, number_of, result_outcome, answer_outcome, unit_outcome}
 use Rattle.outcome.specs.declared.Refusal.{Refusal}
 use Rattle.outcome.specs.declared.Refusal.TheVariants as because
-use Rattle.outcome.proofs.Numbers.{number_nonzero}
+use Rattle.outcome.specs.Nonzero.{number_nonzero}
 use Rattle.word.specs.declared.Word.{Word}
 use Rattle.word.specs.Value.{value, big_endian}
 use Rattle.store.specs.Mem.{Mem, mem, slot_count, page_count, journal_words}

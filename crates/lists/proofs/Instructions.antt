@@ -108,7 +108,7 @@ taken_ran false o r = is_refused refusals.Operand
 write_ran : {value : Executed → Value} (s : Setting) (v : View) (p a : ℕ) (rest : List (Check Value)) → AllRan value rest → AllRan value (word_write_checks s v p a ++ rest)
 write_ran s v p a rest r = (is_refused Undecodable, (is_refused NoPage, (is_refused NoChunk, (is_refused NoJournal, r))))
 
-abbrev status_for : Stop → ExecutionStatus
+abbrev status_for : Stop → ExecutionStatus Refusal
 status_for running = Running
 status_for (on_hook n) = SuspendedOnHook n
 
@@ -121,7 +121,7 @@ not_refused running n e = let z : ◌≡◌ {A = ℕ} 0 1 = cc in omega arith
 not_refused (on_hook k) n e = let z : ◌≡◌ {A = ℕ} 0 1 = cc in omega arith
 
 module _ (f : Frame) (l : List ℕ) (count : length l ≡ 65) {value : Executed → Value} where
-  abbrev execute : {o : Outcome Value} → Ran value o → code.Executed
+  abbrev execute : {o : Outcome Value} → Ran value o → code.Executed Refusal
   execute (is_refused n) = record { status = Refused n; frame = f }
   execute (is_panicked e q k) = record { status = Panicked; frame = e.frame }
   execute (is_done e k) = record { status = status_for e.stop; frame = e.frame }
@@ -158,7 +158,7 @@ module _ (f : Frame) (l : List ℕ) (count : length l ≡ 65) (n : ℕ) where
   bytes_of (is_panicked e q k) = 0
   bytes_of (is_done e k) = n
 
-  abbrev pointer_execute : {o : Outcome Value} → Ran (λ e. pointer_loaded e n) o → PointerExecuted
+  abbrev pointer_execute : {o : Outcome Value} → Ran (λ e. pointer_loaded e n) o → PointerExecuted Refusal
   pointer_execute r = record { executed = execute f l count r; bytes_read = bytes_of r }
 
   same_value : {o : Outcome Value} (r : Ran (λ e. pointer_loaded e n) o)

@@ -1,29 +1,10 @@
--- No refusal has the number 0, so the status of an answer tells whether the call was carried out, and which refusal it got.
+-- The status of an answer tells whether the call was carried out, and which refusal it got, since no refusal has the number 0.
 -- Assumes nothing.
 use mathlib.Core.Path.{◌≡◌, refl, ap}
-use native.Mathlib.Omega.{arith}
 use Rattle.std.specs.Prelude.{Result, Ok, Err, ⊤, IsErrAnd}
 use Rattle.outcome.specs.declared.Refusal.{Refusal}
 use Rattle.outcome.specs.declared.Refusal.TheVariants.{Layout, Sizes, NotFormed, Undecodable, Fixed, Allocated, NotAllocated, Range, NoPage, NoChunk, NoJournal, BadMark, BadLength, Pointer, HookValue, Operand}
-use Rattle.outcome.specs.Outcome.{number_of, status_of, answered, answer_outcome}
-
-pub number_nonzero : (e : Refusal) → number_of e ≡ 0 → ⊥
-number_nonzero Layout e = omega arith
-number_nonzero Sizes e = omega arith
-number_nonzero NotFormed e = omega arith
-number_nonzero Undecodable e = omega arith
-number_nonzero Fixed e = omega arith
-number_nonzero Allocated e = omega arith
-number_nonzero NotAllocated e = omega arith
-number_nonzero Range e = omega arith
-number_nonzero NoPage e = omega arith
-number_nonzero NoChunk e = omega arith
-number_nonzero NoJournal e = omega arith
-number_nonzero BadMark e = omega arith
-number_nonzero BadLength e = omega arith
-number_nonzero Pointer e = omega arith
-number_nonzero HookValue e = omega arith
-number_nonzero Operand e = omega arith
+use Rattle.outcome.specs.Outcome.{status_of, answered, answer_outcome}
 
 -- the status of an answer, beside a value, is the outcome that the answer reports
 pub status_answered : {A : Type 0} (a : A) (r : Result ⊤ Refusal) → answered (status_of r) a ≡ answer_outcome a r

@@ -57,10 +57,14 @@ number_of Pointer = 14
 number_of HookValue = 15
 number_of Operand = 16
 
--- the outcome that a result reports: the value, read by f, or the number of the refusal
+-- the outcome that a result reports: the value, read by f, or the number of the refusal, read by n
+abbrev pub outcome_by : {A B E : Type 0} → (n : E → ℕ) → (f : A → B) → Result A E → Outcome B
+outcome_by n f (Ok x) = done (f x)
+outcome_by n f (Err e) = refused (n e)
+
+-- .. with 01's number of the refusal
 abbrev pub result_outcome : {A B : Type 0} → (A → B) → Result A Refusal → Outcome B
-result_outcome f (Ok x) = done (f x)
-result_outcome f (Err e) = refused (number_of e)
+result_outcome f r = outcome_by number_of f r
 
 -- .. where the call was carried out with the value a
 abbrev pub answer_outcome : {A : Type 0} → A → Result ⊤ Refusal → Outcome A
@@ -70,7 +74,11 @@ answer_outcome a r = result_outcome (λ _. a) r
 abbrev pub unit_outcome : Result ⊤ Refusal → Outcome ⊤
 unit_outcome r = answer_outcome tt r
 
--- the status of an answer: 0, or the number of the refusal
+-- the status of an answer: 0, or the number of the refusal, read by n
+abbrev pub status_by : {E : Type 0} → (n : E → ℕ) → Result ⊤ E → ℕ
+status_by n (Ok _) = 0
+status_by n (Err e) = n e
+
+-- .. with 01's number of the refusal
 abbrev pub status_of : Result ⊤ Refusal → ℕ
-status_of (Ok _) = 0
-status_of (Err e) = number_of e
+status_of r = status_by number_of r

@@ -1,10 +1,13 @@
 // What a call answers: a value, or the refusal that it gets. specs/Outcome.antt says what the contracts of every crate mean by an outcome, and by the order of checks.
 #![tactic(auto)]
 
-ghost use Rattle.std.specs.Prelude.{◌≡◌};
-ghost use Rattle.outcome.specs.Outcome.{number_of, status_of};
+ghost use Rattle.std.specs.Prelude.{◌≡◌, ℕ};
+ghost use Rattle.std.specs.Int.NonZero.{non_zero_u32_get};
+ghost use Rattle.outcome.specs.Outcome.{number_of, status_by};
+ghost use Rattle.outcome.specs.Nonzero.{number_nonzero, nonzero_number};
 
 use std::fmt;
+use std::num::NonZero;
 
 // Why a call is refused. The variants are in the order of their numbers.
 #[derive(Clone, Copy, Debug, PartialEq, Eq)]
@@ -67,12 +70,57 @@ impl fmt::Display for Refusal {
     }
 }
 
+// What tells the number of a refusal: a `Refusal`, or the number itself.
+pub trait Numbered: Copy {
+    ghost number: { Self → ℕ };
+
+    fn number(self) -> u32
+        ensures { result ≡ number self };
+}
+
+impl Numbered for Refusal {
+    ghost number = { number_of };
+
+    fn number(self) -> u32 {
+        u32::from(self)
+    }
+}
+
+impl Numbered for u32 {
+    ghost number = { λ n. n };
+
+    fn number(self) -> u32 {
+        self
+    }
+}
+
+impl Numbered for NonZero<u32> {
+    ghost number = { non_zero_u32_get };
+
+    fn number(self) -> u32 {
+        self.get()
+    }
+}
+
+// One that is never 0, which is the status of a call that was carried out.
+pub trait NeverZero: Numbered {
+    ghost nonzero: { (e : Self) → Self.number e ≡ 0 → ⊥ };
+}
+
+impl NeverZero for Refusal {
+    ghost nonzero = { number_nonzero };
+}
+
+impl NeverZero for NonZero<u32> {
+    ghost nonzero = { nonzero_number };
+}
+
 // The number of a refusal, 0 where the call was carried out.
-pub fn status(answer: Result<(), Refusal>) -> u32
-    ensures { result ≡ status_of answer }
+pub fn status<N: Numbered>(answer: Result<(), N>) -> u32
+    ensures { result ≡ status_by N.number answer }
 {
     match answer {
         Ok(()) => 0,
-        Err(refusal) => u32::from(refusal),
+        Err(refusal) => refusal.number(),
     }
 }

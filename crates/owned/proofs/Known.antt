@@ -7,6 +7,7 @@ use Prim.Native.Nat.{ℕ, ◌+◌, ◌%◌, ◌^◌, ◌≤◌}
 use native.Mathlib.Omega.{arith}
 use lib.Dec.{leb, ltb}
 use borrow.Author.Tests.{le-leb, le-ltb, leb-true, ltb-false, not-true}
+use Rattle.outcome.specs.declared.Refusal.{Refusal}
 use Rattle.std.specs.Prelude.{Ok}
 use Rattle.outcome.specs.Outcome.{done}
 use Rattle.word.specs.declared.Word.{Word}
@@ -122,7 +123,7 @@ module _ (m : Mem) (formed : WellFormed m) (l : List ℕ) (page bound source dst
       where
         runs : (area : Area) (f : Frame) → heap_of f area ≡ page → bound_of f area ≡ bound → Runs m (Load area f g p) f l (running_with f) m l'
         runs area f h b =
-            let x : Execution = record { status = Running; word = w; operand = next; frame = f } in
+            let x : Execution Refusal = record { status = Running; word = w; operand = next; frame = f } in
             let s : FrameStep = record { frame = f; paid = true } in
             load_runs m formed f l (running_with f) x y l' p (source_is (ap (λ (z : LoadPlaces). z.source) q))
             (writes_back (λ (z : InstructionResult). cleared (register_number p.dst1) g) (λ (z : InstructionResult). (loaded_into g p z).registers) x l (running_with f) refl refl l' Running refl (written (record { word = value w.limbs; operand = operand_of next; frame = f; stop = running }) refl refl))
@@ -144,7 +145,7 @@ module _ (m : Mem) (formed : WellFormed m) (l : List ℕ) (page bound source dst
 
         runs : (area : Area) (f : Frame) → heap_of f area ≡ page → bound_of f area ≡ bound → Runs m (Store area f g p kernel h) f l (running_with f) m' l'
         runs area f page_is b =
-            let x : Execution = record { status = Running; word = record { limbs = 0 ∷ 0 ∷ 0 ∷ 0 ∷ [] }; operand = next; frame = f } in
+            let x : Execution Refusal = record { status = Running; word = record { limbs = 0 ∷ 0 ∷ 0 ∷ 0 ∷ [] }; operand = next; frame = f } in
             let s : FrameStep = record { frame = f; paid = true } in
             store_runs m formed f l (running_with f) x y l' p kernel k (source_is (ap (λ (z : StorePlaces). z.source) q)) (e ∙ ap (value_of kernel g) number_is)
             (writes_back (λ (z : InstructionResult). cleared (register_number p.dst1) g) (λ (z : InstructionResult). (stored_into g p z).registers) x l (running_with f) refl refl l' Running refl (written (record { word = value x.word.limbs; operand = operand_of next; frame = f; stop = running }) refl))

@@ -61,22 +61,22 @@ refusal_from n =
     Layout
 
 -- how it ended: 0 running, 1 suspended on the hook with the value n, 2 panicked, 3 refused with the number n; a `Ran` has no other kind
-abbrev pub status_from : (kind n : ℕ) → ExecutionStatus
+abbrev pub status_from : (kind n : ℕ) → ExecutionStatus Refusal
 status_from zero n = Running
 status_from (suc zero) n = SuspendedOnHook n
 status_from (suc (suc zero)) n = Panicked
 status_from (suc (suc (suc k))) n = Refused (refusal_from n)
 
 -- an instruction that ended so
-abbrev pub with_status : ExecutionStatus → Executed → Executed
+abbrev pub with_status : ExecutionStatus Refusal → Executed Refusal → Executed Refusal
 with_status s x = record { status = s; frame = x.frame }
 
 -- WHAT AN INSTRUCTION RETURNED, as a `Ran` tells it
-abbrev pub executed_of : Ran → Executed
+abbrev pub executed_of : Ran → Executed Refusal
 executed_of r = record {
   status = status_from r.kind r.number;
   frame = frame_of r.gas r.heap r.aux r.heap_bound r.aux_bound r.panicked;
 }
 
-abbrev pub pointer_executed_of : PointerRan → PointerExecuted
+abbrev pub pointer_executed_of : PointerRan → PointerExecuted Refusal
 pointer_executed_of r = record { executed = executed_of r.ran; bytes_read = r.bytes_read }

@@ -13,6 +13,7 @@ use Rattle.store.specs.Mem.{Mem}
 use Rattle.view.specs.Instructions.{Hook, heap_of}
 use Rattle.view.specs.Calls.{Load, Store, WriteWord, nothing, CallDoes}
 use Rattle.execution.specs.declared.ExecutionStatus.TheVariants.{Running}
+use Rattle.outcome.specs.declared.Refusal.{Refusal}
 use Rattle.write_back.specs.declared.Executed.{Executed}
 use Rattle.write_back.specs.Runs.{Runs}
 
@@ -21,7 +22,7 @@ abbrev pub paid_below : (x bound : ℕ) → Bool
 paid_below x bound = not (ltb last_address x) && leb (x + 32) bound
 
 -- an instruction that was carried out and left the frame as it was
-abbrev pub running_with : Frame → Executed
+abbrev pub running_with : Frame → Executed Refusal
 running_with f = record { status = Running; frame = f }
 
 -- a load from the numbers l, in any frame and area of this page and this bound

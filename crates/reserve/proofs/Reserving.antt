@@ -27,7 +27,7 @@ use Rattle.chunks.proofs.Ranges.{holding_none, missing_rest, holding_rest}
 use Rattle.std.specs.Prelude.{Ok, Err}
 use Rattle.outcome.specs.declared.Refusal.{Refusal}
 use Rattle.outcome.specs.Outcome.{number_of}
-use Rattle.outcome.proofs.Numbers.{number_nonzero}
+use Rattle.outcome.specs.Nonzero.{number_nonzero}
 use Rattle.reserve.specs.Asks.{PrepareAsks, ReserveAsks, Reserved}
 
 -- the page has an entry, so it is allocated

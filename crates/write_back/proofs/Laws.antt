@@ -61,21 +61,21 @@ store_parts p t =
 -- ---- the contract
 module _ (m : Mem) (c : Call) (f : Frame) (l : List ℕ) {value : Executed → Value} where
   -- an instruction that is refused before its step
-  refused_runs : (r : code.Executed) (k : Refusal) → r.status ≡ Refused k → r.frame ≡ f → answer_of m c ≡ refused (number_of k) → RunsWith value m c f l r m l
+  refused_runs : (r : code.Executed Refusal) (k : Refusal) → r.status ≡ Refused k → r.frame ≡ f → answer_of m c ≡ refused (number_of k) → RunsWith value m c f l r m l
   refused_runs r k s e a = record {
     does = record {
-      answer = ap (λ (x : ExecutionStatus). ended_with value x r.frame (registers_from l)) s ∙ sym a;
+      answer = ap (λ (x : ExecutionStatus Refusal). ended_with value x r.frame (registers_from l)) s ∙ sym a;
       kept = λ _. refl;
       changed = λ q. absurd (false≢true (sym (ap carried_out a) ∙ q));
     };
     refusal = λ _ _. (e, refl);
   }
 
-  pub ill_runs : (r : code.Executed) → well_formed m ≡ false → r.status ≡ Refused refusals.NotFormed → r.frame ≡ f → RunsWith value m c f l r m l
+  pub ill_runs : (r : code.Executed Refusal) → well_formed m ≡ false → r.status ≡ Refused refusals.NotFormed → r.frame ≡ f → RunsWith value m c f l r m l
   ill_runs r w s e = refused_runs r refusals.NotFormed s e (ap (λ (b : Bool). cond (not b) (refused 3) (outcome_of (setting_of m) c (view_of m))) w)
 
   -- one that makes its step, whose outcome o is the instruction's; `told` says that what it answers is what the step's status means
-  told_runs : (on_panic on_done : InstructionResult → Value) {gone gives : InstructionResult → Executed} {o : Outcome Value} {x : Execution} {r : code.Executed} {m' : Mem} {l' : List ℕ} → answer_of m c ≡ o
+  told_runs : (on_panic on_done : InstructionResult → Value) {gone gives : InstructionResult → Executed} {o : Outcome Value} {x : Execution Refusal} {r : code.Executed Refusal} {m' : Mem} {l' : List ℕ} → answer_of m c ≡ o
       → Ends on_panic on_done m o (next_of (setting_of m) c (view_of m)) f x m' → WritesBack gone gives x l r l' → outcome_with value r l' ≡ execution_outcome on_panic on_done x → RunsWith value m c f l r m' l'
   told_runs on_panic on_done {x = x} a e w told = record {
     does = record {
@@ -84,23 +84,23 @@ module _ (m : Mem) (c : Call) (f : Frame) (l : List ℕ) {value : Executed → V
       changed = λ q. e.does.changed (sym (ap carried_out a) ∙ q);
     };
     refusal = λ k s.
-        let is = ap (λ (y : ExecutionStatus). status_outcome on_panic on_done y (result_of x)) (sym w.status ∙ s) in
+        let is = ap (λ (y : ExecutionStatus Refusal). status_outcome on_panic on_done y (result_of x)) (sym w.status ∙ s) in
         (w.frame ∙ ap (λ (g : InstructionResult). g.frame) (e.refusal (number_of k) is), w.refusal k s);
   }
 
-  step_runs : (on_panic on_done : InstructionResult → Executed) {o : Outcome Value} {x : Execution} {r : code.Executed} {m' : Mem} {l' : List ℕ} → answer_of m c ≡ o
+  step_runs : (on_panic on_done : InstructionResult → Executed) {o : Outcome Value} {x : Execution Refusal} {r : code.Executed Refusal} {m' : Mem} {l' : List ℕ} → answer_of m c ≡ o
       → Ends (λ g. executed (on_panic g)) (λ g. value (on_done g)) m o (next_of (setting_of m) c (view_of m)) f x m' → WritesBack on_panic on_done x l r l' → RunsWith value m c f l r m' l'
   step_runs on_panic on_done a e w = told_runs (λ g. executed (on_panic g)) (λ g. value (on_done g)) a e w (w.answer value)
 
 -- a pointer load that is refused by the test
-pub ill_pointer_runs : (m : Mem) (c : Call) (f : Frame) (l : List ℕ) (r : PointerExecuted) → well_formed m ≡ false
+pub ill_pointer_runs : (m : Mem) (c : Call) (f : Frame) (l : List ℕ) (r : PointerExecuted Refusal) → well_formed m ≡ false
     → r.executed.status ≡ Refused refusals.NotFormed → r.executed.frame ≡ f → r.bytes_read ≡ 0 → PointerRuns m c f l r m l
 ill_pointer_runs m c f l r w s e z = record { runs = ill_runs m c f l r.executed w s e; none = λ _. z }
 
 -- ---- the value of a pointer load, by how its step ended
 module _ (on_panic on_done : InstructionResult → Executed) (q : FatPointer) (g : InstructionResult) where
   -- the number of bytes that it read is the pointer's
-  read_value_lem : (s : ExecutionStatus) → status_outcome (λ x. executed (on_panic x)) (λ x. pointer_loaded (on_done x) (bytes_read_of s q)) s g
+  read_value_lem : (s : ExecutionStatus Refusal) → status_outcome (λ x. executed (on_panic x)) (λ x. pointer_loaded (on_done x) (bytes_read_of s q)) s g
       ≡ status_outcome (λ x. executed (on_panic x)) (λ x. pointer_loaded (on_done x) (read_count q)) s g
   read_value_lem Running = refl
   read_value_lem (SuspendedOnHook n) = refl
@@ -108,7 +108,7 @@ module _ (on_panic on_done : InstructionResult → Executed) (q : FatPointer) (g
   read_value_lem (Refused e) = refl
 
 -- none is read where it is not carried out
-unread : (value : Executed → Value) (q : FatPointer) (f : Frame) (g : Registers) (s : ExecutionStatus) → carried_out (ended_with value s f g) ≡ false → bytes_read_of s q ≡ 0
+unread : (value : Executed → Value) (q : FatPointer) (f : Frame) (g : Registers) (s : ExecutionStatus Refusal) → carried_out (ended_with value s f g) ≡ false → bytes_read_of s q ≡ 0
 unread value q f g Running e = absurd (false≢true (sym e))
 unread value q f g (SuspendedOnHook n) e = absurd (false≢true (sym e))
 unread value q f g Panicked e = refl
@@ -123,7 +123,7 @@ module _ (m : Mem) (formed : WellFormed m) where
   sixteen : (takes : Bool) (o : Outcome Value) → takes ≡ false → cond (not (well_formed m)) (refused 3) (cond (not takes) (refused 16) o) ≡ refused 16
   sixteen takes o t = rw (well_formed_passes m formed, t) refl
 
-  module _ (f : Frame) (l : List ℕ) (r : code.Executed) where
+  module _ (f : Frame) (l : List ℕ) (r : code.Executed Refusal) where
     abbrev g : Registers
     g = registers_from l
 
@@ -141,7 +141,7 @@ module _ (m : Mem) (formed : WellFormed m) where
       static_store_refused p kernel t = refused_runs m (StoreStatic f g p kernel) f l r refusals.Operand s e (sixteen (store_takes p) _ t)
 
     -- x is what the step returned, y the operand that was read, and l' the numbers after the write-back
-    module _ (x : Execution) (y : Operand) (l' : List ℕ) where
+    module _ (x : Execution Refusal) (y : Operand) (l' : List ℕ) where
       module _ (p : LoadPlaces) (is : y ≡ source_of g p.source) (w : WritesBack (panicked_into g p.dst1) (loaded_into g p) x l r l') where
         pub load_runs : (area : Area) → load_takes p ≡ true → LoadStep m area f y x → Runs m (Load area f g p) f l r m l'
         load_runs area t e =
@@ -171,11 +171,11 @@ module _ (m : Mem) (formed : WellFormed m) where
     abbrev read : Registers
     read = registers_from l
 
-    pub pointer_refused : (r : PointerExecuted) → r.executed.status ≡ Refused refusals.Operand → r.executed.frame ≡ f → r.bytes_read ≡ 0 → pointer_takes p ≡ false → PointerRuns m (LoadPointer f read p) f l r m l
+    pub pointer_refused : (r : PointerExecuted Refusal) → r.executed.status ≡ Refused refusals.Operand → r.executed.frame ≡ f → r.bytes_read ≡ 0 → pointer_takes p ≡ false → PointerRuns m (LoadPointer f read p) f l r m l
     pointer_refused r s e z t = record { runs = refused_runs m (LoadPointer f read p) f l r.executed refusals.Operand s e (sixteen (pointer_takes p) _ t); none = λ _. z }
 
     -- x is what the step returned, y the operand that was read, and l' the numbers after the write-back
-    module _ (x : PointerExecution) (y : Operand) (r : code.Executed) (l' : List ℕ) (is : y ≡ source_of read p.source)
+    module _ (x : PointerExecution Refusal) (y : Operand) (r : code.Executed Refusal) (l' : List ℕ) (is : y ≡ source_of read p.source)
         (w : WritesBack (panicked_into read p.dst1) (loaded_into read p) x.execution l r l') where
       pub pointer_runs : pointer_takes p ≡ true → PointerStep m f y x → PointerRuns m (LoadPointer f read p) f l (record { executed = r; bytes_read = x.bytes_read }) m l'
       pointer_runs t e =
@@ -189,5 +189,5 @@ module _ (m : Mem) (formed : WellFormed m) where
                 (w.answer (λ (z : Executed). pointer_loaded z x.bytes_read)
                 ∙ ap (λ (n : ℕ). status_outcome gone (gives n) x.execution.status (result_of x.execution)) step.bytes_read
                 ∙ read_value_lem (panicked_into read p.dst1) (loaded_into read p) q (result_of x.execution) x.execution.status);
-            none = λ e. step.bytes_read ∙ ap (λ (s : ExecutionStatus). bytes_read_of s q) (sym w.status) ∙ unread (λ (z : Executed). pointer_loaded z x.bytes_read) q r.frame (registers_from l') r.status e;
+            none = λ e. step.bytes_read ∙ ap (λ (s : ExecutionStatus Refusal). bytes_read_of s q) (sym w.status) ∙ unread (λ (z : Executed). pointer_loaded z x.bytes_read) q r.frame (registers_from l') r.status e;
           }

@@ -27,42 +27,42 @@ number_few (place.Immediate k) e n q = absurd (false≢true e)
 number_few place.Other e n q = absurd (false≢true e)
 
 -- ---- the registers that a result gives; frame and stop are the result's
-module _ (on_panic on_done : InstructionResult → Registers) (x : Execution) (l : List ℕ) (r : code.Executed) (status : r.status ≡ x.status) (frame : r.frame ≡ x.frame) where
+module _ (on_panic on_done : InstructionResult → Registers) (x : Execution Refusal) (l : List ℕ) (r : code.Executed Refusal) (status : r.status ≡ x.status) (frame : r.frame ≡ x.frame) where
   abbrev panics : InstructionResult → Executed
   panics g = record { frame = g.frame; registers = on_panic g; stop = g.stop }
 
   abbrev ends : InstructionResult → Executed
   ends g = record { frame = g.frame; registers = on_done g; stop = g.stop }
 
-  abbrev given : ExecutionStatus → InstructionResult
+  abbrev given : ExecutionStatus Refusal → InstructionResult
   given s = record { word = (result_of x).word; operand = (result_of x).operand; frame = x.frame; stop = stop_of s }
 
-  abbrev gives : (Executed → Value) → ExecutionStatus → Outcome Value
+  abbrev gives : (Executed → Value) → ExecutionStatus Refusal → Outcome Value
   gives v s = status_outcome (λ g. executed (panics g)) (λ g. v (ends g)) s (given s)
 
   -- the numbers l' after the write-back are those that the step's status asks for
-  abbrev pub Written : ExecutionStatus → List ℕ → Type 0
+  abbrev pub Written : ExecutionStatus Refusal → List ℕ → Type 0
   Written Running l' = registers_from l' ≡ on_done (given Running)
   Written (SuspendedOnHook k) l' = registers_from l' ≡ on_done (given (SuspendedOnHook k))
   Written Panicked l' = registers_from l' ≡ on_panic (given Panicked)
   Written (Refused e) l' = l' ≡ l
 
   module _ (l' : List ℕ) where
-    answers : (v : Executed → Value) (s : ExecutionStatus) → Written s l' → ended_with v s r.frame (registers_from l') ≡ gives v s
+    answers : (v : Executed → Value) (s : ExecutionStatus Refusal) → Written s l' → ended_with v s r.frame (registers_from l') ≡ gives v s
     answers v Running e = λ i. done (v (record { frame = frame i; registers = e i; stop = running }))
     answers v (SuspendedOnHook k) e = λ i. done (v (record { frame = frame i; registers = e i; stop = on_hook k }))
     answers v Panicked e = λ i. panicked (executed (record { frame = frame i; registers = e i; stop = running }))
     answers v (Refused k) e = refl
 
-    kept : (s : ExecutionStatus) → Written s l' → (k : Refusal) → s ≡ Refused k → l' ≡ l
+    kept : (s : ExecutionStatus Refusal) → Written s l' → (k : Refusal) → s ≡ Refused k → l' ≡ l
     kept Running e k q = absurd (let z : ◌≡◌ {A = ℕ} 0 1 = cc in omega arith)
     kept (SuspendedOnHook n) e k q = absurd (let z : ◌≡◌ {A = ℕ} 0 1 = cc in omega arith)
     kept Panicked e k q = absurd (let z : ◌≡◌ {A = ℕ} 0 1 = cc in omega arith)
     kept (Refused n) e k q = e
 
-    pub writes_back : (s : ExecutionStatus) → x.status ≡ s → Written s l' → WritesBack panics ends x l r l'
-    writes_back s is w = let e = subst (λ (s : ExecutionStatus). Written s l') (sym is) w in record {
-      answer = λ v. ap (λ (s : ExecutionStatus). ended_with v s r.frame (registers_from l')) status ∙ answers v x.status e;
+    pub writes_back : (s : ExecutionStatus Refusal) → x.status ≡ s → Written s l' → WritesBack panics ends x l r l'
+    writes_back s is w = let e = subst (λ (s : ExecutionStatus Refusal). Written s l') (sym is) w in record {
+      answer = λ v. ap (λ (s : ExecutionStatus Refusal). ended_with v s r.frame (registers_from l')) status ∙ answers v x.status e;
       status = status;
       frame = frame;
       refusal = λ k q. kept x.status e k (sym status ∙ q);

@@ -17,20 +17,20 @@ use word::Word;
 // What an instruction returns beside its registers. A refusal returns the frame as it was.
 // Stays: no `Result`, for `RunsWith.refusal` promises the frame of a refusal too.
 #[derive(Clone, Copy)]
-pub struct Executed {
-    pub status: ExecutionStatus,
+pub struct Executed<N = Refusal> {
+    pub status: ExecutionStatus<N>,
     pub frame: Frame,
 }
 
 // What a pointer load returns: beside that, how many bytes of the pointer's range lead the word. A panic or a refusal has none.
 // Stays: a number beside what was executed, as in `PointerExecution`.
 #[derive(Clone, Copy)]
-pub struct PointerExecuted {
-    pub executed: Executed,
+pub struct PointerExecuted<N = Refusal> {
+    pub executed: Executed<N>,
     pub bytes_read: u32,
 }
 
-pub fn refused(refusal: Refusal, frame: Frame) -> Executed
+pub fn refused<N>(refusal: N, frame: Frame) -> Executed<N>
     ensures { (result.status ≡ ExecutionStatus.Refused refusal) × (result.frame ≡ frame) }
 {
     Executed {
@@ -39,7 +39,7 @@ pub fn refused(refusal: Refusal, frame: Frame) -> Executed
     }
 }
 
-pub fn pointer_refused(refusal: Refusal, frame: Frame) -> PointerExecuted
+pub fn pointer_refused<N>(refusal: N, frame: Frame) -> PointerExecuted<N>
     ensures { (result.executed.status ≡ ExecutionStatus.Refused refusal) × ((result.executed.frame ≡ frame) × (result.bytes_read ≡ 0)) }
 {
     PointerExecuted {

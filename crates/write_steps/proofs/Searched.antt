@@ -10,7 +10,8 @@ use borrow.Author.Tests.{ltb-true}
 use Rattle.std.specs.Prelude.{Result, Err, ⊤, IsErrAnd}
 use Rattle.outcome.specs.declared.Refusal.{Refusal}
 use Rattle.outcome.specs.Outcome.{Outcome, answered, answer_outcome, number_of, status_of}
-use Rattle.outcome.proofs.Numbers.{number_nonzero, handed_on}
+use Rattle.outcome.specs.Nonzero.{number_nonzero}
+use Rattle.outcome.proofs.Numbers.{handed_on}
 use Rattle.word.specs.Value.{word_bytes}
 use Rattle.store.specs.Mem.{Mem, layout_of, slot_count}
 use Rattle.store.specs.Find.{slot_for}

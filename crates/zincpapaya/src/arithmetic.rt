@@ -13,6 +13,7 @@ ghost use Rattle.abi.specs.Numbers.{one, as_they_are, pointer_at, pointer_from, 
 use abi::status::UNFIT;
 use abi::{answers, executions};
 use fat_pointer::FatPointer;
+use outcome::Refusal;
 use page_ids::{BasePage, PageId};
 
 // ---- page ids
@@ -58,7 +59,7 @@ pub fn zp_code_page_from_base(base: u32, out: &mut [u64]) -> u32
     ensures { Gives 1 (done base) one result out.old out.new }
 {
     let page = page_ids::code_page_from_base(BasePage(base));
-    answers::give_page(out, Ok(page))
+    answers::give_page::<Refusal>(out, Ok(page))
 }
 
 pub fn zp_base_page_from_heap(heap: u32, out: &mut [u64]) -> u32
@@ -107,7 +108,7 @@ pub fn zp_fat_pointer_into_u256(
         start: start,
         length: length,
     };
-    answers::give_word(out, Ok(fat_pointer::into_u256(pointer)))
+    answers::give_word::<Refusal>(out, Ok(fat_pointer::into_u256(pointer)))
 }
 
 // ---- gas
@@ -119,7 +120,7 @@ pub fn zp_use_gas(gas: u32, amount: u32, out: &mut [u64]) -> u32
     let gas = state::use_gas(gas, amount);
     let left = frames::wide(gas.left);
     let paid = frames::wide(frames::bit(gas.paid));
-    answers::give(out, Ok([left, paid]))
+    answers::give::<2, Refusal>(out, Ok([left, paid]))
 }
 
 // The growth of one area is paid from the frame's gas, as instructions do it; `out` is 1 where it was, else 0.
@@ -132,7 +133,7 @@ pub fn zp_grow_heap(frame: &mut [u32], aux: bool, new_bound: u32, out: &mut [u64
     let before = frames::frame_of(frame);
     let step = state::grow_frame(before, frames::area_of(aux), new_bound);
     frames::put_growth(frame, step.frame);
-    answers::give(out, Ok([frames::wide(frames::bit(step.paid))]))
+    answers::give::<1, Refusal>(out, Ok([frames::wide(frames::bit(step.paid))]))
 }
 
 // What loads at these addresses of one area, one after another, spend of the gas, which bound they reach, and where they end.

@@ -2,7 +2,7 @@ use mathlib.Core.Path.{sym, ap, ◌∙◌}
 use mathlib.Core.Bool.{true}
 use mathlib.Core.List.{[], ◌∷◌}
 use Rattle.outcome.specs.Outcome.{refused, number_of, status_of}
-use Rattle.outcome.proofs.Numbers.{number_nonzero}
+use Rattle.outcome.specs.Nonzero.{number_nonzero}
 use Rattle.store.specs.Mem.{mem}
 use Rattle.view.specs.View.{setting_of, view_of}
 use Rattle.execution.proofs.Lists.{write_refusals, more_number, more_none}

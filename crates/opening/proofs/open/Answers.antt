@@ -4,7 +4,8 @@ use lib.ListN.{length}
 use Rattle.std.specs.Prelude.{Result, ⊤}
 use Rattle.outcome.specs.declared.Refusal.{Refusal}
 use Rattle.outcome.specs.Outcome.{answered, answer_outcome, number_of, status_of}
-use Rattle.outcome.proofs.Numbers.{number_nonzero, status_answered, handed_on}
+use Rattle.outcome.specs.Nonzero.{number_nonzero}
+use Rattle.outcome.proofs.Numbers.{status_answered, handed_on}
 use Rattle.store.specs.Mem.{mem}
 use Rattle.view.specs.Calls.{nothing, OpenDoes}
 use Rattle.opening.specs.Opening.{setting_from}

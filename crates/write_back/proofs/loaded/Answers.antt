@@ -1,6 +1,7 @@
 use mathlib.Core.Path.{refl, ap, ◌∙◌}
 use mathlib.Core.Logic.{⊎_elim}
 use Prim.Native.Nat.{ℕ}
+use Rattle.outcome.specs.declared.Refusal.{Refusal}
 use Rattle.registers.specs.Registers.{registers_from, register_number, cleared}
 use Rattle.execution.specs.Executions.{result_of, stop_of}
 use Rattle.execution.specs.declared.ExecutionStatus.{ExecutionStatus}
@@ -19,6 +20,6 @@ returns c =
       | in-Refused w ↦ back _ w.in-Refused.is w.registers-is
       | in-Panicked w ↦ back _ w.in-Panicked.is (ap registers_from w.registers-is ∙ w.set_zero.ensures ∙ ap (λ (n : ℕ). cleared n g) w.number.ensures)
       | in-Running w ↦
-          let written = λ (s : ExecutionStatus). ap registers_from w.registers-is ∙ w.write_load.ensures (record { word = (result_of c.args.run).word; operand = (result_of c.args.run).operand; frame = c.args.run.frame; stop = stop_of s }) refl refl in
+          let written = λ (s : ExecutionStatus Refusal). ap registers_from w.registers-is ∙ w.write_load.ensures (record { word = (result_of c.args.run).word; operand = (result_of c.args.run).operand; frame = c.args.run.frame; stop = stop_of s }) refl refl in
           ⊎_elim (λ e. back Running e (written Running)) (λ e. back (SuspendedOnHook e.0) e.1 (written (SuspendedOnHook e.0))) w.in-Running.is
     ]

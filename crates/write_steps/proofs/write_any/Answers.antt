@@ -13,7 +13,7 @@ use Rattle.write_steps.proofs.Chains.{journal_asks}
 use Rattle.write_steps.proofs.Passing.{word_asks, word_number, word_passes}
 use Rattle.write_steps.proofs.Searched.{searched_refused, searched_left, searched_done}
 use Rattle.outcome.specs.Outcome.{status_of}
-use Rattle.outcome.proofs.Numbers.{number_nonzero}
+use Rattle.outcome.specs.Nonzero.{number_nonzero}
 use Rattle.outcome.specs.declared.Refusal.TheVariants as Refusal
 use Rattle.page_ids.proofs.Known.{told}
 use Rattle.write_steps.proofs.write_any.Goals as goal

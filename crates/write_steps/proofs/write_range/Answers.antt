@@ -18,7 +18,7 @@ use Rattle.write_steps.proofs.Chains.{journal_asks, aligned_notes_same, put_asks
 use Rattle.write_steps.proofs.Passing.{range_end, range_asks, range_number, range_passes}
 use Rattle.write_steps.proofs.Searched.{range_refused, range_left, range_done}
 use Rattle.outcome.specs.Outcome.{status_of}
-use Rattle.outcome.proofs.Numbers.{number_nonzero}
+use Rattle.outcome.specs.Nonzero.{number_nonzero}
 use Rattle.outcome.specs.declared.Refusal.TheVariants as Refusal
 use Rattle.page_ids.proofs.Known.{told}
 use Rattle.write_steps.proofs.write_range.Goals as goal

@@ -8,7 +8,8 @@ use mathlib.Core.Path.{sym, ap, ◌∙◌, subst}
 use Rattle.std.specs.Prelude.{Result, ⊤}
 use Rattle.outcome.specs.declared.Refusal.{Refusal}
 use Rattle.outcome.specs.Outcome.{answer_outcome, number_of, status_of}
-use Rattle.outcome.proofs.Numbers.{number_nonzero, handed_on}
+use Rattle.outcome.specs.Nonzero.{number_nonzero}
+use Rattle.outcome.proofs.Numbers.{handed_on}
 use Rattle.freeing.proofs.on_formed.truncate_dynamic_to.Goals as goal
 
 pub returns-in_err-truncate_refusal : goal.returns-in_err-truncate_refusal

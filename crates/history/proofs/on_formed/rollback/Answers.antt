@@ -8,7 +8,8 @@ use Rattle.history.proofs.History.{rollback_refusals, rollback_asks}
 use Rattle.std.specs.Prelude.{Result, ⊤}
 use Rattle.outcome.specs.declared.Refusal.{Refusal}
 use Rattle.outcome.specs.Outcome.{answer_outcome, number_of, status_of}
-use Rattle.outcome.proofs.Numbers.{number_nonzero, handed_on}
+use Rattle.outcome.specs.Nonzero.{number_nonzero}
+use Rattle.outcome.proofs.Numbers.{handed_on}
 use Rattle.history.proofs.on_formed.rollback.Goals as goal
 
 pub returns-in_err-rollback_refusal : goal.returns-in_err-rollback_refusal

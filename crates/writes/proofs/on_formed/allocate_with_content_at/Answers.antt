@@ -9,7 +9,8 @@ use Rattle.checks.proofs.Passed.{room_refusals}
 use Rattle.std.specs.Prelude.{Result, ⊤}
 use Rattle.outcome.specs.declared.Refusal.{Refusal}
 use Rattle.outcome.specs.Outcome.{answer_outcome, number_of, status_of}
-use Rattle.outcome.proofs.Numbers.{number_nonzero, handed_on}
+use Rattle.outcome.specs.Nonzero.{number_nonzero}
+use Rattle.outcome.proofs.Numbers.{handed_on}
 use Rattle.writes.proofs.on_formed.allocate_with_content_at.Goals as goal
 
 pub returns-in_err-allocate_refusal : goal.returns-in_err-allocate_refusal

@@ -1,5 +1,6 @@
 use lib.ListN.{length}
 use borrow.Author.Tests.{eq-eqb}
+use Rattle.outcome.specs.Outcome.{number_of}
 use Rattle.formed.proofs.Meaning.{well_formed_means}
 use Rattle.index.proofs.Logic.{passed, and_both}
 use Rattle.abi.proofs.Executing.{lengths, executes, store, store_is, stop_told, stop_kept}
@@ -13,4 +14,4 @@ report_stop-requires c =
     ((lengths c.args.frame.now c.args.registers.now (passed c.lengths_fit.ensures c.if-not-lengths_fit.false)).0, c.if-out-ne1.false)
 
 pub returns : goal.returns
-returns c = record { executes = executes (and_both _ _ (passed c.lengths_fit.ensures c.if-not-lengths_fit.false) (eq-eqb (length c.args.out.now) 1 c.if-out-ne1.false)) store (store_is c.area_of-area.ensures c.frame_of-before.ensures c.store_places-places.ensures c.hook_of-stop.ensures) c.store-run.result c.store-run.ensures c.report_stop.ensures.0 (λ k e _. stop_told c.store-run.result.status c.args.out.now c.report_stop.ensures.1 k e); out_unchanged = stop_kept c.store-run.result.status c.args.out.now c.report_stop.ensures.1 c.report_stop.ensures.0.status }
+returns c = record { executes = executes (and_both _ _ (passed c.lengths_fit.ensures c.if-not-lengths_fit.false) (eq-eqb (length c.args.out.now) 1 c.if-out-ne1.false)) store (store_is c.area_of-area.ensures c.frame_of-before.ensures c.store_places-places.ensures c.hook_of-stop.ensures) c.store-run.result c.store-run.ensures c.report_stop.ensures.0 (λ k e _. stop_told c.store-run.result.status c.args.out.now c.report_stop.ensures.1 k e); out_unchanged = stop_kept number_of c.store-run.result.status c.args.out.now c.report_stop.ensures.1 c.report_stop.ensures.0.status }

@@ -35,6 +35,16 @@ impl Question<'_> {
     }
 }
 
+// Prints where a run of loads ends: what it spent of the gas or left, which the name tells, the bound and the position.
+fn print_end(rt: &impl Print, name: &'static str, gas: u32, bound: u32, position: usize) {
+    let _ = print!(rt; "{name}");
+    let _ = print!(rt; "{gas}");
+    let _ = print!(rt; ", bound ");
+    let _ = print!(rt; "{bound}");
+    let _ = print!(rt; ", position ");
+    let _ = print!(rt; "{position}");
+}
+
 // Prints a quote.
 pub fn print_quote(rt: &impl Print, quoted: RunEnd) {
     let RunEnd {
@@ -42,12 +52,7 @@ pub fn print_quote(rt: &impl Print, quoted: RunEnd) {
         bound,
         position,
     } = quoted;
-    let _ = print!(rt; "spent ");
-    let _ = print!(rt; "{spent}");
-    let _ = print!(rt; ", bound ");
-    let _ = print!(rt; "{bound}");
-    let _ = print!(rt; ", position ");
-    let _ = print!(rt; "{position}");
+    print_end(rt, "spent ", spent, bound, position as usize);
 }
 
 // A quote, beside the loads that it speaks of.
@@ -88,11 +93,6 @@ impl<'a> Beside<'a> {
             count,
             ..
         } = self.ran;
-        let _ = print!(rt; "OTHERWISE: gas left ");
-        let _ = print!(rt; "{gas}");
-        let _ = print!(rt; ", bound ");
-        let _ = print!(rt; "{bound}");
-        let _ = print!(rt; ", position ");
-        let _ = print!(rt; "{count}");
+        print_end(rt, "OTHERWISE: gas left ", gas, bound, count);
     }
 }
